@@ -1,0 +1,2 @@
+pub mod UidTexts
+pub mod Declared

@@ -1,0 +1,147 @@
+//! The kinds of frames that nodes send each other.
+ghost use Rattle.std.specs.Prelude.{◌≡◌, ◌≢◌, ◌<◌, ◌↔◌, IsTrue, MatchOption};
+ghost use Rattle.uid_names.specs.FrameKinds.{kind_number, kind_name};
+ghost use Rattle.uid_names.specs.declared.frame_kind.FrameKind.{FrameKind};
+
+/// A kind of frame: eight requests to a home, and the eleven replies.
+#[derive(Clone, Copy, Debug, PartialEq, Eq, PartialOrd, Ord, Hash)]
+pub enum FrameKind {
+    PageIn,
+    PageOut,
+    AttrOut,
+    Lock,
+    Unlock,
+    Remove,
+    Make,
+    List,
+    Page,
+    Stored,
+    Stale,
+    NoGrant,
+    NoObject,
+    Granted,
+    Conflict,
+    Done,
+    Made,
+    NoSpace,
+    Listed,
+}
+
+impl FrameKind {
+    /// Its number in a frame's header.
+    pub fn number(self) -> u8
+        ensures { result ≡ kind_number self }
+    {
+        match self {
+            FrameKind::PageIn => 1,
+            FrameKind::PageOut => 2,
+            FrameKind::AttrOut => 3,
+            FrameKind::Lock => 4,
+            FrameKind::Unlock => 5,
+            FrameKind::Remove => 6,
+            FrameKind::Make => 7,
+            FrameKind::List => 8,
+            FrameKind::Page => 129,
+            FrameKind::Stored => 130,
+            FrameKind::Stale => 131,
+            FrameKind::NoGrant => 132,
+            FrameKind::NoObject => 133,
+            FrameKind::Granted => 134,
+            FrameKind::Conflict => 135,
+            FrameKind::Done => 136,
+            FrameKind::Made => 137,
+            FrameKind::NoSpace => 138,
+            FrameKind::Listed => 139,
+        }
+    }
+
+    /// The kind of this number.
+    pub fn from_number(number: u8) -> Option<FrameKind>
+        ensures { MatchOption result ((k : FrameKind) → number ≢ kind_number k) (λ k. number ≡ kind_number k) }
+    {
+        match number {
+            1 => Some(FrameKind::PageIn),
+            2 => Some(FrameKind::PageOut),
+            3 => Some(FrameKind::AttrOut),
+            4 => Some(FrameKind::Lock),
+            5 => Some(FrameKind::Unlock),
+            6 => Some(FrameKind::Remove),
+            7 => Some(FrameKind::Make),
+            8 => Some(FrameKind::List),
+            129 => Some(FrameKind::Page),
+            130 => Some(FrameKind::Stored),
+            131 => Some(FrameKind::Stale),
+            132 => Some(FrameKind::NoGrant),
+            133 => Some(FrameKind::NoObject),
+            134 => Some(FrameKind::Granted),
+            135 => Some(FrameKind::Conflict),
+            136 => Some(FrameKind::Done),
+            137 => Some(FrameKind::Made),
+            138 => Some(FrameKind::NoSpace),
+            139 => Some(FrameKind::Listed),
+            _ => None,
+        }
+    }
+
+    /// Its name in a journal.
+    pub fn name(self) -> &'static str
+        ensures { result.now ≡ kind_name self }
+    {
+        match self {
+            FrameKind::PageIn => "page-in",
+            FrameKind::PageOut => "page-out",
+            FrameKind::AttrOut => "attr-out",
+            FrameKind::Lock => "lock",
+            FrameKind::Unlock => "unlock",
+            FrameKind::Remove => "remove",
+            FrameKind::Make => "make",
+            FrameKind::List => "list",
+            FrameKind::Page => "page",
+            FrameKind::Stored => "stored",
+            FrameKind::Stale => "stale",
+            FrameKind::NoGrant => "no-grant",
+            FrameKind::NoObject => "no-object",
+            FrameKind::Granted => "granted",
+            FrameKind::Conflict => "conflict",
+            FrameKind::Done => "done",
+            FrameKind::Made => "made",
+            FrameKind::NoSpace => "no-space",
+            FrameKind::Listed => "listed",
+        }
+    }
+
+    /// The kind of this name.
+    pub fn from_name(name: &[u8]) -> Option<FrameKind>
+        ensures { MatchOption result ((k : FrameKind) → name.now ≢ kind_name k) (λ k. name.now ≡ kind_name k) }
+    {
+        match name {
+            b"page-in" => Some(FrameKind::PageIn),
+            b"page-out" => Some(FrameKind::PageOut),
+            b"attr-out" => Some(FrameKind::AttrOut),
+            b"lock" => Some(FrameKind::Lock),
+            b"unlock" => Some(FrameKind::Unlock),
+            b"remove" => Some(FrameKind::Remove),
+            b"make" => Some(FrameKind::Make),
+            b"list" => Some(FrameKind::List),
+            b"page" => Some(FrameKind::Page),
+            b"stored" => Some(FrameKind::Stored),
+            b"stale" => Some(FrameKind::Stale),
+            b"no-grant" => Some(FrameKind::NoGrant),
+            b"no-object" => Some(FrameKind::NoObject),
+            b"granted" => Some(FrameKind::Granted),
+            b"conflict" => Some(FrameKind::Conflict),
+            b"done" => Some(FrameKind::Done),
+            b"made" => Some(FrameKind::Made),
+            b"no-space" => Some(FrameKind::NoSpace),
+            b"listed" => Some(FrameKind::Listed),
+            _ => None,
+        }
+    }
+
+    /// Whether it is a request to a home; a reply of a home else.
+    pub fn is_request(self) -> bool
+        ensures { IsTrue result ↔ (kind_number self < 128) }
+    {
+        self.number() < 128
+    }
+}

@@ -1,0 +1,17 @@
+//! Names of nodes, processes and objects, and the plain types that all layers share.
+#![tactic(auto)]
+
+pub mod frame_kind;
+pub mod ids;
+pub mod laws;
+pub mod lists;
+pub mod mode;
+pub mod opening;
+#[cfg(test)]
+mod tests;
+
+pub use frame_kind::FrameKind;
+pub use ids::{BadUid, NodeId, Place, ProcId, Uid, UidSource};
+pub use lists::{ByteList, LockRow, LockRows, NoMemory};
+pub use mode::{MAX_ROOM, Mode, ObjKind, clash};
+pub use opening::{Object, Opening};

@@ -1,0 +1,87 @@
+//! Modes of locks and kinds of objects. Every layer speaks of modes by these calls alone.
+ghost use Rattle.std.specs.Prelude.{◌≡◌, ◌≢◌, MatchOption};
+ghost use Rattle.uid_names.specs.Modes.{mode_writes, modes_clash, mode_letter, mode_code};
+ghost use Rattle.uid_names.specs.declared.mode.Mode.{Mode};
+
+use crate::ids::ProcId;
+
+/// The greatest room of an object, in pages.
+pub const MAX_ROOM: u32 = 1024;
+
+/// How a lock is held.
+#[derive(Clone, Copy, Debug, PartialEq, Eq, PartialOrd, Ord, Hash)]
+pub enum Mode {
+    Read,
+    Write,
+}
+
+impl Mode {
+    /// Whether a holder may store.
+    pub fn writes(self) -> bool
+        ensures { result ≡ mode_writes self }
+    {
+        match self {
+            Mode::Read => false,
+            Mode::Write => true,
+        }
+    }
+
+    /// `r` or `w`, as scripts and answers have it.
+    pub fn letter(self) -> u8
+        ensures { result ≡ mode_letter self }
+    {
+        match self {
+            Mode::Read => b'r',
+            Mode::Write => b'w',
+        }
+    }
+
+    /// The mode of this letter.
+    pub fn from_letter(letter: u8) -> Option<Mode>
+        ensures { MatchOption result ((m : Mode) → letter ≢ mode_letter m) (λ m. letter ≡ mode_letter m) }
+    {
+        match letter {
+            b'r' => Some(Mode::Read),
+            b'w' => Some(Mode::Write),
+            _ => None,
+        }
+    }
+
+    /// 1 or 2, as frames have it.
+    pub fn code(self) -> u8
+        ensures { result ≡ mode_code self }
+    {
+        match self {
+            Mode::Read => 1,
+            Mode::Write => 2,
+        }
+    }
+
+    /// The mode of this number in a frame.
+    pub fn from_code(code: u8) -> Option<Mode>
+        ensures { MatchOption result ((m : Mode) → code ≢ mode_code m) (λ m. code ≡ mode_code m) }
+    {
+        match code {
+            1 => Some(Mode::Read),
+            2 => Some(Mode::Write),
+            _ => None,
+        }
+    }
+}
+
+/// Whether the locks of two processes on one object conflict.
+pub fn clash(p: ProcId, m: Mode, q: ProcId, n: Mode) -> bool
+    ensures { result ≡ modes_clash p m q n }
+{
+    let _processes = (p, q);
+    m.writes() || n.writes()
+}
+
+/// What an object is.
+#[derive(Clone, Copy, Debug, PartialEq, Eq, PartialOrd, Ord, Hash)]
+pub enum ObjKind {
+    File,
+    Directory,
+    Link,
+    Mail,
+}
