@@ -1,0 +1,15 @@
+//! Bytes from outside and to outside: sources, sinks, and reading and writing them whole.
+#![tactic(auto)]
+
+mod calls;
+pub mod memory;
+pub mod outside;
+pub mod real;
+#[cfg(test)]
+mod tests;
+pub mod whole;
+
+pub use memory::{MemSink, MemSource};
+pub use outside::{Sink, Source, Took};
+pub use real::{RealSink, RealSource};
+pub use whole::{ReadEnd, WriteFault, read_all, write_all};
