@@ -1,0 +1,17 @@
+pub mod Running
+pub mod Before
+pub mod Tables
+pub mod Endings
+pub mod Names
+pub mod Unique
+pub mod PlainRuns
+pub mod ReplyRows
+pub mod Fits
+pub mod RunsAlone
+pub mod Bounds
+pub mod RowOrder
+pub mod Decisions
+pub mod PageBytes
+pub mod MadeObjects
+pub mod Volumes
+pub mod Counters

@@ -1,0 +1,114 @@
+-- The tables of locks say what the last reply, and the last effect, said.
+use Rattle.std.proofs.Common.{◌≡◌, Bool, true, false, List, [], ◌∷◌, refl, sym, arith}
+use Rattle.std.specs.Prelude.{if◌then◌else◌, ◌&&◌, ◌==◌, Option, Some, None, find}
+use Rattle.std.proofs.lemmas.Bool.Decides.{nat_tests}
+use Rattle.uid_names.specs.Names.{ProcName, ObjectName, same_proc, same_uid}
+use Rattle.uid_names.specs.declared.lists.LockRow.{LockRow}
+use Rattle.uid_names.specs.declared.mode.Mode.{Mode}
+use Rattle.dom_history.specs.declared.deed.LockLine.{LockLine}
+use Rattle.dom_history.specs.declared.deed.LockState.{LockState}
+use Rattle.dom_history.specs.declared.deed.LockState.TheVariants.{Free, Held, Taking, Releasing, Deleting}
+use Rattle.dom_history.specs.declared.op.Op.{Op}
+use Rattle.dom_history.specs.declared.op.Op.TheVariants.{Lock, Unlock, Delete}
+use Rattle.dom_history.specs.declared.op.Reply.{Reply}
+use Rattle.dom_history.specs.declared.op.Reply.TheVariants.{Fine, Doubt}
+use Rattle.dom_history.specs.declared.deed.Deed.{Deed}
+use Rattle.dom_history.specs.Effects.{Effect, Locks, Unlocks, Deletes}
+use Rattle.dom_history.specs.Locks.{state, state_by_last, state_after, lines_after, not_free, mode_of, state_in, lines_with, lines_without, holds, rows, rows_with, rows_without, same_row, row_lt, mode_in}
+
+-- the state where an object was made free
+state_in-lines_without : (u v : ObjectName) (lines : List LockLine) → state_in u (lines_without v lines) ≡ (if same_uid u v then Free else state_in u lines)
+state_in-lines_without u v [] = grind (arith, nat_tests)
+state_in-lines_without u v (line ∷ lines) = grind (arith, nat_tests, state_in-lines_without u v lines)
+
+-- the state where an object was put in one
+pub state_in-lines_with : (u v : ObjectName) (s : LockState) (lines : List LockLine) → state_in u (lines_with v s lines) ≡ (if same_uid u v then s else state_in u lines)
+state_in-lines_with u v s [] = grind (arith, nat_tests)
+state_in-lines_with u v s (line ∷ lines) = grind (arith, nat_tests, state_in-lines_with u v s lines)
+
+-- the row where one was taken out
+row_of-without : (p q : ProcName) (u v : ObjectName) (rs : List LockRow) → mode_in (find (same_row p u) (rows_without q v rs)) ≡ (if same_proc p q && same_uid u v then None else mode_in (find (same_row p u) rs))
+row_of-without p q u v [] = grind (arith, nat_tests)
+row_of-without p q u v (row ∷ rs) = grind (arith, nat_tests, row_of-without p q u v rs)
+
+-- the new row stands first
+placed_first : (c d : Bool) (f g : Option LockRow) (new row : LockRow) → mode_in f ≡ (if c then None else mode_in g) → mode_in (if c then Some new else (if d then Some row else f)) ≡ (if c then Some new.mode else mode_in (if d then Some row else g))
+placed_first true d f g new row h = refl
+placed_first false true f g new row h = refl
+placed_first false false f g new row h = h
+
+-- the new row stands later
+placed_later : (c d : Bool) (f g : Option LockRow) (m : Mode) (row : LockRow) → (c ≡ true → d ≡ true → ⊥) → mode_in f ≡ (if c then Some m else mode_in g) → mode_in (if d then Some row else f) ≡ (if c then Some m else mode_in (if d then Some row else g))
+placed_later true true f g m row n h = absurd (n refl refl)
+placed_later true false f g m row n h = h
+placed_later false true f g m row n h = refl
+placed_later false false f g m row n h = h
+
+-- a row that is not of q and v is not of p and u where these are the same
+other_row : (p q : ProcName) (u v : ObjectName) (row : LockRow) → same_row q v row ≡ false → (same_proc p q && same_uid u v) ≡ true → same_row p u row ≡ true → ⊥
+other_row p q u v row a b c = grind (arith, nat_tests)
+
+-- a row goes in before or after the first, or in its place
+by_tests : (p q : ProcName) (u v : ObjectName) (m : Mode) (row : LockRow) (rs : List LockRow) (a b : Bool) → same_row q v row ≡ a → row_lt row (record { uid = v; proc = q; mode = m }) ≡ b → mode_in (find (same_row p u) (rows_with (record { uid = v; proc = q; mode = m }) (rows_without q v rs))) ≡ (if same_proc p q && same_uid u v then Some m else mode_in (find (same_row p u) rs)) → mode_in (find (same_row p u) (rows_with (record { uid = v; proc = q; mode = m }) (rows_without q v (row ∷ rs)))) ≡ (if same_proc p q && same_uid u v then Some m else mode_in (find (same_row p u) (row ∷ rs)))
+by_tests p q u v m row rs true b ea eb ih = rw ea (grind (arith, nat_tests, ih, ea))
+by_tests p q u v m row rs false true ea eb ih =
+    rw (ea, eb) (placed_later (same_proc p q && same_uid u v) (same_row p u row) (find (same_row p u) (rows_with (record { uid = v; proc = q; mode = m }) (rows_without q v rs))) (find (same_row p u) rs) m row (other_row p q u v row ea) ih)
+by_tests p q u v m row rs false false ea eb ih =
+    rw (ea, eb) (placed_first (same_proc p q && same_uid u v) (same_row p u row) (find (same_row p u) (rows_without q v rs)) (find (same_row p u) rs) (record { uid = v; proc = q; mode = m }) row (row_of-without p q u v rs))
+
+-- the row where one was put in
+row_of-set : (p q : ProcName) (u v : ObjectName) (m : Mode) (rs : List LockRow) → mode_in (find (same_row p u) (rows_with (record { uid = v; proc = q; mode = m }) (rows_without q v rs))) ≡ (if same_proc p q && same_uid u v then Some m else mode_in (find (same_row p u) rs))
+row_of-set p q u v m [] = grind (arith, nat_tests)
+row_of-set p q u v m (row ∷ rs) = by_tests p q u v m row rs (same_row q v row) (row_lt row (record { uid = v; proc = q; mode = m })) refl refl (row_of-set p q u v m rs)
+
+-- an effect at another home is on another object
+home_apart : (p q : ProcName) (u v : ObjectName) → (v.home == u.home) ≡ false → (same_proc p q && same_uid u v) ≡ false
+home_apart p q u v e = grind (arith, nat_tests)
+
+-- the rows of the home change only by an effect there
+at_home : (c b : Bool) (x : Option Mode) (held : Option Mode) (changed rest : Option LockRow) → held ≡ mode_in rest → (b ≡ false → c ≡ false) → mode_in changed ≡ (if c then x else mode_in rest) → (if c then x else held) ≡ mode_in (if b then changed else rest)
+at_home c true x held changed rest h n e = rw h (sym e)
+at_home c false x held changed rest h n e = rw (n refl) h
+
+-- a look-up in the chosen table
+found_if : (p : ProcName) (u : ObjectName) (b : Bool) (changed rest : List LockRow) → find (same_row p u) (if b then changed else rest) ≡ (if b then find (same_row p u) changed else find (same_row p u) rest)
+found_if p u true changed rest = refl
+found_if p u false changed rest = refl
+
+-- what a process holds is in the rows of the home
+pub holds-rows : (p : ProcName) (u : ObjectName) (past : List Effect) → holds p u past ≡ mode_in (find (same_row p u) (rows u.home past))
+holds-rows p u [] = refl
+holds-rows p u (Locks q v m ∷ past) =
+    rw (found_if p u (v.home == u.home) (rows_with (record { uid = v; proc = q; mode = m }) (rows_without q v (rows u.home past))) (rows u.home past))
+    (at_home (same_proc p q && same_uid u v) (v.home == u.home) (Some m) _ _ _ (holds-rows p u past) (home_apart p q u v) (row_of-set p q u v m (rows u.home past)))
+holds-rows p u (Unlocks q v ∷ past) =
+    rw (found_if p u (v.home == u.home) (rows_without q v (rows u.home past)) (rows u.home past))
+    (at_home (same_proc p q && same_uid u v) (v.home == u.home) None _ _ _ (holds-rows p u past) (home_apart p q u v) (row_of-without p q u v (rows u.home past)))
+holds-rows p u (Deletes q v ∷ past) =
+    rw (found_if p u (v.home == u.home) (rows_without q v (rows u.home past)) (rows u.home past))
+    (at_home (same_proc p q && same_uid u v) (v.home == u.home) None _ _ _ (holds-rows p u past) (home_apart p q u v) (row_of-without p q u v (rows u.home past)))
+holds-rows p u (_ ∷ past) = holds-rows p u past
+
+-- an object named as another is that other
+state_in-named : (u v : ObjectName) (lines : List LockLine) → same_uid u v ≡ true → state_in u lines ≡ state_in v lines
+state_in-named u v lines e = grind (arith, nat_tests, e)
+
+-- the mode of a releasing is that of the state before it
+released : (u v : ObjectName) (lines : List LockLine) (b : Bool) → same_uid u v ≡ b → state_in u (lines_with v (Releasing (mode_of (state_in v lines))) lines) ≡ (if same_uid u v then Releasing (mode_of (state_in u lines)) else state_in u lines)
+released u v lines true e = rw (state_in-lines_with u v (Releasing (mode_of (state_in v lines))) lines, e, state_in-named u v lines e) refl
+released u v lines false e = rw (state_in-lines_with u v (Releasing (mode_of (state_in v lines))) lines, e) refl
+
+-- the state after a reply
+state_in-lines_after : (u : ObjectName) (op : Op) (reply : Reply) (lines : List LockLine) → state_in u (lines_after op reply lines) ≡ state_after u op reply (state_in u lines)
+state_in-lines_after u (Lock v m) Fine lines = state_in-lines_with u v (Held m) lines
+state_in-lines_after u (Lock v m) Doubt lines = state_in-lines_with u v (Taking m) lines
+state_in-lines_after u (Unlock v) Fine lines = state_in-lines_without u v lines
+state_in-lines_after u (Unlock v) Doubt lines = released u v lines (same_uid u v) refl
+state_in-lines_after u (Delete v) Fine lines = state_in-lines_without u v lines
+state_in-lines_after u (Delete v) Doubt lines = state_in-lines_with u v Deleting lines
+state_in-lines_after u _ _ lines = refl
+
+-- the table of what a process knows says the last reply
+pub state-by_last : (u : ObjectName) (told : List Deed) → state u told ≡ state_by_last u told
+state-by_last u [] = refl
+state-by_last u (d ∷ told) = rw (state_in-lines_after u d.op d.reply (not_free told), state-by_last u told) refl

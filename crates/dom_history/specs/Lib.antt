@@ -1,0 +1,16 @@
+pub mod Ranges
+pub mod Effects
+pub mod Objects
+pub mod Locks
+pub mod Mappings
+pub mod Bytes
+pub mod Replies
+pub mod Fitting
+pub mod Histories
+pub mod Legal
+pub mod Follows
+pub mod Programs
+pub mod Runs
+pub mod KeptPages
+pub mod Plain
+pub mod Samples
