@@ -1,0 +1,13 @@
+pub mod Written
+pub mod Playing
+pub mod Told
+pub mod Turns
+pub mod Reporting
+pub mod Sourced
+pub mod Cuts
+pub mod Pieces
+pub mod Spelling
+pub mod Lines
+pub mod Naming
+pub mod Scripts
+pub mod Lengths

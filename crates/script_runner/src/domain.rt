@@ -1,0 +1,130 @@
+//! The program: from its words and a script's bytes to the report.
+ghost use Rattle.std.specs.Prelude.{◌≡◌, ◌≢◌, ◌⊎◌, ◌↔◌, ℕ, List, [], ◌∷◌, map, string_bytes, Contains, IsTrue, IfOk, IsErrOf, Some, codes};
+ghost use Rattle.dom_io.specs.Counts.{CountRose};
+ghost use Rattle.dom_io.specs.Known.{TakesAtMost, AppendsPrefix};
+ghost use Rattle.script_runner.specs.FirstForm.{Content, IsFirstForm};
+ghost use Rattle.script_runner.specs.Domain.{is_status, IsTaken, usage as usage_text, refused as refused_text, IsReportOfSource, IsRefusedSource, Adds, AddsReport, AddsPart};
+
+use crate::reader::{FormFault, read_first_form};
+use crate::run::run_first;
+use dom_io::{ReadEnd, Sink, Source, read_all, write_all};
+use std::alloc::Global;
+use thiserror::Error;
+use uid_names::{ByteList, NoMemory};
+
+/// The most bytes that a script has.
+const SCRIPT_LIMIT: u32 = 1_048_576;
+
+const USAGE: &[u8; 60] = b"usage: domain run [--turns N] | domain gen SEED [--turns N]\n";
+
+const REFUSED: &[u8; 8] = b"refused\n";
+
+/// Why there is no report.
+#[derive(Clone, Copy, Debug, PartialEq, Eq, Error)]
+enum RunEnd {
+    #[error("a read failed")]
+    ReadFault,
+    #[error("no script")]
+    Refused,
+    #[error("no memory")]
+    NoMemory,
+}
+
+fn is_taken(words: &[String]) -> bool
+    ensures { IsTrue result ↔ IsTaken (map string_bytes words.now) }
+{
+    match words {
+        [word] => word.as_str() == "run",
+        _ => false,
+    }
+}
+
+/// The report of the script that a source has left.
+fn read_report<S: Source>(alloc: Global, script: &mut S) -> Result<ByteList, RunEnd>
+    ensures report { IfOk result (IsReportOfSource (S.left script.old)) }
+    ensures refused { IsErrOf result RunEnd.Refused → IsRefusedSource (S.left script.old) }
+    ensures read_fault { IsErrOf result RunEnd.ReadFault → CountRose (S.faults script.old) (S.faults script.new) }
+    ensures taken { TakesAtMost 1048577 (S.left script.old) (S.left script.new) }
+{
+    let bytes = match read_all(alloc, script, SCRIPT_LIMIT) {
+        Ok(bytes) => bytes,
+        Err(ReadEnd::ReadFault) => return Err(RunEnd::ReadFault),
+        Err(ReadEnd::TooLong) => return Err(RunEnd::Refused),
+        Err(ReadEnd::NoMemory) => return Err(RunEnd::NoMemory),
+    };
+    match read_first_form(alloc, bytes.bytes()) {
+        Ok(first) => match run_first(alloc, first) {
+            Ok(text) => Ok(text),
+            Err(NoMemory) => Err(RunEnd::NoMemory),
+        },
+        Err(FormFault::Refused) => Err(RunEnd::Refused),
+        Err(FormFault::NoMemory) => Err(RunEnd::NoMemory),
+    }
+}
+
+/// Writes a text: the status, or 5 where a write failed.
+fn write_text<O: Sink>(out: &mut O, text: &[u8], status: u8) -> u8
+    ensures either { ((result ≡ status) × Adds (O.held out.old) (O.held out.new) text.now)
+        ⊎ ((result ≡ 5) × CountRose (O.faults out.old) (O.faults out.new) × AppendsPrefix (O.held out.old) (O.held out.new) text.now) }
+{
+    match write_all(out, text) {
+        Ok(()) => status,
+        Err(_) => 5,
+    }
+}
+
+/// Runs the program: `words` are those of the command line, `script` is standard input, `out` standard output and
+/// `journal` standard error. The answer is the exit status:
+///
+/// - 0: the report of the script's one run was written;
+/// - 2: the words are not taken, and the usage was written;
+/// - 3: the source has no script, which was said;
+/// - 4: a read failed;
+/// - 5: a write failed;
+/// - 7: there was no memory.
+pub fn run_domain<S: Source, O: Sink, J: Sink>(
+    alloc: Global,
+    words: &[String],
+    script: &mut S,
+    out: &mut O,
+    journal: &mut J,
+) -> u8
+    ensures statuses { IsTrue (is_status result) }
+
+    // The headline: what is written is the report of the one history of one store that follows the script.
+    ensures report { result ≡ 0 → AddsReport (S.left script.old) (O.held out.old) (O.held out.new) }
+
+    // Words, and then bytes, that are refused; both yield to a write fault.
+    ensures words_taken { result ≡ 0 → IsTaken (map string_bytes words.now) }
+    ensures words_refused { (IsTaken (map string_bytes words.now) → ⊥) → (result ≡ 2) ⊎ (result ≡ 5) }
+    ensures usage { result ≡ 2 → (IsTaken (map string_bytes words.now) → ⊥) × Adds (O.held out.old) (O.held out.new) usage_text }
+    ensures bytes_refused { result ≡ 3 → IsTaken (map string_bytes words.now) × IsRefusedSource (S.left script.old) × Adds (O.held out.old) (O.held out.new) refused_text }
+
+    // Faults of the outside, only where their count rose.
+    ensures read_fault { result ≡ 4 → CountRose (S.faults script.old) (S.faults script.new) }
+    ensures write_fault { result ≡ 5 → CountRose (O.faults out.old) (O.faults out.new) }
+    ensures usage_cut { result ≡ 5 → (IsTaken (map string_bytes words.now) → ⊥) → AppendsPrefix (O.held out.old) (O.held out.new) usage_text }
+    ensures text_cut { result ≡ 5 → IsTaken (map string_bytes words.now) → AddsPart (S.left script.old) (O.held out.old) (O.held out.new) }
+
+    // What stays as it was.
+    ensures nothing_written { (result ≡ 4) ⊎ (result ≡ 7) → out.new ≡ out.old }
+    ensures nothing_read { (IsTaken (map string_bytes words.now) → ⊥) → script.new ≡ script.old }
+    ensures source { TakesAtMost 1048577 (S.left script.old) (S.left script.new) }
+    ensures journal { journal.new ≡ journal.old }
+
+    // Where nothing outside fails, a script is run, or there was no memory.
+    ensures complete { (bytes : List ℕ) → (s : Content) → IsTaken (map string_bytes words.now) → S.left script.old ≡ Some bytes → IsFirstForm bytes s
+        → (CountRose (S.faults script.old) (S.faults script.new) → ⊥) → (CountRose (O.faults out.old) (O.faults out.new) → ⊥)
+        → (result ≡ 0) ⊎ (result ≡ 7) }
+{
+    let _ = journal;
+    if !is_taken(words) {
+        return write_text(out, USAGE, 2);
+    }
+    match read_report(alloc, script) {
+        Ok(text) => write_text(out, text.bytes(), 0),
+        Err(RunEnd::Refused) => write_text(out, REFUSED, 3),
+        Err(RunEnd::ReadFault) => 4,
+        Err(RunEnd::NoMemory) => 7,
+    }
+}
