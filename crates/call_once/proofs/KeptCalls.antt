@@ -1,0 +1,79 @@
+-- The calls that are kept in slots, one slot for each process.
+use Rattle.std.proofs.Common.{◌≡◌, ℕ, suc, zero, ◌+◌, ◌<◌, ◌≢◌, true, false, List, [], ◌∷◌, length, get_or, set, replicate, refl, ap, arith}
+use Rattle.std.specs.Prelude.{Option, Some, None, if◌then◌else◌}
+use Rattle.std.proofs.lemmas.List.{get_or_default}
+use Rattle.std.proofs.lemmas.Bool.Decides.{nat_tests}
+use Rattle.uid_names.specs.Names.{ProcName, same_proc, proc_lt}
+use Rattle.call_once.specs.declared.served.Kept.{Kept}
+use Rattle.call_once.specs.Calls.{Call, call_of, with_call}
+use Rattle.call_once.specs.Slots.{proc_at, call_in, calls_in}
+
+-- each place has a process of its own
+same_proc-apart : (i j : ℕ) → i ≢ j → same_proc (proc_at i) (proc_at j) ≡ false
+same_proc-apart i j apart = grind (arith, nat_tests)
+
+-- a process is itself
+same_proc-same : (p : ProcName) → same_proc p p ≡ true
+same_proc-same p = grind (arith, nat_tests)
+
+-- and is not below itself
+proc_lt-same : (p : ProcName) → proc_lt p p ≡ false
+proc_lt-same p = grind (arith, nat_tests)
+
+-- processes stand in the order of their places
+proc_lt-proc_at : (i j : ℕ) → i < j → proc_lt (proc_at i) (proc_at j) ≡ true
+proc_lt-proc_at i j below = grind (arith, nat_tests)
+
+-- nor below one of an earlier place
+proc_lt-later : (i j : ℕ) → j < i → proc_lt (proc_at i) (proc_at j) ≡ false
+proc_lt-later i j below = grind (arith, nat_tests)
+
+-- the call of a process that comes before all slots is not there
+none_before : {B : Type 0} (first place : ℕ) (slots : List (Option (Kept B))) → place < first → call_of (proc_at place) (calls_in first slots) ≡ None
+none_before first place [] below = refl
+none_before first place (None ∷ slots) below = none_before (suc first) place slots (omega arith)
+none_before first place (Some kept ∷ slots) below = rw (same_proc-apart first place (omega arith)) (none_before (suc first) place slots (omega arith))
+
+-- a process's last call is that of its slot
+pub call_of-calls_in : {B : Type 0} (first k place : ℕ) (slots : List (Option (Kept B))) → place ≡ k + first → call_of (proc_at place) (calls_in first slots) ≡ call_in (proc_at place) (get_or slots k None)
+call_of-calls_in first k place [] e = refl
+call_of-calls_in first zero place (None ∷ slots) e = none_before (suc first) place slots (omega arith)
+call_of-calls_in first zero place (Some kept ∷ slots) e =
+    let same : place ≡ first = omega arith in
+    rw (same, same_proc-same (proc_at first)) refl
+call_of-calls_in first (suc k) place (None ∷ slots) e = call_of-calls_in (suc first) k place slots (omega arith)
+call_of-calls_in first (suc k) place (Some kept ∷ slots) e = rw (same_proc-apart first place (omega arith)) (call_of-calls_in (suc first) k place slots (omega arith))
+
+-- a call of a process that comes before all slots goes first
+with_call-before : {B : Type 0} (call : Call B) (first place : ℕ) (slots : List (Option (Kept B))) → call.proc ≡ proc_at place → place < first → with_call call (calls_in first slots) ≡ call ∷ calls_in first slots
+with_call-before call first place [] e below = refl
+with_call-before call first place (None ∷ slots) e below = with_call-before call (suc first) place slots e (omega arith)
+with_call-before call first place (Some kept ∷ slots) e below = rw (e, proc_lt-later first place below, same_proc-apart first place (omega arith)) refl
+
+-- a slot that is filled has its process's last call
+pub calls_in-set : {B : Type 0} (first k place : ℕ) (kept : Kept B) (slots : List (Option (Kept B))) → place ≡ k + first → k < length slots → calls_in first (set slots k (Some kept)) ≡ with_call (record { proc = proc_at place; number = kept.number; body = kept.body }) (calls_in first slots)
+calls_in-set first k place kept [] e within = absurd (omega arith)
+calls_in-set first zero place kept (None ∷ slots) e within =
+    let same : place ≡ first = omega arith in
+    rw (same, with_call-before (record { proc = proc_at first; number = kept.number; body = kept.body }) (suc first) first slots refl (omega arith)) refl
+calls_in-set first zero place kept (Some old ∷ slots) e within =
+    let same : place ≡ first = omega arith in
+    rw (same, proc_lt-same (proc_at first), same_proc-same (proc_at first)) refl
+calls_in-set first (suc k) place kept (None ∷ slots) e within = calls_in-set (suc first) k place kept slots (omega arith) (omega arith)
+calls_in-set first (suc k) place kept (Some old ∷ slots) e within =
+    rw (proc_lt-proc_at first place (omega arith)) (ap (λ calls. record { proc = proc_at first; number = old.number; body = old.body } ∷ calls) (calls_in-set (suc first) k place kept slots (omega arith) (omega arith)))
+
+-- empty slots keep no call
+pub calls_in-replicate : {B : Type 0} (first n : ℕ) → calls_in {B = B} first (replicate n None) ≡ []
+calls_in-replicate first zero = refl
+calls_in-replicate first (suc n) = calls_in-replicate (suc first) n
+
+-- a call that is kept is its process's last one
+pub call_of-with_call : {B : Type 0} (call : Call B) (calls : List (Call B)) (p : ProcName) → call_of p (with_call call calls) ≡ (if same_proc call.proc p then Some call else call_of p calls)
+call_of-with_call call [] p = refl
+call_of-with_call call (other ∷ calls) p = grind (arith, nat_tests, call_of-with_call call calls p)
+
+-- the call that was read from the slot of a process is its last one
+pub call_of-read : {B : Type 0} (slots : List (Option (Kept B))) (calls : List (Call B)) (place : ℕ) (p : ProcName) (slot : Option (Kept B)) → calls_in 0 slots ≡ calls → proc_at place ≡ p → place < length slots → slot ≡ get_or slots place slot → call_of p calls ≡ call_in p slot
+call_of-read slots calls place p slot view process within read =
+    rw (← view, ← process, read, get_or_default slots place slot None within) (call_of-calls_in 0 place place slots (omega arith))

@@ -1,0 +1,129 @@
+-- The order of rows: by object, then by process.
+use Rattle.std.proofs.Common.{◌≡◌, Bool, true, false, refl, ap, ◌∙◌, inl, inr, ◌⊎◌, arith}
+use Rattle.std.specs.Prelude.{not, ◌&&◌, ◌||◌}
+use Rattle.std.proofs.lemmas.Bool.Decides.{nat_tests}
+use Rattle.uid_names.specs.Names.{ProcName, ObjectName, same_uid, same_proc, uid_lt, proc_lt}
+use Rattle.uid_names.specs.declared.lists.LockRow.{LockRow}
+use Rattle.lock_manager.specs.Rows.{is_before, is_after, row_lt, same_row}
+
+-- an order by one thing and then by another
+first_or_second : (x y z : Bool) → (x || (y && z)) ≡ true → (x ≡ true) ⊎ ((y ≡ true) × (z ≡ true))
+first_or_second true y z e = inl refl
+first_or_second false true true e = inr (refl, refl)
+first_or_second false true false e = absurd cc
+first_or_second false false z e = absurd cc
+
+-- by the first thing
+by_first : (x w : Bool) → x ≡ true → (x || w) ≡ true
+by_first x w e = rw e refl
+
+-- by the second thing
+by_second : (x y z : Bool) → y ≡ true → z ≡ true → (x || (y && z)) ≡ true
+by_second true y z e f = refl
+by_second false y z e f = rw (e, f) refl
+
+-- names of objects are in one order
+pub uid_lt-trans : (u v w : ObjectName) → uid_lt u v ≡ true → uid_lt v w ≡ true → uid_lt u w ≡ true
+uid_lt-trans u v w e f = grind (arith, nat_tests, e, f)
+
+-- an object is below each name of a greater one
+uid_lt-same : (u v w : ObjectName) → uid_lt u v ≡ true → same_uid v w ≡ true → uid_lt u w ≡ true
+uid_lt-same u v w e f = grind (arith, nat_tests, e, f)
+
+-- each name of an object is below a greater one
+same-uid_lt : (u v w : ObjectName) → same_uid u v ≡ true → uid_lt v w ≡ true → uid_lt u w ≡ true
+same-uid_lt u v w e f = grind (arith, nat_tests, e, f)
+
+-- names of one object are the same
+same_uid-trans : (u v w : ObjectName) → same_uid u v ≡ true → same_uid v w ≡ true → same_uid u w ≡ true
+same_uid-trans u v w e f = grind (arith, nat_tests, e, f)
+
+-- processes are in one order
+proc_lt-trans : (p q r : ProcName) → proc_lt p q ≡ true → proc_lt q r ≡ true → proc_lt p r ≡ true
+proc_lt-trans p q r e f = grind (arith, nat_tests, e, f)
+
+-- by which of the two things the three stand apart
+trans_by : (a b c : LockRow) → (uid_lt a.uid b.uid ≡ true) ⊎ ((same_uid a.uid b.uid ≡ true) × (proc_lt a.proc b.proc ≡ true)) → (uid_lt b.uid c.uid ≡ true) ⊎ ((same_uid b.uid c.uid ≡ true) × (proc_lt b.proc c.proc ≡ true)) → row_lt a c ≡ true
+trans_by a b c (inl e) (inl f) = by_first (uid_lt a.uid c.uid) (same_uid a.uid c.uid && proc_lt a.proc c.proc) (uid_lt-trans a.uid b.uid c.uid e f)
+trans_by a b c (inl e) (inr f) = by_first (uid_lt a.uid c.uid) (same_uid a.uid c.uid && proc_lt a.proc c.proc) (uid_lt-same a.uid b.uid c.uid e f.0)
+trans_by a b c (inr e) (inl f) = by_first (uid_lt a.uid c.uid) (same_uid a.uid c.uid && proc_lt a.proc c.proc) (same-uid_lt a.uid b.uid c.uid e.0 f)
+trans_by a b c (inr e) (inr f) = by_second (uid_lt a.uid c.uid) (same_uid a.uid c.uid) (proc_lt a.proc c.proc) (same_uid-trans a.uid b.uid c.uid e.0 f.0) (proc_lt-trans a.proc b.proc c.proc e.1 f.1)
+
+-- rows are in one order
+pub row_lt-trans : (a b c : LockRow) → row_lt a b ≡ true → row_lt b c ≡ true → row_lt a c ≡ true
+row_lt-trans a b c e f =
+    trans_by a b c
+    (first_or_second (uid_lt a.uid b.uid) (same_uid a.uid b.uid) (proc_lt a.proc b.proc) e)
+    (first_or_second (uid_lt b.uid c.uid) (same_uid b.uid c.uid) (proc_lt b.proc c.proc) f)
+
+-- of two rows that are not of one process and object, one stands before the other
+pub row_lt-total : (a b : LockRow) → row_lt b a ≡ false → same_row a.proc a.uid b ≡ false → row_lt a b ≡ true
+row_lt-total a b e f = grind (arith, nat_tests, e, f)
+
+-- a row that stands before that of a process on an object is not that one
+pub is_before-apart : (row : LockRow) (u : ObjectName) (p : ProcName) → is_before row u p ≡ true → same_row p u row ≡ false
+is_before-apart row u p e = grind (arith, nat_tests, e)
+
+-- rows before one that stands before a third stand before the third
+pub is_before-trans : (a b : LockRow) (u : ObjectName) (p : ProcName) → row_lt a b ≡ true → is_before b u p ≡ true → is_before a u p ≡ true
+is_before-trans a b u p e f = row_lt-trans a b (record { uid = u; proc = p; mode = b.mode }) e f
+
+-- objects are known by their parts
+uid_by_parts : (u v : ObjectName) → u.counter ≡ v.counter → u.home ≡ v.home → u ≡ v
+uid_by_parts u v counter home = ap (λ n. record { counter = n; home = u.home }) counter ∙ ap (λ n. record { counter = v.counter; home = n }) home
+
+-- and processes
+proc_by_parts : (p q : ProcName) → p.node ≡ q.node → p.number ≡ q.number → p ≡ q
+proc_by_parts p q node number = ap (λ n. record { node = n; number = p.number }) node ∙ ap (λ n. record { node = q.node; number = n }) number
+
+-- names of one object are one
+pub same_uid_is : (u v : ObjectName) → same_uid u v ≡ true → u ≡ v
+same_uid_is u v e = uid_by_parts u v (grind (arith, nat_tests, e)) (grind (arith, nat_tests, e))
+
+-- names of one process are one
+pub same_proc_is : (p q : ProcName) → same_proc p q ≡ true → p ≡ q
+same_proc_is p q e = proc_by_parts p q (grind (arith, nat_tests, e)) (grind (arith, nat_tests, e))
+
+-- both of two tests
+both : (x y : Bool) → (x && y) ≡ true → (x ≡ true) × (y ≡ true)
+both true y e = (refl, e)
+both false y e = absurd cc
+
+-- a row of a process on an object has their names
+pub same_row_is : (p : ProcName) (u : ObjectName) (row : LockRow) → same_row p u row ≡ true → (p ≡ row.proc) × (u ≡ row.uid)
+same_row_is p u row e =
+    let names = both (same_proc p row.proc) (same_uid u row.uid) e in
+    (same_proc_is p row.proc names.0, same_uid_is u row.uid names.1)
+
+-- rows behind one that does not stand before a third are not the third
+pub later_apart : (a b : LockRow) (u : ObjectName) (p : ProcName) → row_lt a b ≡ true → is_before a u p ≡ false → same_row p u b ≡ false
+later_apart a b u p e f = by_test (same_row p u b) refl
+  where
+    by_test : (t : Bool) → same_row p u b ≡ t → t ≡ false
+    by_test true same =
+        let names = same_row_is p u b same in
+        let h : is_before a u p ≡ true = rw (names.0, names.1) e in
+        absurd cc
+    by_test false same = refl
+
+-- what is not behind a row stays so before it
+pub not_after-trans : (a b : LockRow) (u : ObjectName) (p : ProcName) → row_lt a b ≡ true → not (is_after u p b) ≡ true → not (is_after u p a) ≡ true
+not_after-trans a b u p e f = by_test (is_after u p a) refl
+  where
+    by_test : (t : Bool) → is_after u p a ≡ t → not t ≡ true
+    by_test true above =
+        let h : is_after u p b ≡ true = row_lt-trans (record { uid = u; proc = p; mode = b.mode }) a b above e in
+        absurd (grind (arith, nat_tests, f, h))
+    by_test false above = refl
+
+-- rows before one of a smaller object are of smaller objects
+pub uid_lt-before : (a b : LockRow) (u : ObjectName) → row_lt a b ≡ true → uid_lt b.uid u ≡ true → uid_lt a.uid u ≡ true
+uid_lt-before a b u e f = grind (arith, nat_tests, e, f)
+
+-- rows before one of no greater object are of no greater objects
+pub not_uid_lt-before : (a b : LockRow) (u : ObjectName) → row_lt a b ≡ true → not (uid_lt u b.uid) ≡ true → not (uid_lt u a.uid) ≡ true
+not_uid_lt-before a b u e f = grind (arith, nat_tests, e, f)
+
+-- an object that is neither below nor above another is that one
+pub same_uid-between : (u v : ObjectName) → not (uid_lt v u) && not (uid_lt u v) ≡ same_uid u v
+same_uid-between u v = grind (arith, nat_tests)

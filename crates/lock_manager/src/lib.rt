@@ -1,0 +1,11 @@
+//! The locks of a home: which process holds which object in which mode, and the number of each grant.
+#![tactic(auto)]
+
+pub mod grants;
+pub mod laws;
+pub mod locks;
+#[cfg(test)]
+mod tests;
+
+pub use grants::Grant;
+pub use locks::{AskRefusal, Locks, MOST_LISTED, ROOM};
