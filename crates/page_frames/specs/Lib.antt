@@ -1,0 +1,4 @@
+pub mod Pools
+pub mod Codes
+pub mod Insides
+pub mod Lending

@@ -1,0 +1,10 @@
+//! A pool of page frames of a fixed number, all of whose memory is taken when it is made.
+#![tactic(auto)]
+
+pub mod frame;
+pub mod pool;
+#[cfg(test)]
+mod tests;
+
+pub use frame::{Flags, FrameNo, NoMemory};
+pub use pool::Frames;
