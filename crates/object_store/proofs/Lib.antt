@@ -1,0 +1,4 @@
+pub mod RowLemmas
+pub mod HomeLemmas
+pub mod Closings
+pub mod Begun

@@ -1,0 +1,6 @@
+pub mod Objects
+pub mod HomeStates
+pub mod Rules
+pub mod Kept
+pub mod Beginnings
+pub mod Places

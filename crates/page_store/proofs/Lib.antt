@@ -1,0 +1,4 @@
+pub mod Orders
+pub mod Searched
+pub mod Listed
+pub mod VolumeLemmas

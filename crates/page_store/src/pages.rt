@@ -1,0 +1,28 @@
+//! The trait of all that keeps pages.
+ghost use Rattle.std.specs.Prelude.{◌≡◌, OnOk, OnErr};
+ghost use Rattle.page_store.specs.Volumes.{Volume, page_of, with_page, without_object};
+
+use uid_names::NoMemory;
+
+/// The bytes of a page.
+pub const PAGE_BYTES: usize = 1024;
+
+/// Keeps pages, each named by the counter of its object and its number there. A page that was never
+/// put reads as zeros.
+pub trait Pages: Drop {
+    // The pages that are kept.
+    ghost volume: { Self → Volume };
+
+    /// Copies a page. Takes no memory.
+    fn get(&self, counter: u64, page: u32, into: &mut [u8; PAGE_BYTES])
+        ensures { into.new ≡ page_of (volume self.now) counter page };
+
+    /// Puts a page in the place of what was there; without memory nothing changes.
+    fn put(&mut self, counter: u64, page: u32, bytes: &[u8; PAGE_BYTES]) -> Result<(), NoMemory>
+        ensures ok { OnOk result (volume self.new ≡ with_page (volume self.old) counter page bytes.now) }
+        ensures err { OnErr result (volume self.new ≡ volume self.old) };
+
+    /// Drops the pages of an object: they read as zeros from then on. Takes no memory.
+    fn drop_object(&mut self, counter: u64)
+        ensures { volume self.new ≡ without_object (volume self.old) counter };
+}
