@@ -1,0 +1,3 @@
+pub mod Mappings
+pub mod Runs
+pub mod Maps

@@ -1,0 +1,11 @@
+//! The mappings of a process: which objects stand at which addresses.
+#![tactic(auto)]
+
+pub mod laws;
+pub mod map;
+pub mod mapping;
+#[cfg(test)]
+mod tests;
+
+pub use map::{AddressMap, MAX_MAPPINGS, MapRefusal, NotMapped};
+pub use mapping::{Mapping, SEGMENT_PAGES, SEGMENT_SIZE, SEGMENTS};

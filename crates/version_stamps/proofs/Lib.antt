@@ -1,0 +1,5 @@
+pub mod Order
+pub mod Parts
+pub mod Places
+pub mod Keeps
+pub mod LookUps
