@@ -1,6 +1,6 @@
 -- The first that passes a test, in a list and among numbers in order.
 use Rattle.std.proofs.Common.{◌≡◌, ◌∙◌, ℕ, zero, suc, ◌+◌, ◌-◌, ◌<◌, ◌≤◌, Bool, true, false, List, [], ◌∷◌, drop, length, get_or, refl, sym, drop-cons, inl, inr, arith}
-use Rattle.std.specs.Prelude.{All, find, Option, Some, None, if◌then◌else◌}
+use Rattle.std.specs.Prelude.{All, find, Some, None, if◌then◌else◌}
 use Rattle.std.specs.List.{range_with_len}
 use Rattle.address_map.specs.declared.mapping.TheConstants.{SEGMENTS}
 use Rattle.address_map.specs.Runs.{starts_from}

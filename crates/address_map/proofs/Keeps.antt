@@ -1,6 +1,6 @@
 -- Each change of mappings keeps their layout.
 use Rattle.std.proofs.Common.{◌≡◌, ◌+◌, ◌<◌, ◌≤◌, Bool, true, false, List, [], ◌∷◌, ◌++◌, length, refl, sym, arith}
-use Rattle.std.specs.Prelude.{All, AllPairs, IsTrue, not, nat_le, ◌&&◌, filter, None, is_some}
+use Rattle.std.specs.Prelude.{IsTrue, not, nat_le, ◌&&◌, None, is_some}
 use Rattle.std.proofs.lemmas.Bool.Decides.{nat_tests}
 use Rattle.address_map.specs.declared.mapping.TheConstants.{SEGMENTS}
 use Rattle.std.specs.List.{list_all}

@@ -17,14 +17,14 @@ use std::collections::{HashMap, VecDeque};
 use std::marker::Model;
 use uid_names::{NoMemory, Uid};
 
-/// Which page of which object.
+// Which page of which object.
 #[derive(Clone, Copy, PartialEq, Eq, Hash)]
 struct PageName {
     uid: Uid,
     page: u32,
 }
 
-/// A resident page and its frame.
+// A resident page and its frame.
 #[derive(Clone, Copy)]
 struct Slot {
     uid: Uid,
@@ -172,8 +172,8 @@ impl Cache {
         requires { IsResident self.old.pages uid page }
         ensures { self.new ≡ record self.old { pages = used self.old.pages uid page } }
     {
-        if let Some(slot) = remove_slot(&mut self.order, uid, page) {
-            self.order.push_front_reserved(slot);
+        if let Some(used) = remove_slot(&mut self.order, uid, page) {
+            self.order.push_front_reserved(used);
         }
     }
 
@@ -208,6 +208,7 @@ impl Cache {
         }
     }
 
+    // The page used longest ago of those that are dirty, or clean, and not in transit.
     fn oldest_choice(&self, dirty: bool) -> Option<(Uid, u32)>
         ensures choice { result ≡ option_map name_of (oldest (is_choice dirty) self.now.pages) }
         ensures cache { IsCache self.now }
@@ -240,6 +241,7 @@ impl Cache {
         }
     }
 
+    // The number of one of the object's pages.
     fn any_page(&self, uid: Uid) -> Option<u32>
         ensures { result ≡ option_map (λ r. r.page) (find (is_of uid) self.now.pages) }
     {

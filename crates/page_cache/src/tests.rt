@@ -1,5 +1,5 @@
 //! What no clause says: that calls succeed, and that a cache answers as a plain list of its pages does.
-ghost use Rattle.std.specs.Prelude.{◌<◌, length, IfSome};
+ghost use Rattle.std.specs.Prelude.{◌≡◌, ◌+◌, ◌<◌, length, IfSome, OnOk};
 
 use super::*;
 use page_frames::Flags;
@@ -27,18 +27,15 @@ fn uid_of(counter: u8) -> Result<Uid, Fail> {
     Ok(Uid::from_parts(u64::from(counter) + 1, node))
 }
 
-/// Installs a page that is not resident, where a frame is free.
-fn install(
-    rt: &impl Abort,
-    cache: &mut Cache,
-    uid: Uid,
-    page: u32,
-    bytes: &[u8; 1024],
-) -> Result<(), Fail> {
-    assert!(rt; cache.find(uid, page).is_none());
-    assert!(rt; cache.free() > 0);
-    cache.reserve();
-    cache.install(uid, page, bytes)?;
+/// Installs a page of zeros in a frame that was reserved.
+fn install(cache: &mut Cache, uid: Uid, page: u32) -> Result<(), Fail>
+    requires { 0 < cache.old.reserved }
+    ensures { OnOk result (cache.new.reserved + 1 ≡ cache.old.reserved) }
+{
+    match cache.find(uid, page) {
+        None => cache.install(uid, page, &[0; 1024])?,
+        Some(_) => return Err(Fail::from("resident before")),
+    }
     Ok(())
 }
 
@@ -52,8 +49,12 @@ fn set_flags(cache: &mut Cache, uid: Uid, page: u32, flags: Flags) -> Result<(),
 fn clean_pages_go_before_dirty_ones_and_those_in_transit_stay(rt: HostRuntime) -> Result<(), Fail> {
     let uid = uid_of(1)?;
     let mut cache = Cache::new(rt.alloc(), 5)?;
-    for page in 0..5 {
-        install(&rt, &mut cache, uid, page, &[0; 1024])?;
+    for reserved in 0..5 {
+        assert_eq!(rt; cache.free(), 5 - reserved);
+        cache.reserve();
+    }
+    for number in 0..5 {
+        install(&mut cache, uid, number)?;
     }
     assert!(rt; cache.find(uid, 0).is_some());
     cache.touch(uid, 0);
@@ -233,6 +234,15 @@ fn call(
         }
         _ => {}
     }
+    Ok(())
+}
+
+#[test]
+fn a_list_takes_pages_at_its_end(rt: HostRuntime) -> Result<(), Fail> {
+    let mut pages = PageList::new(rt.alloc());
+    pages.push(7)?;
+    pages.push(3)?;
+    assert_eq!(rt; pages.items(), [7, 3].as_slice());
     Ok(())
 }
 

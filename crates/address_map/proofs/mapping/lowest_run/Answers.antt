@@ -1,6 +1,6 @@
-use Rattle.std.proofs.Common.{◌≡◌, ◌∙◌, ℕ, ◌+◌, false, refl, sym, rules}
-use Rattle.std.specs.Prelude.{find, Some, None}
-use Rattle.address_map.specs.Runs.{is_free_run, starts_from, lowest_run}
+use Rattle.std.proofs.Common.{◌≡◌, ◌∙◌, ℕ, ◌+◌, refl, sym}
+use Rattle.std.specs.Prelude.{find}
+use Rattle.address_map.specs.Runs.{is_free_run, starts_from}
 use Rattle.address_map.proofs.Finds.{find-starts_step, find-starts_end}
 use Rattle.address_map.proofs.mapping.lowest_run.Goals as goal
 

@@ -3,7 +3,6 @@ use Rattle.std.specs.Prelude.{None}
 use Rattle.address_map.specs.declared.map.TheConstants.{MAX_MAPPINGS}
 use Rattle.address_map.specs.Mappings.{mapping_of}
 use Rattle.address_map.specs.Runs.{is_free_run}
-use Rattle.address_map.specs.Maps.{IsLayout}
 use Rattle.address_map.proofs.Keeps.{IsLayout-push}
 use Rattle.address_map.proofs.map.AddressMap.map.Goals as goal
 

@@ -11,14 +11,14 @@ use Rattle.page_cache.proofs.cache.Cache.touch.Goals as goal
 
 pub push_front_reserved-requires : goal.push_front_reserved-requires
 push_front_reserved-requires c =
-    let shorter = length-others c.self.inside.pool c.self.inside.reserved c.self.inside.order.items (deque_capacity c.self.inside.order) (hash.get same_name c.self.inside.index) c.self.invariant c.args.uid c.args.page c.in-Some.slot (sym c.remove_slot.ensures.slot ∙ c.in-Some.is) in
+    let shorter = length-others c.self.inside.pool c.self.inside.reserved c.self.inside.order.items (deque_capacity c.self.inside.order) (hash.get same_name c.self.inside.index) c.self.invariant c.args.uid c.args.page c.in-Some.used (sym c.remove_slot.ensures.slot ∙ c.in-Some.is) in
     let others : length c.remove_slot.new.order.items ≡ length (filter (λ s. not (slot_is c.args.uid c.args.page s)) c.self.inside.order.items) = ap length c.remove_slot.ensures.others in
     omega (arith, shorter, c.self.invariant.room, c.self.invariant.placed, c.remove_slot.ensures.capacity)
 
 pub invariant_of-self : goal.invariant_of-self
 invariant_of-self c =
     rw (c.push_front_reserved.ensures.items, c.push_front_reserved.ensures.capacity, c.remove_slot.ensures.others, c.remove_slot.ensures.capacity)
-    (IsSound-used c.self.inside.pool c.self.inside.reserved c.self.inside.order.items (deque_capacity c.self.inside.order) (hash.get same_name c.self.inside.index) c.self.invariant c.args.uid c.args.page c.in-Some.slot (sym c.remove_slot.ensures.slot ∙ c.in-Some.is))
+    (IsSound-used c.self.inside.pool c.self.inside.reserved c.self.inside.order.items (deque_capacity c.self.inside.order) (hash.get same_name c.self.inside.index) c.self.invariant c.args.uid c.args.page c.in-Some.used (sym c.remove_slot.ensures.slot ∙ c.in-Some.is))
 
 pub invariant_of-self-in_default : goal.invariant_of-self-in_default
 invariant_of-self-in_default c = rw (c.remove_slot.ensures.others, c.remove_slot.ensures.capacity, filter-absent c.self.inside.pool c.self.inside.order.items c.args.uid c.args.page (sym c.remove_slot.ensures.slot ∙ c.in_default.is)) c.self.invariant
@@ -26,7 +26,7 @@ invariant_of-self-in_default c = rw (c.remove_slot.ensures.others, c.remove_slot
 pub returns-in-Some : goal.returns-in-Some
 returns-in-Some c =
     rw (← c.self.view_is, c.push_front_reserved.ensures.items, c.remove_slot.ensures.others)
-    (same_cache _ _ _ _ (map-seen-used c.self.inside.pool c.self.inside.reserved c.self.inside.order.items (deque_capacity c.self.inside.order) (hash.get same_name c.self.inside.index) c.self.invariant c.args.uid c.args.page c.in-Some.slot (sym c.remove_slot.ensures.slot ∙ c.in-Some.is)))
+    (same_cache _ _ _ _ (map-seen-used c.self.inside.pool c.self.inside.reserved c.self.inside.order.items (deque_capacity c.self.inside.order) (hash.get same_name c.self.inside.index) c.self.invariant c.args.uid c.args.page c.in-Some.used (sym c.remove_slot.ensures.slot ∙ c.in-Some.is)))
 
 pub returns-in_default : goal.returns-in_default
 returns-in_default c =
