@@ -1,5 +1,6 @@
 //! What no clause says: that calls succeed, and that a cache answers as a plain list of its pages does.
-ghost use Rattle.std.specs.Prelude.{◌≡◌, ◌+◌, ◌<◌, length, IfSome, OnOk};
+ghost use Rattle.page_cache.specs.Caches.{page_at};
+ghost use Rattle.std.specs.Prelude.{◌≡◌, ◌+◌, ◌<◌, None, length, IfSome, OnOk};
 
 use super::*;
 use page_frames::Flags;
@@ -11,6 +12,18 @@ const CLEAN: Flags = Flags {
     dirty: false,
     sent: false,
     transit: false,
+};
+
+const DIRTY: Flags = Flags {
+    dirty: true,
+    sent: false,
+    transit: false,
+};
+
+const IN_TRANSIT: Flags = Flags {
+    dirty: false,
+    sent: false,
+    transit: true,
 };
 
 /// A page as a plain list keeps it.
@@ -60,44 +73,20 @@ fn clean_pages_go_before_dirty_ones_and_those_in_transit_stay(rt: HostRuntime) -
     cache.touch(uid, 0);
     assert_eq!(rt; cache.victim(), Some((uid, 1)));
     for page in 1..5 {
-        set_flags(
-            &mut cache,
-            uid,
-            page,
-            Flags {
-                dirty: true,
-                ..CLEAN
-            },
-        )?;
+        set_flags(&mut cache, uid, page, DIRTY)?;
     }
     assert_eq!(rt; cache.victim(), Some((uid, 0)));
-    set_flags(
-        &mut cache,
-        uid,
-        0,
-        Flags {
-            transit: true,
-            ..CLEAN
-        },
-    )?;
+    set_flags(&mut cache, uid, 0, IN_TRANSIT)?;
     assert_eq!(rt; cache.victim(), Some((uid, 1)));
     assert_eq!(rt; cache.dirty_of(uid), Some(1));
     for page in 0..5 {
-        set_flags(
-            &mut cache,
-            uid,
-            page,
-            Flags {
-                transit: true,
-                ..CLEAN
-            },
-        )?;
+        set_flags(&mut cache, uid, page, IN_TRANSIT)?;
     }
     assert_eq!(rt; cache.victim(), None);
     Ok(())
 }
 
-/// What a plain list of the pages, the last used first, answers to the calls of a cache.
+/// Where the page stands in a plain list of the pages, the last used first.
 fn place_of(pages: &[Plain], uid: Uid, page: u32) -> Option<usize>
     ensures { IfSome result (λ at. at < length pages.now) }
 {
@@ -171,6 +160,45 @@ fn compare(
     Ok(())
 }
 
+/// Installs a page that is not resident, where a frame is free; now and then the frame is given back
+/// instead.
+fn install_at_both(
+    cache: &mut Cache,
+    pages: &mut Vec<Plain>,
+    uid: Uid,
+    page: u32,
+    draw: u64,
+) -> Result<(), Fail>
+    requires { page_at cache.old.pages uid page ≡ None }
+{
+    if cache.free() == 0 {
+        return Ok(());
+    }
+    cache.reserve();
+    if draw % 7 == 0 {
+        cache.unreserve();
+        return Ok(());
+    }
+    let bytes = [(draw % 251) as u8; 1024];
+    cache.install(uid, page, &bytes)?;
+    let new = Plain {
+        uid,
+        page,
+        bytes,
+        flags: CLEAN,
+    };
+    pages.insert(0, new)?;
+    Ok(())
+}
+
+fn drawn_flags(draw: u64) -> Flags {
+    Flags {
+        dirty: draw % 2 == 0,
+        sent: draw % 3 == 0,
+        transit: draw % 5 == 0,
+    }
+}
+
 /// One pseudo-random call, made of the cache and of the plain list.
 fn call(
     cache: &mut Cache,
@@ -197,11 +225,7 @@ fn call(
             pages.insert(0, used)?;
         }
         (6..9, Some(at), Some(frame)) => {
-            let flags = Flags {
-                dirty: draw % 2 == 0,
-                sent: draw % 3 == 0,
-                transit: draw % 5 == 0,
-            };
+            let flags = drawn_flags(draw);
             cache.set_flags(frame, flags);
             pages[at].flags = flags;
         }
@@ -210,28 +234,7 @@ fn call(
             cache.write(frame, offset, &[fill; 3]);
             pages[at].bytes[offset as usize..][..3].copy_from_slice(&[fill; 3]);
         }
-        (12.., None, None) => {
-            if cache.free() == 0 {
-                return Ok(());
-            }
-            cache.reserve();
-            if draw % 7 == 0 {
-                cache.unreserve();
-                return Ok(());
-            }
-            let bytes = [fill; 1024];
-            cache.install(uid, page, &bytes)?;
-            let flags = CLEAN;
-            pages.insert(
-                0,
-                Plain {
-                    uid,
-                    page,
-                    bytes,
-                    flags,
-                },
-            )?;
-        }
+        (12.., None, None) => install_at_both(cache, pages, uid, page, draw)?,
         _ => {}
     }
     Ok(())
