@@ -1,7 +1,10 @@
 use super::run_domain;
+use crate::answer::answer_text;
+use dom_history::Reply;
 use dom_io::{MemSink, MemSource};
 use std::alloc::Global;
 use std::test::Fail;
+use uid_names::{Mode, NodeId, ProcId};
 
 const FIRST_RUN: &[u8] =
     b"node a\na.1 new x 1\na.1 lock x w\na.1 store x 0 \"hi\"\na.1 load x 0 2\na.1 unlock x\n";
@@ -77,6 +80,16 @@ fn a_variable_whose_new_was_refused_is_not_bound(rt: HostRuntime) -> Result<(), 
     assert_eq!(rt; outcome.status, 0);
     let ends = b"a.1 16 no space\na.1 17 not bound\na.1 18 ok 0000000001100001\na.1 19 ok\n";
     assert!(rt; outcome.out.bytes().ends_with(ends));
+    Ok(())
+}
+
+#[test]
+fn a_conflict_names_the_holder(rt: HostRuntime) -> Result<(), Fail> {
+    let node = NodeId::new(1).ok_or("node 1")?;
+    let holder = ProcId::new(node, 2).ok_or("process 2")?;
+    let reply = Reply::Conflict(holder, Mode::Write);
+    let text = answer_text(rt.alloc(), b"a", &reply)?;
+    assert_eq!(rt; text.bytes(), b"conflict a.2 w".as_slice());
     Ok(())
 }
 
