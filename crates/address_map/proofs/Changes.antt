@@ -6,9 +6,11 @@ use Rattle.uid_names.specs.Names.{ObjectName, same_uid}
 use Rattle.address_map.specs.declared.map.TheConstants.{MAX_MAPPINGS}
 use Rattle.address_map.specs.declared.mapping.Mapping.{Mapping}
 use Rattle.address_map.specs.Mappings.{lies_in, mapping_of, mapping_at, without_mapping}
-use Rattle.address_map.specs.Runs.{is_apart, is_free_run, starts_from, lowest_run}
+use Rattle.address_map.specs.Runs.{is_apart, is_free_run, lowest_run}
 use Rattle.address_map.specs.Maps.{IsLayout, is_full, mappings_after}
-use Rattle.address_map.proofs.Finds.{find-passes}
+use Rattle.uid_names.specs.Segments.{starts_from}
+use Rattle.uid_names.proofs.Finds.{find-passes}
+use Rattle.uid_names.proofs.InOrder.{AllPairs-tail}
 use Rattle.address_map.proofs.Keeps.{IsLayout-push}
 
 -- the mapping of u where that of v ended
@@ -28,10 +30,6 @@ IsLayout-mappings_after u count mappings kept some = by_cases (mapping_of u mapp
         let fewer : length mappings < MAX_MAPPINGS = grind (arith, nat_tests, f) in
         IsLayout-push mappings (record { uid = u; first = first; segments = count }) kept fewer some e
         (find-passes (λ k. is_free_run count k mappings) (starts_from 0) first g)
-
--- the others are so to each other
-AllPairs-tail : {X : Type 0} (R : X → X → Type 0) (x : X) (xs : List X) → AllPairs R (x ∷ xs) → AllPairs R xs
-AllPairs-tail R x xs pairs i j d under below = pairs (suc i) (suc j) d (omega (arith, under)) (omega (arith, below))
 
 -- no address lies in two mappings that are apart
 lies_in-apart : (a : ℕ) (m n : Mapping) → is_apart n.segments n.first m ≡ true → lies_in a m ≡ true → lies_in a n ≡ true → ⊥

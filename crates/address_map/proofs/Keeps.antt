@@ -1,8 +1,8 @@
 -- Each change of mappings keeps their layout.
 use Rattle.std.proofs.Common.{◌≡◌, ◌+◌, ◌<◌, ◌≤◌, Bool, true, false, List, [], ◌∷◌, ◌++◌, length, refl, sym, arith}
-use Rattle.std.specs.Prelude.{IsTrue, not, nat_le, ◌&&◌, None, is_some}
+use Rattle.std.specs.Prelude.{IsTrue, not, nat_le, ◌&&◌, None}
 use Rattle.std.proofs.lemmas.Bool.Decides.{nat_tests}
-use Rattle.address_map.specs.declared.mapping.TheConstants.{SEGMENTS}
+use Rattle.uid_names.specs.declared.segment.TheConstants.{SEGMENTS}
 use Rattle.std.specs.List.{list_all}
 use Rattle.std.proofs.lemmas.List.Elements.{All-nil, All-cons, All-append, All-filter}
 use Rattle.std.proofs.lemmas.List.Kept.{AllPairs-filter}
@@ -13,15 +13,13 @@ use Rattle.std.proofs.lemmas.List.{length-append}
 use Rattle.uid_names.specs.Names.{ObjectName}
 use Rattle.address_map.specs.declared.map.TheConstants.{MAX_MAPPINGS}
 use Rattle.address_map.specs.declared.mapping.Mapping.{Mapping}
-use Rattle.address_map.specs.Mappings.{is_of, mapping_of, without_mapping}
+use Rattle.address_map.specs.Mappings.{is_of, mapping_of, stretch_of, without_mapping}
 use Rattle.address_map.specs.Runs.{is_apart, is_free_run}
 use Rattle.address_map.specs.Maps.{IsMapping, IsLayout}
-use Rattle.address_map.proofs.Finds.{find-all_fail}
-
--- not not
-not-not : (b : Bool) → not (not b) ≡ b
-not-not true = refl
-not-not false = refl
+use Rattle.uid_names.specs.Segments.{is_apart as is_apart_from}
+use Rattle.uid_names.proofs.Finds.{find-all_fail, not-not}
+use Rattle.uid_names.proofs.InOrder.{AllPairs-nil}
+use Rattle.std.proofs.lemmas.List.Folds.{list_all-map}
 
 -- no two take one segment
 abbrev Apart : Mapping → Mapping → Type 0
@@ -33,7 +31,7 @@ Once m n = is_of n.uid m ≡ false
 
 -- nothing is mapped
 pub IsLayout-none : IsLayout []
-IsLayout-none = record { few = omega arith; each = All-nil IsMapping; apart = λ i j d under below. absurd (omega (arith, below)); once = λ i j d under below. absurd (omega (arith, below)) }
+IsLayout-none = record { few = omega arith; each = All-nil IsMapping; apart = AllPairs-nil Apart; once = AllPairs-nil Once }
 
 -- both tests pass
 both : (a b : Bool) → (a && b) ≡ true → (a ≡ true) × (b ≡ true)
@@ -44,7 +42,7 @@ both false b e = absurd cc
 -- a mapping is made in a free run
 pub IsLayout-push : (mappings : List Mapping) (new : Mapping) → IsLayout mappings → length mappings < MAX_MAPPINGS → 1 ≤ new.segments → mapping_of new.uid mappings ≡ None → is_free_run new.segments new.first mappings ≡ true → IsLayout (mappings ++ new ∷ [])
 IsLayout-push mappings new kept fewer some none free =
-    let parts = both (nat_le (new.first + new.segments) SEGMENTS) (list_all (is_apart new.segments new.first) mappings) free in
+    let parts = both (nat_le (new.first + new.segments) SEGMENTS) (list_all (is_apart new.segments new.first) mappings) (rw (← list_all-map (is_apart_from new.segments new.first) stretch_of mappings) free) in
     let within : new.first + new.segments ≤ SEGMENTS = grind (arith, nat_tests, parts.0) in
     let count : length (mappings ++ new ∷ []) ≡ length mappings + 1 = length-append mappings (new ∷ []) in
     record {
@@ -62,12 +60,3 @@ IsLayout-without_mapping u mappings kept = record {
   apart = AllPairs-filter Apart (λ m. not (is_of u m)) mappings kept.apart;
   once = AllPairs-filter Once (λ m. not (is_of u m)) mappings kept.once;
 }
-
--- where u is not mapped, none is left out
-pub without_mapping-none : (u : ObjectName) (mappings : List Mapping) → is_some (mapping_of u mappings) ≡ false → without_mapping u mappings ≡ mappings
-without_mapping-none u [] none = refl
-without_mapping-none u (m ∷ mappings) none = by_test (is_of u m) refl none (without_mapping-none u mappings)
-  where
-    by_test : (b : Bool) → is_of u m ≡ b → is_some (mapping_of u (m ∷ mappings)) ≡ false → (is_some (mapping_of u mappings) ≡ false → without_mapping u mappings ≡ mappings) → without_mapping u (m ∷ mappings) ≡ m ∷ mappings
-    by_test true e none others = let h = rw e at none in absurd cc
-    by_test false e none others = rw (e, others (rw e at none)) refl

@@ -1,3 +1,2 @@
-pub mod Finds
 pub mod Keeps
 pub mod Changes

@@ -1,20 +1,21 @@
 -- Mappings: which object stands at which addresses.
-use Rattle.std.specs.Prelude.{ℕ, ◌+◌, ◌-◌, ◌*◌, ◌/◌, nat_le, nat_lt, Bool, not, ◌&&◌, Option, Some, None, List, find, filter}
+use Rattle.std.specs.Prelude.{ℕ, ◌+◌, ◌-◌, ◌*◌, Bool, not, Option, Some, None, List, find, filter}
 use Rattle.uid_names.specs.Names.{ObjectName, same_uid}
-use Rattle.address_map.specs.declared.mapping.TheConstants.{SEGMENT_SIZE}
+use Rattle.uid_names.specs.Segments.{Stretch, lies_in as lies_within}
+use Rattle.uid_names.specs.declared.segment.TheConstants.{SEGMENT_SIZE}
 use Rattle.address_map.specs.declared.mapping.Mapping.{Mapping}
-
--- how many segments of 32 pages an object of this room takes
-abbrev pub segments : ℕ → ℕ
-segments room = (room + 31) / 32
 
 -- the first address of a mapping
 abbrev pub address_of : Mapping → ℕ
 address_of m = m.first * SEGMENT_SIZE
 
+-- the addresses that a mapping takes
+abbrev pub stretch_of : Mapping → Stretch
+stretch_of m = record { low = address_of m; high = (m.first + m.segments) * SEGMENT_SIZE }
+
 -- the address lies in the mapping's segments
 abbrev pub lies_in : ℕ → Mapping → Bool
-lies_in a m = nat_le (address_of m) a && nat_lt a ((m.first + m.segments) * SEGMENT_SIZE)
+lies_in a m = lies_within a (stretch_of m)
 
 -- the mapping is of u
 abbrev pub is_of : ObjectName → Mapping → Bool

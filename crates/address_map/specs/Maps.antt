@@ -1,7 +1,7 @@
 -- The address space of a process.
 use Rattle.std.specs.Prelude.{ℕ, ◌+◌, ◌*◌, ◌≤◌, nat_le, Bool, true, false, Option, Some, None, List, [], ◌∷◌, ◌++◌, length, All, AllPairs, IsTrue, ◌≡◌, Result, Ok, Err}
 use Rattle.uid_names.specs.Names.{ObjectName}
-use Rattle.address_map.specs.declared.mapping.TheConstants.{SEGMENTS, SEGMENT_SIZE}
+use Rattle.uid_names.specs.declared.segment.TheConstants.{SEGMENTS, SEGMENT_SIZE}
 use Rattle.address_map.specs.declared.map.TheConstants.{MAX_MAPPINGS}
 use Rattle.address_map.specs.declared.mapping.Mapping.{Mapping}
 use Rattle.address_map.specs.declared.map.MapRefusal.{MapRefusal}

@@ -1,21 +1,10 @@
 //! Laws of mappings. Each stands on a function without a body, so that the check proves it.
-ghost use Rattle.std.specs.Prelude.{◌≡◌, ◌≤◌, ◌<◌, ℕ, true, false, [], Some, None, List, Contains, if◌then◌else◌};
+ghost use Rattle.std.specs.Prelude.{◌≡◌, ◌≤◌, ℕ, true, [], Some, None, List, Contains, if◌then◌else◌};
 ghost use Rattle.uid_names.specs.Names.{ObjectName, same_uid};
-ghost use Rattle.address_map.specs.declared.mapping.TheConstants.{SEGMENTS};
 ghost use Rattle.address_map.specs.declared.mapping.Mapping.{Mapping};
 ghost use Rattle.address_map.specs.Mappings.{lies_in, mapping_of, mapping_at, without_mapping};
-ghost use Rattle.address_map.specs.Runs.{is_free_run, lowest_run};
+ghost use Rattle.address_map.specs.Runs.{lowest_run};
 ghost use Rattle.address_map.specs.Maps.{IsLayout, is_full, mappings_after};
-
-/// The lowest run is free and no lower one is; where there is none, none is free.
-pub fn the_lowest_run_is_the_lowest()
-    ensures free { (count first : ℕ) (mappings : List Mapping) →
-        lowest_run count mappings ≡ Some first → is_free_run count first mappings ≡ true }
-    ensures lowest { (count first : ℕ) (mappings : List Mapping) → lowest_run count mappings ≡ Some first →
-        (lower : ℕ) → lower < first → is_free_run count lower mappings ≡ false }
-    ensures none { (count : ℕ) (mappings : List Mapping) → lowest_run count mappings ≡ None →
-        (first : ℕ) → first < SEGMENTS → is_free_run count first mappings ≡ false }
-{}
 
 /// Mappings stay few and apart, each object's once, whatever is mapped and unmapped.
 pub fn changes_keep_the_layout()

@@ -8,4 +8,4 @@ pub mod mapping;
 mod tests;
 
 pub use map::{AddressMap, MAX_MAPPINGS, MapRefusal, NotMapped};
-pub use mapping::{Mapping, SEGMENT_PAGES, SEGMENT_SIZE, SEGMENTS};
+pub use mapping::Mapping;

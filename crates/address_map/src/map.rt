@@ -1,15 +1,16 @@
 //! The address space of a process.
 ghost use Rattle.std.specs.Prelude.{◌≡◌, ◌≤◌, [], Some, None, is_ok, is_some, IfOk, OnErr};
 ghost use Rattle.uid_names.specs.declared.mode.TheConstants.{MAX_ROOM};
-ghost use Rattle.address_map.specs.Mappings.{segments, mapping_of, mapping_at, target_in, without_mapping};
+ghost use Rattle.uid_names.specs.Segments.{segments};
+ghost use Rattle.address_map.specs.Mappings.{mapping_of, mapping_at, target_in, without_mapping};
 ghost use Rattle.address_map.specs.Runs.{lowest_run};
 ghost use Rattle.address_map.specs.Maps.{is_full, map_answer, mappings_after};
 
-use crate::mapping::{Mapping, lowest_run, mapping_at, mapping_of, segments};
+use crate::mapping::{Mapping, lowest_run, mapping_at, mapping_of};
 use std::alloc::Global;
 use std::marker::Model;
 use thiserror::Error;
-use uid_names::{NoMemory, Uid};
+use uid_names::{NoMemory, Uid, segments};
 
 /// How many mappings there are at most.
 pub const MAX_MAPPINGS: usize = 16;

@@ -1,20 +1,10 @@
 //! Mappings, and the runs of segments that they leave free.
 ghost use Rattle.std.specs.Prelude.{◌≡◌, ◌+◌, ◌*◌, ◌<◌, ◌≤◌, true, IfSome};
 ghost use Rattle.std.specs.List.{list_all};
-ghost use Rattle.address_map.specs.Mappings.{segments, address_of, lies_in, mapping_of, mapping_at};
+ghost use Rattle.address_map.specs.Mappings.{address_of, lies_in, mapping_of, mapping_at};
 ghost use Rattle.address_map.specs.Runs.{is_apart, is_free_run, lowest_run};
-ghost use Rattle.uid_names.specs.declared.mode.TheConstants.{MAX_ROOM};
 
-use uid_names::Uid;
-
-/// How many segments an address space has.
-pub const SEGMENTS: u16 = 256;
-
-/// How many pages a segment has.
-pub const SEGMENT_PAGES: u32 = 32;
-
-/// How many bytes a segment has.
-pub const SEGMENT_SIZE: u32 = 32_768;
+use uid_names::{SEGMENT_SIZE, SEGMENTS, Uid};
 
 /// An object that is mapped: its first segment, and how many it takes.
 #[derive(Clone, Copy, Debug, PartialEq, Eq)]
@@ -53,16 +43,6 @@ impl Mapping {
         let end = u32::from(first) + u32::from(count);
         end <= u32::from(self.first) || self.end() <= u32::from(first)
     }
-}
-
-/// How many segments an object of this room takes.
-pub fn segments(room: u32) -> u16
-    requires least { 1 ≤ room }
-    requires greatest { room ≤ MAX_ROOM }
-    ensures count { result ≡ segments room }
-    ensures some { 1 ≤ result }
-{
-    room.div_ceil(SEGMENT_PAGES) as u16
 }
 
 /// The mapping of an object.

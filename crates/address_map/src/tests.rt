@@ -5,7 +5,7 @@ use super::*;
 use std::alloc::Global;
 use std::process::Abort;
 use std::test::Fail;
-use uid_names::{NodeId, Uid};
+use uid_names::{NodeId, SEGMENTS, Uid};
 
 /// The object of this counter at the first node.
 fn object(counter: u64) -> Result<Uid, Fail>

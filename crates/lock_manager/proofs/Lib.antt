@@ -1,5 +1,3 @@
-pub mod Order
-pub mod Parts
 pub mod Places
 pub mod Keeps
 pub mod LookUps

@@ -1,15 +1,25 @@
 -- Grants of locks: who holds what, and what stands against a request.
-use Rattle.std.specs.Prelude.{ℕ, ◌==◌, Bool, not, ◌&&◌, if◌then◌else◌, Option, Some, None, List, [], ◌∷◌, find, filter, AllPairs, IsTrue}
+use Rattle.std.specs.Prelude.{ℕ, ◌==◌, Bool, not, ◌&&◌, Option, Some, None, List, find, filter, map}
 use Rattle.std.specs.List.{prefix_len}
 use Rattle.uid_names.specs.Names.{ProcName, ObjectName, same_uid}
 use Rattle.uid_names.specs.Modes.{mode_writes}
+use Rattle.uid_names.specs.InOrder.{AreInOrder, put_in_order}
+use Rattle.uid_names.specs.Rows.{is_before, row_lt, same_row, is_in_conflict}
+use Rattle.uid_names.specs.declared.lists.LockRow.{LockRow}
 use Rattle.uid_names.specs.declared.mode.Mode.{Mode}
 use Rattle.lock_manager.specs.declared.grants.Grant.{Grant}
-use Rattle.lock_manager.specs.Rows.{is_before, row_lt, same_row, is_in_conflict}
+
+-- the order of grants is that of their rows
+abbrev pub grant_lt : Grant → Grant → Bool
+grant_lt a b = row_lt a.row b.row
 
 -- each grant stands before the later ones
 abbrev pub AreRising : List Grant → Type 0
-AreRising = AllPairs (λ a b. IsTrue (row_lt a.row b.row))
+AreRising = AreInOrder grant_lt
+
+-- the rows of grants
+abbrev pub rows_of : List Grant → List LockRow
+rows_of grants = map (λ g. g.row) grants
 
 -- the grant is on u
 abbrev pub is_on : ObjectName → Grant → Bool
@@ -51,5 +61,4 @@ grants_without p u grants = filter (λ g. not (same_row p u g.row)) grants
 
 -- grants in order, with one more
 abbrev pub grants_with : Grant → List Grant → List Grant
-grants_with new [] = new ∷ []
-grants_with new (g ∷ grants) = if row_lt g.row new.row then g ∷ grants_with new grants else new ∷ g ∷ grants
+grants_with new grants = put_in_order grant_lt new grants

@@ -1,46 +1,16 @@
 //! Grants in order, and where one stands among them.
 ghost use Rattle.std.specs.Prelude.{◌≡◌, ◌<◌, ◌≤◌, filter, is_ok, is_some, length, vec_len, vec_capacity, MatchResult, OnOk, OnErr};
 ghost use Rattle.std.specs.List.{list_any};
-ghost use Rattle.lock_manager.specs.Rows.{is_before, is_after, same_row, rows_of, rows_after};
-ghost use Rattle.lock_manager.specs.Grants.{AreRising, is_on, grant_of, place_of, conflict_of, writes_under, grants_with, grants_without};
+ghost use Rattle.uid_names.specs.Rows.{rows_after};
+ghost use Rattle.lock_manager.specs.Grants.{AreRising, rows_of, is_on, grant_of, place_of, conflict_of, writes_under, grants_with, grants_without};
 
-use uid_names::{LockRow, Mode, NoMemory, NodeId, ProcId, Uid, clash};
+use uid_names::{LockRow, Mode, NoMemory, NodeId, ProcId, Uid};
 
 /// A lock that was granted, and the number of the grant.
 #[derive(Clone, Copy, Debug, PartialEq, Eq)]
 pub struct Grant {
     pub row: LockRow,
     pub number: u64,
-}
-
-/// Whether a row stands before that of a process on an object.
-fn is_before(row: &LockRow, uid: Uid, proc: ProcId) -> bool
-    ensures { result ≡ is_before row.now uid proc }
-{
-    row.uid.is_below(uid) || (row.uid.is(uid) && row.proc.is_below(proc))
-}
-
-/// Whether a row stands behind that of a process on an object.
-fn is_after(row: &LockRow, uid: Uid, proc: ProcId) -> bool
-    ensures { result ≡ is_after uid proc row.now }
-{
-    uid.is_below(row.uid) || (uid.is(row.uid) && proc.is_below(row.proc))
-}
-
-/// Whether a row is that of a process on an object.
-fn is_row_of(row: &LockRow, proc: ProcId, uid: Uid) -> bool
-    ensures { result ≡ same_row proc uid row.now }
-{
-    proc.is(row.proc) && uid.is(row.uid)
-}
-
-/// How many grants stand before that of a process on an object.
-fn place_of(grants: &[Grant], proc: ProcId, uid: Uid) -> usize
-    requires { AreRising grants.now }
-    ensures place { result ≡ place_of proc uid grants.now }
-    ensures bound { result ≤ length grants.now }
-{
-    grants.partition_point(|grant| is_before(&grant.row, uid, proc))
 }
 
 /// Where the grant of a process on an object stands; Err where it would.
@@ -52,11 +22,7 @@ pub(crate) fn search(grants: &[Grant], proc: ProcId, uid: Uid) -> Result<usize, 
     ensures bound { MatchResult result (λ at. at < length grants.now) (λ at. at ≤ length grants.now) }
     ensures found { is_ok result ≡ is_some (grant_of proc uid grants.now) }
 {
-    let at = place_of(grants, proc, uid);
-    match grants.get(at) {
-        Some(grant) if is_row_of(&grant.row, proc, uid) => Ok(at),
-        _ => Err(at),
-    }
+    grants.binary_search_by_key(&(uid, proc), |grant| (grant.row.uid, grant.row.proc))
 }
 
 /// The grants on an object.
@@ -82,7 +48,7 @@ pub(crate) fn conflict(
 {
     for grant in on_object(grants, uid) {
         let row = &grant.row;
-        if !proc.is(row.proc) && clash(proc, mode, row.proc, row.mode) {
+        if row.conflicts(proc, mode) {
             return Some((row.proc, row.mode));
         }
     }
@@ -124,7 +90,7 @@ pub(crate) fn behind(grants: &[Grant], after: Option<(Uid, ProcId)>) -> &[Grant]
     match after {
         None => grants,
         Some((uid, proc)) => {
-            let first = grants.partition_point(|grant| !is_after(&grant.row, uid, proc));
+            let first = grants.partition_point(|grant| !grant.row.is_after(uid, proc));
             &grants[first..]
         }
     }

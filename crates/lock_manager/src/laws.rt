@@ -2,7 +2,7 @@
 ghost use Rattle.std.specs.Prelude.{◌≡◌, ◌+◌, ◌&&◌, [], Some, None, if◌then◌else◌};
 ghost use Rattle.uid_names.specs.Names.{ProcName, ObjectName, same_proc, same_uid};
 ghost use Rattle.uid_names.specs.declared.lists.LockRow.{LockRow};
-ghost use Rattle.lock_manager.specs.Rows.{same_row};
+ghost use Rattle.uid_names.specs.Rows.{same_row};
 ghost use Rattle.lock_manager.specs.Grants.{grant_of};
 ghost use Rattle.lock_manager.specs.Tables.{Table, IsTable, with_grant, without_grant, without_object};
 

@@ -3,8 +3,8 @@ ghost use Rattle.std.specs.Prelude.{◌≡◌, ◌+◌, ◌-◌, ◌^◌, ◌<�
 ghost use Rattle.std.specs.List.{list_any};
 ghost use Rattle.uid_names.specs.Names.{ProcName};
 ghost use Rattle.uid_names.specs.declared.mode.Mode.{Mode};
-ghost use Rattle.lock_manager.specs.Rows.{rows_of, rows_after};
-ghost use Rattle.lock_manager.specs.Grants.{grant_of, held_in, is_writing, conflict_of};
+ghost use Rattle.uid_names.specs.Rows.{rows_after};
+ghost use Rattle.lock_manager.specs.Grants.{rows_of, grant_of, held_in, is_writing, conflict_of};
 ghost use Rattle.lock_manager.specs.Tables.{with_grant, without_grant, without_object};
 
 use crate::grants::{Grant, any_writes, behind, conflict, on_object, put, search};

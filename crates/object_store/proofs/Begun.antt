@@ -1,8 +1,10 @@
 -- A home at the start is a home.
-use Rattle.std.proofs.Common.{◌≡◌, ℕ, ◌+◌, ◌≤◌, ◌==◌, List, [], ◌∷◌, length, map, ap, sym, subst, arith}
-use Rattle.std.specs.Prelude.{true, false, cond, All}
+use Rattle.std.proofs.Common.{◌≡◌, ◌∙◌, ℕ, ◌+◌, ◌≤◌, ◌==◌, List, [], ◌∷◌, length, map, refl, ap, sym, subst, arith}
+use Rattle.std.specs.Prelude.{true, false, cond, All, sum_by}
 use Rattle.std.proofs.lemmas.List.{length-map}
 use Rattle.std.proofs.lemmas.List.Elements.{All-head, All-tail}
+use Rattle.std.proofs.lemmas.List.Sums.{sum_by-cons}
+use Rattle.uid_names.specs.declared.opening.TheConstants.{ENTRY_ROOM}
 use Rattle.uid_names.specs.declared.opening.Object.{Object}
 use Rattle.uid_names.specs.declared.mode.ObjKind.TheVariants.{Directory}
 use Rattle.uid_names.specs.Openings.{Start, IsStart, IsDeclarable}
@@ -12,7 +14,8 @@ use Rattle.object_store.specs.declared.attributes.ObjectRow.{ObjectRow}
 use Rattle.object_store.specs.Objects.{rooms}
 use Rattle.object_store.specs.HomeStates.{HomeState}
 use Rattle.object_store.specs.Kept.{IsHome, AreRising, AreRows}
-use Rattle.object_store.specs.Beginnings.{AreNumbered, CanBegin, objects_at, opened, first_rows, first_home}
+use Rattle.uid_names.specs.Beginnings.{AreNumbered, CanHomeBegin, at_home, entry_directory}
+use Rattle.object_store.specs.Beginnings.{opened, first_rows, first_home}
 use Rattle.object_store.proofs.RowLemmas.{length-le-rooms}
 use Rattle.object_store.proofs.HomeLemmas.{IsAttr-fresh}
 
@@ -36,27 +39,38 @@ first-within n high (o ∷ rest) numbered le room =
     (omega arith, IsAttr-fresh o.kind o.room room.0 room.1, first-within (n + 1) high rest numbered.1 (omega arith) room.2)
 
 -- the objects of an opening at a node have rooms in their range
-HaveRooms-objects_at : (nodes greatest node : ℕ) (objects : List Object) → greatest ≤ 1024 → All (IsDeclarable nodes greatest) objects → HaveRooms (objects_at node objects)
-HaveRooms-objects_at nodes greatest node [] le all = tt
-HaveRooms-objects_at nodes greatest node (o ∷ rest) le all =
+HaveRooms-at_home : (nodes greatest node : ℕ) (objects : List Object) → greatest ≤ 1024 → All (IsDeclarable nodes greatest) objects → HaveRooms (at_home node objects)
+HaveRooms-at_home nodes greatest node [] le all = tt
+HaveRooms-at_home nodes greatest node (o ∷ rest) le all =
     let first : IsDeclarable nodes greatest o = All-head (IsDeclarable nodes greatest) o rest all in
-    let later : HaveRooms (objects_at node rest) = HaveRooms-objects_at nodes greatest node rest le (All-tail (IsDeclarable nodes greatest) o rest all) in
+    let later : HaveRooms (at_home node rest) = HaveRooms-at_home nodes greatest node rest le (All-tail (IsDeclarable nodes greatest) o rest all) in
     let low : 1 ≤ o.room = first.room_low in
     let high : o.room ≤ 1024 = omega (arith, first.room_high) in
-    elim (o.uid.home == node) as (λ b. HaveRooms (cond b (o ∷ objects_at node rest) (objects_at node rest))) [
+    elim (o.uid.home == node) as (λ b. HaveRooms (cond b (o ∷ at_home node rest) (at_home node rest))) [
       | true ↦ (low, high, later)
       | false ↦ later
     ]
 
+-- the rooms of the rows are those of the objects
+rooms-opened : (own : List Object) → rooms (map opened own) ≡ sum_by (λ o. o.room) own
+rooms-opened [] = refl
+rooms-opened (o ∷ rest) =
+    sum_by-cons (λ (row : ObjectRow). row.attr.room) (opened o) (map opened rest)
+    ∙ (ap (λ n. o.room + n) (rooms-opened rest) ∙ sym (sum_by-cons (λ (x : Object). x.room) o rest))
+
+-- with the entry directory's
+pub rooms-first : (node : ℕ) (own : List Object) → rooms (first_rows node own) ≡ ENTRY_ROOM + sum_by (λ o. o.room) own
+rooms-first node own = rooms-opened (entry_directory node ∷ own) ∙ sum_by-cons (λ o. o.room) (entry_directory node) own
+
 -- the home of a node at the start keeps what each home keeps
-pub IsHome-first_home : (node : ℕ) (start : Start) → IsStart start → CanBegin (objects_at node start.objects) → IsHome (first_home node (objects_at node start.objects))
+pub IsHome-first_home : (node : ℕ) (start : Start) → IsStart start → CanHomeBegin (at_home node start.objects) → IsHome (first_home node (at_home node start.objects))
 IsHome-first_home node start kept begins =
-    let own = objects_at node start.objects in
-    let room : HaveRooms own = HaveRooms-objects_at start.nodes start.greatest node start.objects kept.greatest_high kept.objects in
+    let own = at_home node start.objects in
+    let room : HaveRooms own = HaveRooms-at_home start.nodes start.greatest node start.objects kept.greatest_high kept.objects in
     let rest : AreRows (length own + 1) (map opened own) = first-within 2 (length own + 1) own begins.counters (omega arith) room in
-    let rows : AreRows (length own + 1) (first_rows own) = (omega arith, IsAttr-fresh Directory 8 (omega arith) (omega arith), rest) in
-    let few : length (first_rows own) ≤ rooms (first_rows own) = length-le-rooms (length own + 1) (first_rows own) rows in
-    let fits : rooms (first_rows own) ≤ 16384 = begins.fits in
+    let rows : AreRows (length own + 1) (first_rows node own) = (omega arith, IsAttr-fresh Directory 8 (omega arith) (omega arith), rest) in
+    let few : length (first_rows node own) ≤ rooms (first_rows node own) = length-le-rooms (length own + 1) (first_rows node own) rows in
+    let fits : rooms (first_rows node own) ≤ 16384 = rw (rooms-first node own) begins.fits in
     record {
       rising = (omega arith, first-rising 1 own begins.counters);
       rows = rows;
@@ -66,11 +80,11 @@ IsHome-first_home node start kept begins =
     }
 
 -- what the fields are once they are set
-pub begun : (node : ℕ) (start : Start) (items : List ObjectRow) (greatest taken : ℕ) (pages : Volume) → IsStart start → CanBegin (objects_at node start.objects)
-    → items ≡ first_rows (objects_at node start.objects) → greatest ≡ length items → taken ≡ rooms items → pages ≡ no_pages
+pub begun : (node : ℕ) (start : Start) (items : List ObjectRow) (greatest taken : ℕ) (pages : Volume) → IsStart start → CanHomeBegin (at_home node start.objects)
+    → items ≡ first_rows node (at_home node start.objects) → greatest ≡ length items → taken ≡ rooms items → pages ≡ no_pages
     → IsHome (record { node = node; objects = items; greatest = greatest; pages = pages }) × (taken ≡ rooms items)
 begun node start items greatest taken pages kept begins rows count sum empty =
-    let own = objects_at node start.objects in
+    let own = at_home node start.objects in
     let counted : greatest ≡ length own + 1 = omega (arith, count, ap length rows, length-map own opened) in
     let same : ◌≡◌ {A = HomeState} (record { node = node; objects = items; greatest = greatest; pages = pages }) (first_home node own) =
     λ i. record { node = node; objects = rows i; greatest = counted i; pages = empty i } in

@@ -1,11 +1,11 @@
 -- What each home keeps.
 use Rattle.std.specs.Prelude.{◌≡◌, ℕ, ◌*◌, ◌^◌, ◌<◌, ◌≤◌, List, [], ◌∷◌}
 use Rattle.uid_names.specs.declared.mode.TheConstants.{MAX_ROOM}
+use Rattle.uid_names.specs.declared.opening.TheConstants.{VOLUME_ROOM}
 use Rattle.page_store.specs.declared.pages.TheConstants.{PAGE_BYTES}
 use Rattle.page_store.specs.Volumes.{page_of, zeros}
 use Rattle.object_store.specs.declared.attributes.Attr.{Attr}
 use Rattle.object_store.specs.declared.attributes.ObjectRow.{ObjectRow}
-use Rattle.object_store.specs.declared.attributes.TheConstants.{VOLUME_ROOM}
 use Rattle.object_store.specs.Objects.{attr_at, room_of, rooms}
 use Rattle.object_store.specs.HomeStates.{HomeState}
 

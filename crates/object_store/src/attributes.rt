@@ -7,9 +7,6 @@ use crate::refusals::WriteRefusal;
 use page_store::PAGE_BYTES;
 use uid_names::ObjKind;
 
-/// The greatest sum of the rooms of a node's objects, in pages.
-pub const VOLUME_ROOM: u32 = 16_384;
-
 /// The attributes of an object: its kind, its room in pages, its length in bytes, and a stamp that is
 /// 1 when the object is made and rises by 1 at each write.
 #[derive(Clone, Copy, Debug, PartialEq, Eq)]

@@ -7,16 +7,17 @@ ghost use Rattle.object_store.specs.HomeStates.{attr_of, after_make, after_remov
 ghost use Rattle.object_store.specs.Objects.{rooms};
 ghost use Rattle.object_store.specs.Rules.{page_stamp, page_write, length_write, IsAnswerBy, TellsStamp};
 ghost use Rattle.object_store.specs.Kept.{IsAttr, IsHome};
-ghost use Rattle.object_store.specs.Beginnings.{CanBegin, objects_at, first_home};
+ghost use Rattle.uid_names.specs.Beginnings.{CanHomeBegin, at_home};
+ghost use Rattle.object_store.specs.Beginnings.{first_home};
 ghost use Rattle.object_store.specs.Places.{StandsAt};
 
-use crate::attributes::{Attr, ObjectRow, VOLUME_ROOM};
+use crate::attributes::{Attr, ObjectRow};
 use crate::refusals::{MakeFault, NoObject, WriteRefusal};
 use crate::rows::{first_rows, position, sum_of_rooms};
 use page_store::{PAGE_BYTES, Pages};
 use std::alloc::Global;
 use std::marker::Model;
-use uid_names::{MAX_ROOM, NoMemory, NodeId, ObjKind, Opening, Uid};
+use uid_names::{MAX_ROOM, NoMemory, NodeId, ObjKind, Opening, Uid, VOLUME_ROOM};
 
 /// The objects of a node and their pages.
 #[derive(Drop)]
@@ -54,8 +55,8 @@ impl<P: Pages> Home<P> {
         opening: &Opening,
     ) -> Result<Home<P>, NoMemory>
         requires empty { P.volume pages ≡ no_pages }
-        requires begins { CanBegin (objects_at node opening.now.objects) }
-        ensures first { IfOk result (λ home. home ≡ first_home node (objects_at node opening.now.objects)) }
+        requires begins { CanHomeBegin (at_home node opening.now.objects) }
+        ensures first { IfOk result (λ home. home ≡ first_home node (at_home node opening.now.objects)) }
         ensures few { IfOk result (λ home. home.greatest ≤ VOLUME_ROOM) }
         ensures kept { IfOk result IsHome }
     {

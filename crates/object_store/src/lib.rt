@@ -9,6 +9,6 @@ mod rows;
 #[cfg(test)]
 mod tests;
 
-pub use attributes::{Attr, VOLUME_ROOM};
+pub use attributes::Attr;
 pub use homes::Home;
 pub use refusals::{MakeFault, NoObject, WriteRefusal};

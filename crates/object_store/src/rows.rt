@@ -2,15 +2,23 @@
 ghost use Rattle.std.specs.Prelude.{◌≡◌, ◌^◌, ◌<◌, None, IfOk, MatchOption};
 ghost use Rattle.object_store.specs.Objects.{attr_at, rooms};
 ghost use Rattle.object_store.specs.Kept.{AreRising};
-ghost use Rattle.object_store.specs.Beginnings.{first_rows, objects_at};
+ghost use Rattle.uid_names.specs.Beginnings.{at_home};
+ghost use Rattle.object_store.specs.Beginnings.{opened, first_rows};
 ghost use Rattle.object_store.specs.Places.{IsRowAt};
 
 use crate::attributes::{Attr, ObjectRow};
 use std::alloc::Global;
-use uid_names::{NoMemory, NodeId, ObjKind, Object};
+use uid_names::{NoMemory, NodeId, Object};
 
-/// The room of a node's entry directory, in pages.
-const ENTRY_ROOM: u32 = 8;
+/// The row of an object that is there from the start.
+fn opened(object: &Object) -> ObjectRow
+    ensures { result ≡ opened object.now }
+{
+    ObjectRow {
+        counter: object.uid.counter(),
+        attr: Attr::fresh(object.kind, object.room),
+    }
+}
 
 /// The rows at the start: the entry directory, and the opening's objects at the node.
 pub(crate) fn first_rows(
@@ -18,19 +26,13 @@ pub(crate) fn first_rows(
     node: NodeId,
     objects: &[Object],
 ) -> Result<Vec<ObjectRow>, NoMemory>
-    ensures { IfOk result (λ rows. rows.items ≡ first_rows (objects_at node objects.now)) }
+    ensures { IfOk result (λ rows. rows.items ≡ first_rows node (at_home node objects.now)) }
 {
     let mut rows = Vec::new(alloc);
-    rows.push(ObjectRow {
-        counter: 1,
-        attr: Attr::fresh(ObjKind::Directory, ENTRY_ROOM),
-    })?;
+    rows.push(opened(&Object::entry_directory(node)))?;
     for object in objects {
         if object.uid.home() == node {
-            rows.push(ObjectRow {
-                counter: object.uid.counter(),
-                attr: Attr::fresh(object.kind, object.room),
-            })?;
+            rows.push(opened(object))?;
         }
     }
     Ok(rows)

@@ -6,7 +6,7 @@ use page_store::{ListPages, PAGE_BYTES, Pages};
 use std::alloc::{AllocError, Global};
 use std::process::Abort;
 use std::test::Fail;
-use uid_names::{NodeId, ObjKind, Opening, Uid};
+use uid_names::{NodeId, ObjKind, Opening, Uid, VOLUME_ROOM};
 
 /// The bytes of the pages that a test writes.
 type Page = [u8; PAGE_BYTES];

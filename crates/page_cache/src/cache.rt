@@ -4,6 +4,7 @@ ghost use Rattle.std.specs.Option.{option_map};
 ghost use Rattle.std.specs.List.{find};
 ghost use Rattle.std.specs.VecDeque.{deque_capacity};
 ghost use Rattle.uid_names.specs.Names.{same_uid};
+ghost use Rattle.page_frames.specs.Pools.{frame_at, with_frame, no_flags, free_count as frames_free};
 ghost use Rattle.page_cache.specs.Caches.{Cached, IsCache, IsResident, IsFrame, is_of, page_at, page_in, free_count};
 ghost use Rattle.page_cache.specs.Changes.{without_page, without_object, used, installed, with_flags, with_bytes};
 ghost use Rattle.page_cache.specs.Victims.{victim_of, name_of, oldest, is_choice};
@@ -71,6 +72,18 @@ fn remove_slot(order: &mut VecDeque<Slot>, uid: Uid, page: u32) -> Option<Slot>
 {
     let at = place_of(order, uid, page)?;
     order.remove(at)
+}
+
+// Fills a reserved frame.
+fn fill_reserved(pool: &mut Frames, reserved: &mut u16, bytes: &[u8; 1024]) -> FrameNo
+    requires free { 0 < frames_free pool.old }
+    requires some { 0 < reserved.old }
+    ensures free { frame_at pool.old result ≡ None }
+    ensures taken { pool.new ≡ with_frame pool.old result (record { bytes = bytes.now; flags = no_flags }) }
+    ensures reserved { reserved.new ≡ reserved.old - 1 }
+{
+    *reserved -= 1;
+    pool.take(bytes)
 }
 
 // The lower of the pages.
@@ -186,13 +199,12 @@ impl Cache {
         ensures err { OnErr result (self.new ≡ self.old) }
     {
         self.index.reserve(1)?;
-        let frame = self.pool.take(bytes);
+        let frame = fill_reserved(&mut self.pool, &mut self.reserved, bytes);
         match self.index.insert(PageName { uid, page }, frame) {
             Ok(_) => {}
             Err(_) => unreachable!(),
         }
         self.order.push_front_reserved(Slot { uid, page, frame });
-        self.reserved -= 1;
         Ok(())
     }
 

@@ -3,3 +3,8 @@ pub mod Modes
 pub mod Openings
 pub mod Texts
 pub mod FrameKinds
+pub mod NameTexts
+pub mod Rows
+pub mod InOrder
+pub mod Beginnings
+pub mod Segments

@@ -3,6 +3,8 @@ use Rattle.std.specs.Prelude.{ℕ, Bool, true, false, ◌||◌}
 use Rattle.uid_names.specs.Names.{ProcName}
 use Rattle.uid_names.specs.declared.mode.Mode.{Mode}
 use Rattle.uid_names.specs.declared.mode.Mode.TheVariants.{Read, Write}
+use Rattle.uid_names.specs.declared.mode.ObjKind.{ObjKind}
+use Rattle.uid_names.specs.declared.mode.ObjKind.TheVariants.{File, Directory, Link, Mail}
 
 abbrev pub mode_writes : Mode → Bool
 mode_writes Read = false
@@ -21,3 +23,10 @@ mode_letter Write = 119
 abbrev pub mode_code : Mode → ℕ
 mode_code Read = 1
 mode_code Write = 2
+
+-- the number of an object's kind in a frame
+abbrev pub object_code : ObjKind → ℕ
+object_code File = 1
+object_code Directory = 2
+object_code Link = 3
+object_code Mail = 4

@@ -7,6 +7,7 @@ pub mod laws;
 pub mod lists;
 pub mod mode;
 pub mod opening;
+pub mod segment;
 #[cfg(test)]
 mod tests;
 
@@ -14,4 +15,5 @@ pub use frame_kind::FrameKind;
 pub use ids::{BadUid, NodeId, Place, ProcId, Uid, UidSource};
 pub use lists::{ByteList, LockRow, LockRows, NoMemory};
 pub use mode::{MAX_ROOM, Mode, ObjKind, clash};
-pub use opening::{Object, Opening};
+pub use opening::{ENTRY_ROOM, Object, Opening, VOLUME_ROOM};
+pub use segment::{SEGMENT_PAGES, SEGMENT_SIZE, SEGMENTS, segments};

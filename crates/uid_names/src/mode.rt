@@ -1,7 +1,8 @@
 //! Modes of locks and kinds of objects. Every layer speaks of modes by these calls alone.
 ghost use Rattle.std.specs.Prelude.{◌≡◌, ◌≢◌, MatchOption};
-ghost use Rattle.uid_names.specs.Modes.{mode_writes, modes_clash, mode_letter, mode_code};
+ghost use Rattle.uid_names.specs.Modes.{mode_writes, modes_clash, mode_letter, mode_code, object_code};
 ghost use Rattle.uid_names.specs.declared.mode.Mode.{Mode};
+ghost use Rattle.uid_names.specs.declared.mode.ObjKind.{ObjKind};
 
 use crate::ids::ProcId;
 
@@ -84,4 +85,31 @@ pub enum ObjKind {
     Directory,
     Link,
     Mail,
+}
+
+impl ObjKind {
+    /// 1 to 4, as frames have it.
+    pub fn code(self) -> u8
+        ensures { result ≡ object_code self }
+    {
+        match self {
+            ObjKind::File => 1,
+            ObjKind::Directory => 2,
+            ObjKind::Link => 3,
+            ObjKind::Mail => 4,
+        }
+    }
+
+    /// The kind of this number in a frame.
+    pub fn from_code(code: u8) -> Option<ObjKind>
+        ensures { MatchOption result ((k : ObjKind) → code ≢ object_code k) (λ k. code ≡ object_code k) }
+    {
+        match code {
+            1 => Some(ObjKind::File),
+            2 => Some(ObjKind::Directory),
+            3 => Some(ObjKind::Link),
+            4 => Some(ObjKind::Mail),
+            _ => None,
+        }
+    }
 }

@@ -1,12 +1,19 @@
 //! What there is at the start.
 ghost use Rattle.std.specs.Prelude.{◌≡◌, ℕ, ◌≤◌, List, [], ◌∷◌, ◌++◌, length, All, IfOk, OnOk, OnErr};
 ghost use Rattle.uid_names.specs.Openings.{IsUnnamed, IsStart, with_object};
+ghost use Rattle.uid_names.specs.Beginnings.{entry_directory};
 
-use crate::ids::Uid;
+use crate::ids::{NodeId, Uid};
 use crate::lists::NoMemory;
 use crate::mode::{MAX_ROOM, ObjKind};
 use std::alloc::Global;
 use std::marker::Model;
+
+/// The room of a node's entry directory, in pages.
+pub const ENTRY_ROOM: u32 = 8;
+
+/// The greatest sum of the rooms of a node's objects, in pages.
+pub const VOLUME_ROOM: u32 = 16_384;
 
 /// An object, with what is fixed when it is made. The room is in pages.
 #[derive(Clone, Copy, Debug, PartialEq, Eq)]
@@ -14,6 +21,19 @@ pub struct Object {
     pub uid: Uid,
     pub kind: ObjKind,
     pub room: u32,
+}
+
+impl Object {
+    /// The entry directory of a node, which is there from the start.
+    pub fn entry_directory(node: NodeId) -> Object
+        ensures { result ≡ entry_directory node }
+    {
+        Object {
+            uid: Uid::from_parts(1, node),
+            kind: ObjKind::Directory,
+            room: ENTRY_ROOM,
+        }
+    }
 }
 
 /// The number of nodes, the greatest room, and the objects that are there from the start beside

@@ -53,6 +53,12 @@ fn modes_conflict_unless_both_read(rt: HostRuntime) -> Result<(), Fail> {
     assert_eq!(rt; Mode::from_letter(b'R'), None);
     assert_eq!(rt; Mode::from_code(1), Some(Mode::Read));
     assert_eq!(rt; Mode::from_code(0), None);
+    assert_eq!(rt;
+        ObjKind::from_code(ObjKind::Mail.code()),
+        Some(ObjKind::Mail)
+    );
+    assert_eq!(rt; ObjKind::from_code(0), None);
+    assert_eq!(rt; ObjKind::from_code(5), None);
     Ok(())
 }
 
@@ -93,8 +99,21 @@ fn an_opening_has_its_objects(rt: HostRuntime) -> Result<(), Fail> {
 }
 
 #[test]
+fn rooms_take_whole_segments(rt: HostRuntime) -> Result<(), Fail> {
+    assert_eq!(rt; segments(1), 1);
+    assert_eq!(rt; segments(32), 1);
+    assert_eq!(rt; segments(33), 2);
+    assert_eq!(rt; segments(MAX_ROOM), 32);
+    let entry = Object::entry_directory(node(3)?);
+    assert_eq!(rt; entry.uid.number(), 0x10_0003);
+    assert_eq!(rt; entry.room, ENTRY_ROOM);
+    Ok(())
+}
+
+#[test]
 fn lists_keep_what_is_pushed(rt: HostRuntime) -> Result<(), Fail> {
-    let mut bytes = ByteList::from_slice(rt.alloc(), b"ab")?;
+    let mut bytes = ByteList::with_capacity(rt.alloc(), 5)?;
+    bytes.extend(ByteList::from_slice(rt.alloc(), b"ab")?.bytes())?;
     bytes.push(b'c')?;
     bytes.extend(b"de")?;
     assert_eq!(rt; bytes.copy(rt.alloc())?.bytes(), b"abcde".as_slice());
@@ -105,6 +124,9 @@ fn lists_keep_what_is_pushed(rt: HostRuntime) -> Result<(), Fail> {
     };
     let mut rows = LockRows::new(rt.alloc());
     rows.push(row)?;
+    assert!(rt; row.is_of(row.proc, row.uid));
+    assert!(rt; row.is_before(row.uid, proc(2, 1)?) && row.is_after(row.uid, proc(1, 3)?));
+    assert!(rt; row.conflicts(proc(2, 1)?, Mode::Write) && !row.conflicts(row.proc, Mode::Write));
     assert_eq!(rt; rows.copy(rt.alloc())?.items(), [row].as_slice());
     Ok(())
 }

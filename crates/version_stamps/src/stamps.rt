@@ -11,15 +11,6 @@ pub struct Stamp {
     pub stamp: u64,
 }
 
-/// How many stamps stand before that of an object.
-fn place_of(rows: &[Stamp], uid: Uid) -> usize
-    requires { AreRising rows.now }
-    ensures place { result ≡ place_of uid rows.now }
-    ensures bound { result ≤ length rows.now }
-{
-    rows.partition_point(|row| row.uid.is_below(uid))
-}
-
 /// Where the stamp of an object stands; Err where it would.
 pub(crate) fn search(rows: &[Stamp], uid: Uid) -> Result<usize, usize>
     requires { AreRising rows.now }
@@ -27,9 +18,5 @@ pub(crate) fn search(rows: &[Stamp], uid: Uid) -> Result<usize, usize>
     ensures bound { MatchResult result (λ at. at < length rows.now) (λ at. at ≤ length rows.now) }
     ensures found { is_ok result ≡ is_some (stamp_of uid rows.now) }
 {
-    let at = place_of(rows, uid);
-    match rows.get(at) {
-        Some(row) if uid.is(row.uid) => Ok(at),
-        _ => Err(at),
-    }
+    rows.binary_search_by_key(&uid, |row| row.uid)
 }

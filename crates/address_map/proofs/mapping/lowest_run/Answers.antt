@@ -1,7 +1,8 @@
 use Rattle.std.proofs.Common.{◌≡◌, ◌∙◌, ℕ, ◌+◌, refl, sym}
 use Rattle.std.specs.Prelude.{find}
-use Rattle.address_map.specs.Runs.{is_free_run, starts_from}
-use Rattle.address_map.proofs.Finds.{find-starts_step, find-starts_end}
+use Rattle.uid_names.specs.Segments.{starts_from}
+use Rattle.address_map.specs.Runs.{is_free_run}
+use Rattle.uid_names.proofs.Runs.{find-starts_step, find-starts_end}
 use Rattle.address_map.proofs.mapping.lowest_run.Goals as goal
 
 -- the run that is free is the lowest, since no lower one was

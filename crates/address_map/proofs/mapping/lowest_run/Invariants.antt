@@ -1,6 +1,7 @@
 use Rattle.std.proofs.Common.{◌≡◌}
 use Rattle.std.specs.Prelude.{find}
-use Rattle.address_map.specs.Runs.{is_free_run, starts_from, lowest_run}
+use Rattle.uid_names.specs.Segments.{starts_from}
+use Rattle.address_map.specs.Runs.{is_free_run, lowest_run}
 use Rattle.address_map.proofs.mapping.lowest_run.Given as goal
 
 abbrev pub invariant-loop-first : goal.invariant-loop-first

@@ -1,6 +1,6 @@
 use Rattle.std.proofs.Common.{sym}
 use Rattle.address_map.specs.Mappings.{is_of}
-use Rattle.address_map.proofs.Finds.{found_at}
+use Rattle.uid_names.proofs.Finds.{found_at}
 use Rattle.address_map.proofs.mapping.mapping_of.Goals as goal
 
 -- the first that passes is found

@@ -1,6 +1,6 @@
 use Rattle.std.proofs.Common.{◌≡◌, drop}
 use Rattle.std.specs.Prelude.{find}
-use Rattle.lock_manager.specs.Rows.{conflicts}
+use Rattle.uid_names.specs.Rows.{conflicts}
 use Rattle.lock_manager.proofs.grants.conflict.Given as goal
 
 abbrev pub invariant-loop-grant : goal.invariant-loop-grant

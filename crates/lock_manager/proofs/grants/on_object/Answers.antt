@@ -5,10 +5,11 @@ use Rattle.std.proofs.lemmas.List.Kept.{AllPairs-filter}
 use Rattle.std.proofs.lemmas.List.Sorted.{IsPartitionPoint-from_clause}
 use Rattle.uid_names.specs.Names.{uid_lt}
 use Rattle.lock_manager.specs.declared.grants.Grant.{Grant}
-use Rattle.lock_manager.specs.Rows.{row_lt}
+use Rattle.uid_names.specs.Rows.{row_lt}
 use Rattle.lock_manager.specs.Grants.{is_on}
-use Rattle.lock_manager.proofs.Order.{uid_lt-before, not_uid_lt-before, same_uid-between}
-use Rattle.lock_manager.proofs.Parts.{partitioned, prefix_len-point, filter-front, filter-rest, filter-filter}
+use Rattle.uid_names.proofs.Orders.{uid_lt-before, not_uid_lt-before, same_uid-between}
+use Rattle.uid_names.proofs.Finds.{filter-filter}
+use Rattle.uid_names.proofs.InOrder.{partitioned, prefix_len-point, filter-front, filter-rest}
 use Rattle.lock_manager.proofs.grants.on_object.Goals as goal
 
 pub returns : goal.returns

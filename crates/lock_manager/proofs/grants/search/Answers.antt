@@ -1,23 +1,19 @@
-use Rattle.std.proofs.Common.{◌<◌, ◌≤◌, length, refl, arith}
-use Rattle.std.proofs.lemmas.Bool.Decides.{nat_tests}
-use Rattle.lock_manager.proofs.Places.{grant_of-read, grant_of-past}
+use Rattle.std.proofs.Common.{rules}
+use Rattle.std.proofs.lemmas.List.Sorted.{answers_always}
+use Rattle.uid_names.specs.Rows.{is_before, same_row}
+use Rattle.uid_names.proofs.InOrder.{IsSearch}
+use Rattle.lock_manager.proofs.Places.{found-search}
 use Rattle.lock_manager.proofs.grants.search.Goals as goal
 
--- the grant at the place is that of the process on the object
-pub returns-in-Some-clause-found : goal.returns-in-Some-clause-found
-returns-in-Some-clause-found c =
-    let below : c.place_of-at.result < length c.args.grants.now = grind (arith, nat_tests, c.in-Some.ensures.lookup.0) in
-    rw (grant_of-read c.args.proc c.args.uid c.args.grants.now c.requires c.place_of-at.result c.in-Some.grant.now c.place_of-at.ensures.place below c.in-Some.ensures.lookup.1, ← c.if-is_row_of.ensures) refl
+-- the closure gives the object and the process of a grant
+answer : (c : goal.After-binary_search_by_key) → IsSearch (λ g. is_before g.row c.args.uid c.args.proc) (λ g. same_row c.args.proc c.args.uid g.row) c.args.grants.now c.binary_search_by_key.result
+answer c =
+    let facts = c.binary_search_by_key.ensures in
+    let by_names = facts.position (λ g. (g.row.uid, g.row.proc)) (answers_always _ _ _ (λ f a r g called. search rules)) in
+    found-search c.args.proc c.args.uid c.args.grants.now c.binary_search_by_key.result c.requires facts.bound by_names
 
--- it is another
-pub returns-in_default-clause-found : goal.returns-in_default-clause-found
-returns-in_default-clause-found c =
-    let below : c.place_of-at.result < length c.args.grants.now = grind (arith, nat_tests, c.in-Some.ensures.lookup.0) in
-    rw (grant_of-read c.args.proc c.args.uid c.args.grants.now c.requires c.place_of-at.result c.in-Some.grant.now c.place_of-at.ensures.place below c.in-Some.ensures.lookup.1, ← c.if-is_row_of.ensures) refl
+pub returns-clause-place : goal.returns-clause-place
+returns-clause-place c = (answer c).place
 
--- there is none
-pub returns-in_default-2-clause-found : goal.returns-in_default-2-clause-found
-returns-in_default-2-clause-found c =
-    let none = rw c.in_default.is at c.get.ensures.lookup.0 in
-    let past : length c.args.grants.now ≤ c.place_of-at.result = grind (arith, nat_tests, none) in
-    rw (grant_of-past c.args.proc c.args.uid c.args.grants.now c.requires c.place_of-at.result c.place_of-at.ensures.place past) refl
+pub returns-clause-found : goal.returns-clause-found
+returns-clause-found c = (answer c).found

@@ -1,5 +1,5 @@
 use Rattle.std.proofs.Common.{◌≡◌, take}
-use Rattle.lock_manager.specs.Rows.{rows_of}
+use Rattle.lock_manager.specs.Grants.{rows_of}
 use Rattle.lock_manager.proofs.locks.first_rows.Given as goal
 
 abbrev pub invariant-loop-grant : goal.invariant-loop-grant

@@ -1,23 +1,21 @@
-use Rattle.std.proofs.Common.{◌<◌, ◌≤◌, length, refl, arith}
-use Rattle.std.proofs.lemmas.Bool.Decides.{nat_tests}
-use Rattle.version_stamps.proofs.Places.{stamp_of-read, stamp_of-past}
+use Rattle.std.proofs.Common.{◌∙◌, sym, rules}
+use Rattle.std.specs.Prelude.{find}
+use Rattle.std.proofs.lemmas.List.Sorted.{answers_always}
+use Rattle.uid_names.specs.Names.{uid_lt}
+use Rattle.uid_names.proofs.InOrder.{IsSearch}
+use Rattle.version_stamps.specs.Stamps.{is_of}
+use Rattle.version_stamps.proofs.Places.{found-search, is_some-stamp_in}
 use Rattle.version_stamps.proofs.stamps.search.Goals as goal
 
--- the row at the place is that of the object
-pub returns-in-Some-clause-found : goal.returns-in-Some-clause-found
-returns-in-Some-clause-found c =
-    let below : c.place_of-at.result < length c.args.rows.now = grind (arith, nat_tests, c.in-Some.ensures.lookup.0) in
-    rw (stamp_of-read c.args.uid c.args.rows.now c.requires c.place_of-at.result c.in-Some.row.now c.place_of-at.ensures.place below c.in-Some.ensures.lookup.1, ← c.if-is.ensures) refl
+-- the closure gives a row's object
+answer : (c : goal.After-binary_search_by_key) → IsSearch (λ row. uid_lt row.uid c.args.uid) (is_of c.args.uid) c.args.rows.now c.binary_search_by_key.result
+answer c =
+    let facts = c.binary_search_by_key.ensures in
+    let by_uid = facts.position (λ row. row.uid) (answers_always _ _ _ (λ f a r g called. search rules)) in
+    found-search c.args.uid c.args.rows.now c.binary_search_by_key.result c.requires facts.bound by_uid
 
--- it is another
-pub returns-in_default-clause-found : goal.returns-in_default-clause-found
-returns-in_default-clause-found c =
-    let below : c.place_of-at.result < length c.args.rows.now = grind (arith, nat_tests, c.in-Some.ensures.lookup.0) in
-    rw (stamp_of-read c.args.uid c.args.rows.now c.requires c.place_of-at.result c.in-Some.row.now c.place_of-at.ensures.place below c.in-Some.ensures.lookup.1, ← c.if-is.ensures) refl
+pub returns-clause-place : goal.returns-clause-place
+returns-clause-place c = (answer c).place
 
--- there is none
-pub returns-in_default-2-clause-found : goal.returns-in_default-2-clause-found
-returns-in_default-2-clause-found c =
-    let none = rw c.in_default.is at c.get.ensures.lookup.0 in
-    let past : length c.args.rows.now ≤ c.place_of-at.result = grind (arith, nat_tests, none) in
-    rw (stamp_of-past c.args.uid c.args.rows.now c.requires c.place_of-at.result c.place_of-at.ensures.place past) refl
+pub returns-clause-found : goal.returns-clause-found
+returns-clause-found c = (answer c).found ∙ sym (is_some-stamp_in (find (is_of c.args.uid) c.args.rows.now))

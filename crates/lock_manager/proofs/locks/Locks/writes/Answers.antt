@@ -1,6 +1,6 @@
 use Rattle.std.proofs.Common.{sym}
 use Rattle.lock_manager.specs.Grants.{is_on, writes_under}
-use Rattle.lock_manager.proofs.Parts.{list_any-and}
+use Rattle.uid_names.proofs.Finds.{list_any-and}
 use Rattle.lock_manager.proofs.locks.Locks.writes.Goals as goal
 
 pub returns : goal.returns

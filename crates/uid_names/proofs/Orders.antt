@@ -1,24 +1,28 @@
--- The order of rows: by object, then by process.
+-- The orders of names and of rows: rows stand by object, then by process.
 use Rattle.std.proofs.Common.{◌≡◌, Bool, true, false, refl, ap, ◌∙◌, inl, inr, ◌⊎◌, arith}
-use Rattle.std.specs.Prelude.{not, ◌&&◌, ◌||◌}
+use Rattle.std.specs.Prelude.{not, ◌&&◌, ◌||◌, Some}
 use Rattle.std.proofs.lemmas.Bool.Decides.{nat_tests}
 use Rattle.uid_names.specs.Names.{ProcName, ObjectName, same_uid, same_proc, uid_lt, proc_lt}
+use Rattle.uid_names.specs.contracts.ids.UidOrd.TheImpl as uid_order
+use Rattle.uid_names.specs.contracts.ids.ProcIdOrd.TheImpl as proc_order
+use Rattle.std.specs.Ordering.{nat_cmp, ordering_then}
+use Rattle.uid_names.proofs.InOrder.{Agrees, Agrees-nat, Agrees-then}
 use Rattle.uid_names.specs.declared.lists.LockRow.{LockRow}
-use Rattle.lock_manager.specs.Rows.{is_before, is_after, row_lt, same_row}
+use Rattle.uid_names.specs.Rows.{is_before, is_after, row_lt, same_row}
 
 -- an order by one thing and then by another
-first_or_second : (x y z : Bool) → (x || (y && z)) ≡ true → (x ≡ true) ⊎ ((y ≡ true) × (z ≡ true))
+pub first_or_second : (x y z : Bool) → (x || (y && z)) ≡ true → (x ≡ true) ⊎ ((y ≡ true) × (z ≡ true))
 first_or_second true y z e = inl refl
 first_or_second false true true e = inr (refl, refl)
 first_or_second false true false e = absurd cc
 first_or_second false false z e = absurd cc
 
 -- by the first thing
-by_first : (x w : Bool) → x ≡ true → (x || w) ≡ true
+pub by_first : (x w : Bool) → x ≡ true → (x || w) ≡ true
 by_first x w e = rw e refl
 
 -- by the second thing
-by_second : (x y z : Bool) → y ≡ true → z ≡ true → (x || (y && z)) ≡ true
+pub by_second : (x y z : Bool) → y ≡ true → z ≡ true → (x || (y && z)) ≡ true
 by_second true y z e f = refl
 by_second false y z e f = rw (e, f) refl
 
@@ -27,19 +31,31 @@ pub uid_lt-trans : (u v w : ObjectName) → uid_lt u v ≡ true → uid_lt v w �
 uid_lt-trans u v w e f = grind (arith, nat_tests, e, f)
 
 -- an object is below each name of a greater one
-uid_lt-same : (u v w : ObjectName) → uid_lt u v ≡ true → same_uid v w ≡ true → uid_lt u w ≡ true
+pub uid_lt-same : (u v w : ObjectName) → uid_lt u v ≡ true → same_uid v w ≡ true → uid_lt u w ≡ true
 uid_lt-same u v w e f = grind (arith, nat_tests, e, f)
 
 -- each name of an object is below a greater one
-same-uid_lt : (u v w : ObjectName) → same_uid u v ≡ true → uid_lt v w ≡ true → uid_lt u w ≡ true
+pub same-uid_lt : (u v w : ObjectName) → same_uid u v ≡ true → uid_lt v w ≡ true → uid_lt u w ≡ true
 same-uid_lt u v w e f = grind (arith, nat_tests, e, f)
 
 -- names of one object are the same
-same_uid-trans : (u v w : ObjectName) → same_uid u v ≡ true → same_uid v w ≡ true → same_uid u w ≡ true
+pub same_uid-trans : (u v w : ObjectName) → same_uid u v ≡ true → same_uid v w ≡ true → same_uid u w ≡ true
 same_uid-trans u v w e f = grind (arith, nat_tests, e, f)
 
+-- of two objects one is below the other
+pub uid_lt-total : (u v : ObjectName) → uid_lt v u ≡ false → same_uid u v ≡ false → uid_lt u v ≡ true
+uid_lt-total u v e f = grind (arith, nat_tests, e, f)
+
+-- an object that is below another is not that one
+pub uid_lt-apart : (u v : ObjectName) → uid_lt v u ≡ true → same_uid u v ≡ false
+uid_lt-apart u v e = grind (arith, nat_tests, e)
+
+-- an object above one that is not below a third is not the third
+pub uid_later_apart : (u v w : ObjectName) → uid_lt v w ≡ true → uid_lt v u ≡ false → same_uid u w ≡ false
+uid_later_apart u v w e f = grind (arith, nat_tests, e, f)
+
 -- processes are in one order
-proc_lt-trans : (p q r : ProcName) → proc_lt p q ≡ true → proc_lt q r ≡ true → proc_lt p r ≡ true
+pub proc_lt-trans : (p q r : ProcName) → proc_lt p q ≡ true → proc_lt q r ≡ true → proc_lt p r ≡ true
 proc_lt-trans p q r e f = grind (arith, nat_tests, e, f)
 
 -- by which of the two things the three stand apart
@@ -59,6 +75,10 @@ row_lt-trans a b c e f =
 -- of two rows that are not of one process and object, one stands before the other
 pub row_lt-total : (a b : LockRow) → row_lt b a ≡ false → same_row a.proc a.uid b ≡ false → row_lt a b ≡ true
 row_lt-total a b e f = grind (arith, nat_tests, e, f)
+
+-- a row that stands before another is not that one
+pub row_lt-apart : (a b : LockRow) → row_lt a b ≡ true → same_row a.proc a.uid b ≡ false
+row_lt-apart a b e = grind (arith, nat_tests, e)
 
 -- a row that stands before that of a process on an object is not that one
 pub is_before-apart : (row : LockRow) (u : ObjectName) (p : ProcName) → is_before row u p ≡ true → same_row p u row ≡ false
@@ -107,12 +127,12 @@ later_apart a b u p e f = by_test (same_row p u b) refl
     by_test false same = refl
 
 -- what is not behind a row stays so before it
-pub not_after-trans : (a b : LockRow) (u : ObjectName) (p : ProcName) → row_lt a b ≡ true → not (is_after u p b) ≡ true → not (is_after u p a) ≡ true
-not_after-trans a b u p e f = by_test (is_after u p a) refl
+pub not_after-trans : (a b : LockRow) (u : ObjectName) (p : ProcName) → row_lt a b ≡ true → not (is_after (Some (u, p)) b) ≡ true → not (is_after (Some (u, p)) a) ≡ true
+not_after-trans a b u p e f = by_test (is_after (Some (u, p)) a) refl
   where
-    by_test : (t : Bool) → is_after u p a ≡ t → not t ≡ true
+    by_test : (t : Bool) → is_after (Some (u, p)) a ≡ t → not t ≡ true
     by_test true above =
-        let h : is_after u p b ≡ true = row_lt-trans (record { uid = u; proc = p; mode = b.mode }) a b above e in
+        let h : is_after (Some (u, p)) b ≡ true = row_lt-trans (record { uid = u; proc = p; mode = b.mode }) a b above e in
         absurd (grind (arith, nat_tests, f, h))
     by_test false above = refl
 
@@ -127,3 +147,23 @@ not_uid_lt-before a b u e f = grind (arith, nat_tests, e, f)
 -- an object that is neither below nor above another is that one
 pub same_uid-between : (u v : ObjectName) → not (uid_lt v u) && not (uid_lt u v) ≡ same_uid u v
 same_uid-between u v = grind (arith, nat_tests)
+
+-- objects compare as their names stand
+Agrees-uid : (u v : ObjectName) → Agrees (uid_order.ghosts.cmp u v) (uid_lt u v) (same_uid u v)
+Agrees-uid u v = Agrees-then (nat_cmp u.counter v.counter) (nat_cmp u.home v.home) _ _ _ _ (Agrees-nat u.counter v.counter) (Agrees-nat u.home v.home)
+
+-- and processes
+Agrees-proc : (p q : ProcName) → Agrees (proc_order.ghosts.cmp p q) (proc_lt p q) (same_proc p q)
+Agrees-proc p q = Agrees-then (nat_cmp p.node q.node) (nat_cmp p.number q.number) _ _ _ _ (Agrees-nat p.node q.node) (Agrees-nat p.number q.number)
+
+-- a name of an object against the one that is looked for
+pub Agrees-object : (u v : ObjectName) → Agrees (uid_order.ghosts.cmp v u) (uid_lt v u) (same_uid u v)
+Agrees-object u v =
+    let turned : same_uid u v ≡ same_uid v u = grind (arith, nat_tests) in
+    rw turned (Agrees-uid v u)
+
+-- a row against that of p on u
+pub Agrees-row : (p : ProcName) (u : ObjectName) (row : LockRow) → Agrees (ordering_then (uid_order.ghosts.cmp row.uid u) (proc_order.ghosts.cmp row.proc p)) (is_before row u p) (same_row p u row)
+Agrees-row p u row =
+    let turned : same_row p u row ≡ (same_uid row.uid u && same_proc row.proc p) = grind (arith, nat_tests) in
+    rw turned (Agrees-then (uid_order.ghosts.cmp row.uid u) (proc_order.ghosts.cmp row.proc p) _ _ _ _ (Agrees-uid row.uid u) (Agrees-proc row.proc p))

@@ -1,18 +1,13 @@
--- Rows of locks: their order, and which of them a list tells.
-use Rattle.std.specs.Prelude.{Bool, not, ◌||◌, ◌&&◌, Option, Some, None, List, map, filter}
+-- Rows of locks: their order, which one stands against a request, and which of them a list tells.
+use Rattle.std.specs.Prelude.{Bool, true, not, ◌||◌, ◌&&◌, Option, Some, None, List, filter}
 use Rattle.uid_names.specs.Names.{ProcName, ObjectName, same_proc, same_uid, proc_lt, uid_lt}
 use Rattle.uid_names.specs.Modes.{modes_clash}
 use Rattle.uid_names.specs.declared.lists.LockRow.{LockRow}
 use Rattle.uid_names.specs.declared.mode.Mode.{Mode}
-use Rattle.lock_manager.specs.declared.grants.Grant.{Grant}
 
 -- the row stands before that of p on u: by object, then by process
 abbrev pub is_before : LockRow → ObjectName → ProcName → Bool
 is_before row u p = uid_lt row.uid u || (same_uid row.uid u && proc_lt row.proc p)
-
--- the row stands behind that of p on u
-abbrev pub is_after : ObjectName → ProcName → LockRow → Bool
-is_after u p row = uid_lt u row.uid || (same_uid u row.uid && proc_lt p row.proc)
 
 -- the order of rows
 abbrev pub row_lt : LockRow → LockRow → Bool
@@ -30,11 +25,11 @@ conflicts p m row = not (same_proc p row.proc) && modes_clash p m row.proc row.m
 abbrev pub is_in_conflict : ProcName → ObjectName → Mode → LockRow → Bool
 is_in_conflict p u m row = same_uid u row.uid && conflicts p m row
 
--- the rows of grants
-abbrev pub rows_of : List Grant → List LockRow
-rows_of grants = map (λ g. g.row) grants
+-- the row stands behind the one of an object and a process, or behind none
+abbrev pub is_after : Option (ObjectName × ProcName) → LockRow → Bool
+is_after None row = true
+is_after (Some (u, p)) row = uid_lt u row.uid || (same_uid u row.uid && proc_lt p row.proc)
 
 -- the rows behind one, or all of them
 abbrev pub rows_after : Option (ObjectName × ProcName) → List LockRow → List LockRow
-rows_after None rows = rows
-rows_after (Some (u, p)) rows = filter (is_after u p) rows
+rows_after after rows = filter (is_after after) rows
