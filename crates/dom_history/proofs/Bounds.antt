@@ -14,9 +14,11 @@ use Rattle.dom_history.specs.declared.op.Reply.{Reply}
 use Rattle.dom_history.specs.declared.op.Reply.TheVariants.{Made, Fine, At, NoLock, WrongMode, PastRoom}
 use Rattle.dom_history.specs.declared.deed.Deed.{Deed}
 use Rattle.dom_history.specs.Effects.{Effect, Makes, Locks, Unlocks, Deletes, Writes, Maps, Unmaps, effect_of, effects}
-use Rattle.dom_history.specs.Objects.{made, room_of, room_or_none, entry_directories, entry_directory}
+use Rattle.uid_names.specs.Beginnings.{entry_directory}
+use Rattle.dom_history.specs.Objects.{made, room_of, room_or_none, entry_directories}
 use Rattle.dom_history.specs.Bytes.{length_of, end_after}
-use Rattle.dom_history.specs.Mappings.{Mapping, mappings, Target, target, segment_size}
+use Rattle.uid_names.specs.declared.segment.TheConstants.{SEGMENT_SIZE}
+use Rattle.dom_history.specs.Mappings.{Mapping, mappings, Target, target}
 use Rattle.dom_history.specs.Ranges.{IsOp}
 use Rattle.dom_history.specs.Fitting.{Fits, FitsLength, FitsMap}
 use Rattle.dom_history.specs.Replies.{Before, before_of, reply_of, store_reply, map_reply}
@@ -72,7 +74,7 @@ stored_in_room b (Some t) bytes e s is =
     subst (λ s. s.offset + length bytes ≤ 1024 * room_of b.opening b.past s.uid) same within
 
 -- a run of segments begins at one
-run_starts_segment : (n : ℕ) → n < 256 → IsSegmentStart (n * segment_size)
+run_starts_segment : (n : ℕ) → n < 256 → IsSegmentStart (n * SEGMENT_SIZE)
 run_starts_segment n h = (grind (arith, h), omega (arith, h))
 
 -- a mapping that is new begins at a segment
@@ -80,7 +82,7 @@ mapped_at_start : (b : Before) (p : ProcName) (u : ObjectName) (a : ℕ) → At 
 mapped_at_start b p u a =
     map_reply-one (λ r. At a true ≡ r → IsSegmentStart a) b p u
     (λ e. absurd cc) (λ m is e. absurd cc) (λ e. absurd cc) (λ e. absurd cc)
-    (λ n small e. let same : a ≡ n * segment_size = cc in rw same (run_starts_segment n small))
+    (λ n small e. let same : a ≡ n * SEGMENT_SIZE = cc in rw same (run_starts_segment n small))
 
 module _ (opening : Start) (past : List Effect) (h : AreBounded opening past) where
   -- a new object keeps the bounds
@@ -152,7 +154,7 @@ opening_bounded opening start = record {
 }
 
 -- and so is what was answered from there
-past_bounded : (opening : Start) → IsStart opening → (past : List Deed) → AreAnswered opening past → All (λ d. IsOp d.op) past → AreBounded opening (effects past)
+pub past_bounded : (opening : Start) → IsStart opening → (past : List Deed) → AreAnswered opening past → All (λ d. IsOp d.op) past → AreBounded opening (effects past)
 past_bounded opening start [] h ranges = opening_bounded opening start
 past_bounded opening start (d ∷ past) h ranges =
     answer_bounded (before_of opening past d.proc) d.proc d.op d.reply (All-head (λ e. IsOp e.op) d past ranges) h.0

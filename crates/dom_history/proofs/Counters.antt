@@ -1,8 +1,8 @@
 -- How far the counters rise.
-use Rattle.std.proofs.Common.{◌≡◌, ◌≤◌, ◌<◌, ◌+◌, ◌^◌, ℕ, zero, suc, Bool, true, false, List, [], ◌∷◌, ◌++◌, reverse, length, refl, ◌∙◌, ap, arith}
+use Rattle.std.proofs.Common.{◌≡◌, ◌≤◌, ◌<◌, ◌+◌, ◌^◌, ℕ, zero, suc, Bool, true, false, List, [], ◌∷◌, ◌++◌, reverse, length, refl, ap, arith}
 use Rattle.std.specs.Prelude.{fold, sum_by, max, nat_lt, not, ◌==◌, if◌then◌else◌, All}
 use Rattle.std.proofs.lemmas.List.{length-reverse}
-use Rattle.std.proofs.lemmas.List.Elements.{filter-append, All-nil, All-head, All-tail, All-filter}
+use Rattle.std.proofs.lemmas.List.Elements.{filter-append, All-head, All-tail, All-filter}
 use Rattle.std.proofs.lemmas.List.Sums.{fold-append, sum_by-append}
 use Rattle.std.proofs.lemmas.Bool.{eqb-true}
 use Rattle.uid_names.specs.Names.{ProcName, ObjectName}
@@ -14,16 +14,17 @@ use Rattle.dom_history.specs.declared.op.Reply.{Reply}
 use Rattle.dom_history.specs.declared.op.Reply.TheVariants.{Made, NoSpace, Fine, At}
 use Rattle.dom_history.specs.declared.deed.Deed.{Deed}
 use Rattle.dom_history.specs.Effects.{effect_of, effects}
-use Rattle.dom_history.specs.Objects.{is_node, made, at_home, entry_directories, entry_directory, greatest_counter, room_taken}
+use Rattle.uid_names.specs.declared.opening.TheConstants.{VOLUME_ROOM}
+use Rattle.uid_names.specs.Beginnings.{at_home, entry_directory}
+use Rattle.dom_history.specs.Objects.{is_node, made, entry_directories, greatest_counter, room_taken}
 use Rattle.dom_history.specs.Replies.{Before, before_of, reply_of, new_reply}
 use Rattle.dom_history.specs.Runs.{AreAnswered}
-use Rattle.dom_history.specs.Plain.{CanBegin, AreNumbered, IsPlainDeed}
-use Rattle.dom_history.proofs.MadeObjects.{present-made}
-use Rattle.dom_history.proofs.Volumes.{rooms, greatest, greatest-push}
+use Rattle.uid_names.specs.Beginnings.{CanBegin, AreNumbered}
+use Rattle.dom_history.proofs.Volumes.{greatest, greatest-push}
 
 -- what a New that was made was given
 new-made : (b : Before) (home room : ℕ) (u : ObjectName) → Made u ≡ new_reply b home room → u ≡ record { counter = greatest_counter b.opening b.past home + 1; home = home }
-new-made b home room u e = first_of_four (not (is_node b.opening home)) (nat_lt b.opening.greatest room) (nat_lt 16384 (room_taken b.opening b.past home + room)) u _ e where
+new-made b home room u e = first_of_four (not (is_node b.opening home)) (nat_lt b.opening.greatest room) (nat_lt VOLUME_ROOM (room_taken b.opening b.past home + room)) u _ e where
   first_of_four : (x y z : Bool) (u v : ObjectName) → Made u ≡ (if x then NoSpace else (if y then NoSpace else (if z then NoSpace else Made v))) → u ≡ v
   first_of_four true y z u v e = cc
   first_of_four false true z u v e = cc
@@ -82,21 +83,17 @@ directories-bound (suc n) h = rw (greatest-push h (entry_directories n) (entry_d
   by_test false below = below
 
 -- a home has no more declared objects than its volume has pages
-length-declared : (opening : Start) (h : ℕ) → CanBegin opening → IsStart opening → length (at_home h opening.objects) ≤ 16384
+length-declared : (opening : Start) (h : ℕ) → CanBegin opening → IsStart opening → length (at_home h opening.objects) ≤ VOLUME_ROOM
 length-declared opening h begun start =
     let declared = All-filter (λ o. o.uid.home == h) (IsDeclarable opening.nodes opening.greatest) opening.objects start.objects in
     let least = length-rooms opening.nodes opening.greatest (at_home h opening.objects) declared in
-    let all : room_taken opening [] h ≡ rooms h (made opening []) = ap (λ os. sum_by (λ o. o.room) (at_home h os)) (present-made opening [] (All-nil IsPlainDeed)) in
-    let parts : rooms h (made opening []) ≡ rooms h (entry_directories opening.nodes) + rooms h opening.objects =
-    ap (sum_by (λ o. o.room)) (filter-append (λ o. o.uid.home == h) (entry_directories opening.nodes) opening.objects)
-    ∙ sum_by-append (λ o. o.room) (at_home h (entry_directories opening.nodes)) (at_home h opening.objects) in
-    omega (arith, least, all, parts, begun.rooms h)
+    omega (arith, least, (begun.homes h).fits)
 
 -- an opening from which a store can begin has counters below 16,386
 opening-bound : (opening : Start) (h : ℕ) → CanBegin opening → IsStart opening → greatest_counter opening [] h ≤ 16386
 opening-bound opening h begun start =
     rw (filter-append (λ o. o.uid.home == h) (entry_directories opening.nodes) opening.objects, fold-append (λ a o. max a o.uid.counter) 0 (at_home h (entry_directories opening.nodes)) (at_home h opening.objects))
-    (numbered-bound 2 (greatest h (entry_directories opening.nodes)) 16386 (at_home h opening.objects) (begun.counters h)
+    (numbered-bound 2 (greatest h (entry_directories opening.nodes)) 16386 (at_home h opening.objects) (begun.homes h).counters
     (omega (arith, directories-bound opening.nodes h))
     (omega (arith, length-declared opening h begun start)))
 

@@ -9,7 +9,8 @@ use Rattle.dom_history.specs.declared.op.Op.TheVariants.{New, Lock, Unlock, Dele
 use Rattle.dom_history.specs.declared.op.Reply.TheVariants.{NotMapped}
 use Rattle.dom_history.specs.Fitting.{Fits, FitsNew, FitsLock, FitsUnlock, FitsDelete, FitsLoad, FitsStore, FitsUnmap, FitsList}
 use Rattle.dom_history.specs.Mappings.{target}
-use Rattle.dom_history.specs.Replies.{Before, reply_of, rows_after}
+use Rattle.uid_names.specs.Rows.{rows_after}
+use Rattle.dom_history.specs.Replies.{Before, reply_of}
 use Rattle.dom_history.specs.Locks.{rows}
 use Rattle.dom_history.specs.Runs.{IsFaultless}
 use Rattle.dom_history.proofs.ReplyRows.{new_reply-one, lock_reply-one, unlock_reply-one, delete_reply-one, load_reply-one, store_reply-one, length_reply-one, map_reply-one, unmap_reply-one, list_reply-one}

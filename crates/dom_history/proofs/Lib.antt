@@ -3,11 +3,10 @@ pub mod Before
 pub mod Tables
 pub mod Endings
 pub mod Names
-pub mod Unique
 pub mod PlainRuns
 pub mod ReplyRows
 pub mod Fits
-pub mod RunsAlone
+pub mod PlainEntries
 pub mod Bounds
 pub mod RowOrder
 pub mod Decisions
@@ -15,3 +14,10 @@ pub mod PageBytes
 pub mod MadeObjects
 pub mod Volumes
 pub mod Counters
+pub mod SetFates
+pub mod PageOrder
+pub mod KeptObjects
+pub mod KeptLocks
+pub mod KeptMaps
+pub mod HeldObjects
+pub mod MapReplies

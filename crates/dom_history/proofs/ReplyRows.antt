@@ -2,7 +2,7 @@
 use Rattle.std.proofs.Common.{◌≡◌, ◌<◌, ◌≤◌, ◌*◌, ℕ, zero, suc, Bool, true, false, List, [], ◌∷◌, length, take, refl, subst, arith, length-append}
 use Rattle.std.specs.Prelude.{All, if◌then◌else◌, Option, Some, None, find}
 use Rattle.std.proofs.lemmas.List.{length-take}
-use Rattle.std.proofs.lemmas.List.Elements.{All-nil, All-head, All-tail, All-push}
+use Rattle.std.proofs.lemmas.List.Elements.{All-head, All-tail}
 use Rattle.uid_names.specs.Names.{ProcName, ObjectName}
 use Rattle.uid_names.specs.Openings.{Start}
 use Rattle.uid_names.specs.declared.lists.LockRow.{LockRow}
@@ -10,7 +10,10 @@ use Rattle.uid_names.specs.declared.mode.Mode.{Mode}
 use Rattle.dom_history.specs.declared.op.Reply.{Reply}
 use Rattle.dom_history.specs.declared.op.Reply.TheVariants.{Made, Fine, Bytes, Size, At, Locks as LocksReply, Conflict, NoObject, AlreadyHeld, NotHeld, Unsettled, TooMany, NoLock, WrongMode, PastRoom, PastEnd, NoSpace, TooManyMaps, NoSegment, NotMapped}
 use Rattle.dom_history.specs.Effects.{Effect}
-use Rattle.dom_history.specs.Mappings.{Mapping, Target, numbers, lowest_run, segments, segment_size}
+use Rattle.uid_names.specs.Segments.{segments}
+use Rattle.uid_names.specs.declared.segment.TheConstants.{SEGMENT_SIZE}
+use Rattle.uid_names.proofs.Runs.{starts-below}
+use Rattle.dom_history.specs.Mappings.{Mapping, Target, lowest_run}
 use Rattle.dom_history.specs.Bytes.{bytes_from, length_of}
 use Rattle.dom_history.specs.Objects.{room_of}
 use Rattle.dom_history.specs.Replies.{Before, new_reply, lock_reply, conflict_or_fine, unlock_reply, delete_reply, load_reply, store_reply, length_reply, map_reply, map_anew_reply, run_or_none, mapping_of, unmap_reply, list_reply}
@@ -37,12 +40,6 @@ found_by P y x rest false h later e = later e
 pub found : {X : Type 0} (P : X → Type 0) (t : X → Bool) (xs : List X) → All P xs → (x : X) → find t xs ≡ Some x → P x
 found P t [] h x e = absurd (none_not_some x e)
 found P t (y ∷ xs) h x e = found_by P y x (find t xs) (t y) (All-head P y xs h) (found P t xs (All-tail P y xs h) x) e
-
--- the numbers below n are below n
-numbers-below : (n : ℕ) → All (λ k. k < n) (numbers n)
-unfolding numbers
-numbers-below zero = All-nil (λ k. k < 0)
-numbers-below (suc n) = All-push (λ k. k < suc n) (numbers n) n (λ k d below. let h = numbers-below n k d below in omega (arith, h)) (omega arith)
 
 module _ (P : Reply → Type 0) where
   -- what holds of both holds of the chosen one
@@ -88,22 +85,22 @@ module _ (P : Reply → Type 0) where
     length_reply-one u no_lock size = search (either, no_lock, size)
 
     -- a run of segments, or none
-    run_or_none-one : (first : Option ℕ) → P NoSegment → ((n : ℕ) → first ≡ Some n → P (At (n * segment_size) true)) → P (run_or_none first)
+    run_or_none-one : (first : Option ℕ) → P NoSegment → ((n : ℕ) → first ≡ Some n → P (At (n * SEGMENT_SIZE) true)) → P (run_or_none first)
     run_or_none-one None none run = none
     run_or_none-one (Some n) none run = run n refl
 
     -- a run begins at one of the 256 segments
     lowest_run-below : (p : ProcName) (count n : ℕ) → lowest_run b.opening b.past p count ≡ Some n → n < 256
-    lowest_run-below p count n e = found (λ k. k < 256) _ (numbers 256) (numbers-below 256) n e
+    lowest_run-below p count n e = starts-below n _ e
 
     -- the replies to Map of an object that is held
-    map_anew-one : (p : ProcName) (u : ObjectName) (m : Option Mapping) → ((n : Mapping) → m ≡ Some n → P (At n.address false)) → P TooManyMaps → P NoSegment → ((n : ℕ) → n < 256 → P (At (n * segment_size) true)) → P (map_anew_reply b p u m)
+    map_anew-one : (p : ProcName) (u : ObjectName) (m : Option Mapping) → ((n : Mapping) → m ≡ Some n → P (At n.address false)) → P TooManyMaps → P NoSegment → ((n : ℕ) → n < 256 → P (At (n * SEGMENT_SIZE) true)) → P (map_anew_reply b p u m)
     map_anew-one p u (Some m) stands many none run = stands m refl
     map_anew-one p u None stands many none run =
         search (either, many, run_or_none-one (lowest_run b.opening b.past p (segments (room_of b.opening b.past u))) none (λ n e. run n (lowest_run-below p _ n e)))
 
     -- the replies to Map
-    pub map_reply-one : (p : ProcName) (u : ObjectName) → P NoLock → ((n : Mapping) → mapping_of b p u ≡ Some n → P (At n.address false)) → P TooManyMaps → P NoSegment → ((n : ℕ) → n < 256 → P (At (n * segment_size) true)) → P (map_reply b p u)
+    pub map_reply-one : (p : ProcName) (u : ObjectName) → P NoLock → ((n : Mapping) → mapping_of b p u ≡ Some n → P (At n.address false)) → P TooManyMaps → P NoSegment → ((n : ℕ) → n < 256 → P (At (n * SEGMENT_SIZE) true)) → P (map_reply b p u)
     map_reply-one p u no_lock stands many none run = search (either, no_lock, map_anew-one p u (mapping_of b p u) stands many none run)
 
     -- the replies to Unmap

@@ -1,5 +1,5 @@
 -- The tables of locks say what the last reply, and the last effect, said.
-use Rattle.std.proofs.Common.{◌≡◌, Bool, true, false, List, [], ◌∷◌, refl, sym, arith}
+use Rattle.std.proofs.Common.{◌≡◌, ◌∙◌, Bool, true, false, List, [], ◌∷◌, refl, ap, sym, arith}
 use Rattle.std.specs.Prelude.{if◌then◌else◌, ◌&&◌, ◌==◌, Option, Some, None, find}
 use Rattle.std.proofs.lemmas.Bool.Decides.{nat_tests}
 use Rattle.uid_names.specs.Names.{ProcName, ObjectName, same_proc, same_uid}
@@ -8,13 +8,15 @@ use Rattle.uid_names.specs.declared.mode.Mode.{Mode}
 use Rattle.dom_history.specs.declared.deed.LockLine.{LockLine}
 use Rattle.dom_history.specs.declared.deed.LockState.{LockState}
 use Rattle.dom_history.specs.declared.deed.LockState.TheVariants.{Free, Held, Taking, Releasing, Deleting}
+use Rattle.uid_names.proofs.InOrder.{find-replaced}
 use Rattle.dom_history.specs.declared.op.Op.{Op}
 use Rattle.dom_history.specs.declared.op.Op.TheVariants.{Lock, Unlock, Delete}
 use Rattle.dom_history.specs.declared.op.Reply.{Reply}
 use Rattle.dom_history.specs.declared.op.Reply.TheVariants.{Fine, Doubt}
 use Rattle.dom_history.specs.declared.deed.Deed.{Deed}
 use Rattle.dom_history.specs.Effects.{Effect, Locks, Unlocks, Deletes}
-use Rattle.dom_history.specs.Locks.{state, state_by_last, state_after, lines_after, not_free, mode_of, state_in, lines_with, lines_without, holds, rows, rows_with, rows_without, same_row, row_lt, mode_in}
+use Rattle.uid_names.specs.Rows.{same_row, row_lt}
+use Rattle.dom_history.specs.Locks.{state, state_by_last, state_after, lines_after, not_free, mode_of, state_in, lines_with, lines_without, holds, rows, rows_with, rows_without, mode_in}
 
 -- the state where an object was made free
 state_in-lines_without : (u v : ObjectName) (lines : List LockLine) → state_in u (lines_without v lines) ≡ (if same_uid u v then Free else state_in u lines)
@@ -31,35 +33,25 @@ row_of-without : (p q : ProcName) (u v : ObjectName) (rs : List LockRow) → mod
 row_of-without p q u v [] = grind (arith, nat_tests)
 row_of-without p q u v (row ∷ rs) = grind (arith, nat_tests, row_of-without p q u v rs)
 
--- the new row stands first
-placed_first : (c d : Bool) (f g : Option LockRow) (new row : LockRow) → mode_in f ≡ (if c then None else mode_in g) → mode_in (if c then Some new else (if d then Some row else f)) ≡ (if c then Some new.mode else mode_in (if d then Some row else g))
-placed_first true d f g new row h = refl
-placed_first false true f g new row h = refl
-placed_first false false f g new row h = h
+-- a row of q and v is that of p and u where these are the same
+row_of_new : (p q : ProcName) (u v : ObjectName) (m : Mode) (row : LockRow) → same_row q v row ≡ true → same_row p u (record { uid = v; proc = q; mode = m }) ≡ same_row p u row
+row_of_new p q u v m row e = grind (arith, nat_tests, e)
 
--- the new row stands later
-placed_later : (c d : Bool) (f g : Option LockRow) (m : Mode) (row : LockRow) → (c ≡ true → d ≡ true → ⊥) → mode_in f ≡ (if c then Some m else mode_in g) → mode_in (if d then Some row else f) ≡ (if c then Some m else mode_in (if d then Some row else g))
-placed_later true true f g m row n h = absurd (n refl refl)
-placed_later true false f g m row n h = h
-placed_later false true f g m row n h = refl
-placed_later false false f g m row n h = h
+-- and no other row is
+other_row : (p q : ProcName) (u v : ObjectName) (m : Mode) (row : LockRow) → same_row q v row ≡ false → same_row p u (record { uid = v; proc = q; mode = m }) ≡ true → same_row p u row ≡ false
+other_row p q u v m row e f = grind (arith, nat_tests, e, f)
 
--- a row that is not of q and v is not of p and u where these are the same
-other_row : (p q : ProcName) (u v : ObjectName) (row : LockRow) → same_row q v row ≡ false → (same_proc p q && same_uid u v) ≡ true → same_row p u row ≡ true → ⊥
-other_row p q u v row a b c = grind (arith, nat_tests)
-
--- a row goes in before or after the first, or in its place
-by_tests : (p q : ProcName) (u v : ObjectName) (m : Mode) (row : LockRow) (rs : List LockRow) (a b : Bool) → same_row q v row ≡ a → row_lt row (record { uid = v; proc = q; mode = m }) ≡ b → mode_in (find (same_row p u) (rows_with (record { uid = v; proc = q; mode = m }) (rows_without q v rs))) ≡ (if same_proc p q && same_uid u v then Some m else mode_in (find (same_row p u) rs)) → mode_in (find (same_row p u) (rows_with (record { uid = v; proc = q; mode = m }) (rows_without q v (row ∷ rs)))) ≡ (if same_proc p q && same_uid u v then Some m else mode_in (find (same_row p u) (row ∷ rs)))
-by_tests p q u v m row rs true b ea eb ih = rw ea (grind (arith, nat_tests, ih, ea))
-by_tests p q u v m row rs false true ea eb ih =
-    rw (ea, eb) (placed_later (same_proc p q && same_uid u v) (same_row p u row) (find (same_row p u) (rows_with (record { uid = v; proc = q; mode = m }) (rows_without q v rs))) (find (same_row p u) rs) m row (other_row p q u v row ea) ih)
-by_tests p q u v m row rs false false ea eb ih =
-    rw (ea, eb) (placed_first (same_proc p q && same_uid u v) (same_row p u row) (find (same_row p u) (rows_without q v rs)) (find (same_row p u) rs) (record { uid = v; proc = q; mode = m }) row (row_of-without p q u v rs))
+-- the mode in the chosen row
+mode_in-chosen : (b : Bool) (new : LockRow) (found : Option LockRow) → mode_in (if b then Some new else found) ≡ (if b then Some new.mode else mode_in found)
+mode_in-chosen true new found = refl
+mode_in-chosen false new found = refl
 
 -- the row where one was put in
 row_of-set : (p q : ProcName) (u v : ObjectName) (m : Mode) (rs : List LockRow) → mode_in (find (same_row p u) (rows_with (record { uid = v; proc = q; mode = m }) (rows_without q v rs))) ≡ (if same_proc p q && same_uid u v then Some m else mode_in (find (same_row p u) rs))
-row_of-set p q u v m [] = grind (arith, nat_tests)
-row_of-set p q u v m (row ∷ rs) = by_tests p q u v m row rs (same_row q v row) (row_lt row (record { uid = v; proc = q; mode = m })) refl refl (row_of-set p q u v m rs)
+row_of-set p q u v m rs =
+    let new : LockRow = record { uid = v; proc = q; mode = m } in
+    ap mode_in (find-replaced row_lt (same_row p u) (same_row q v) new (row_of_new p q u v m) (other_row p q u v m) rs)
+    ∙ mode_in-chosen (same_row p u new) new (find (same_row p u) rs)
 
 -- an effect at another home is on another object
 home_apart : (p q : ProcName) (u v : ObjectName) → (v.home == u.home) ≡ false → (same_proc p q && same_uid u v) ≡ false
@@ -99,7 +91,7 @@ released u v lines true e = rw (state_in-lines_with u v (Releasing (mode_of (sta
 released u v lines false e = rw (state_in-lines_with u v (Releasing (mode_of (state_in v lines))) lines, e) refl
 
 -- the state after a reply
-state_in-lines_after : (u : ObjectName) (op : Op) (reply : Reply) (lines : List LockLine) → state_in u (lines_after op reply lines) ≡ state_after u op reply (state_in u lines)
+pub state_in-lines_after : (u : ObjectName) (op : Op) (reply : Reply) (lines : List LockLine) → state_in u (lines_after op reply lines) ≡ state_after u op reply (state_in u lines)
 state_in-lines_after u (Lock v m) Fine lines = state_in-lines_with u v (Held m) lines
 state_in-lines_after u (Lock v m) Doubt lines = state_in-lines_with u v (Taking m) lines
 state_in-lines_after u (Unlock v) Fine lines = state_in-lines_without u v lines

@@ -5,7 +5,8 @@ use Rattle.std.proofs.lemmas.List.Elements.{filter-append}
 use Rattle.std.proofs.lemmas.List.Sums.{fold-append, sum_by-append}
 use Rattle.std.proofs.lemmas.Bool.{eqb-true, eqb-false, ne_eqb}
 use Rattle.uid_names.specs.declared.opening.Object.{Object}
-use Rattle.dom_history.specs.Objects.{at_home, entry_directory, entry_directories}
+use Rattle.uid_names.specs.Beginnings.{at_home, entry_directory}
+use Rattle.dom_history.specs.Objects.{entry_directories}
 
 -- the room that the objects of a home take, in a list
 abbrev pub rooms : ℕ → List Object → ℕ

@@ -12,5 +12,14 @@ pub mod Follows
 pub mod Programs
 pub mod Runs
 pub mod KeptPages
+pub mod KeptObjects
+pub mod KeptLocks
+pub mod KeptMaps
+pub mod KeptLengths
+pub mod Kept
 pub mod Plain
 pub mod Samples
+pub mod Plans
+pub mod NodeTexts
+pub mod EndWords
+pub mod Events

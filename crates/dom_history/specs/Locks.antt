@@ -1,6 +1,8 @@
 -- What a process knows of its locks, and what others meet.
 use Rattle.std.specs.Prelude.{ℕ, ◌==◌, Bool, true, false, not, ◌&&◌, ◌||◌, if◌then◌else◌, Option, Some, None, List, [], ◌∷◌, ◌++◌, filter}
-use Rattle.uid_names.specs.Names.{ProcName, ObjectName, same_proc, same_uid, proc_lt, uid_lt}
+use Rattle.uid_names.specs.Names.{ProcName, ObjectName, same_proc, same_uid}
+use Rattle.uid_names.specs.InOrder.{put_in_order}
+use Rattle.uid_names.specs.Rows.{row_lt, same_row}
 use Rattle.uid_names.specs.declared.lists.LockRow.{LockRow}
 use Rattle.uid_names.specs.declared.mode.Mode.{Mode}
 use Rattle.uid_names.specs.declared.mode.Mode.TheVariants.{Write}
@@ -89,21 +91,13 @@ holds p u (Unlocks q v ∷ past) = if same_proc p q && same_uid u v then None el
 holds p u (Deletes q v ∷ past) = if same_proc p q && same_uid u v then None else holds p u past
 holds p u (_ ∷ past) = holds p u past
 
--- the order of rows: by object, then by process
-abbrev pub row_lt : LockRow → LockRow → Bool
-row_lt a b = uid_lt a.uid b.uid || (same_uid a.uid b.uid && proc_lt a.proc b.proc)
-
-abbrev pub same_row : ProcName → ObjectName → LockRow → Bool
-same_row p u row = same_proc p row.proc && same_uid u row.uid
-
 -- the rows without that of p on u
 abbrev pub rows_without : ProcName → ObjectName → List LockRow → List LockRow
 rows_without p u rows = filter (λ row. not (same_row p u row)) rows
 
 -- rows in order, with one more
 abbrev pub rows_with : LockRow → List LockRow → List LockRow
-rows_with new [] = new ∷ []
-rows_with new (row ∷ rows) = if row_lt row new then row ∷ rows_with new rows else new ∷ row ∷ rows
+rows_with new rows = put_in_order row_lt new rows
 
 -- the rows of a home: (u, p, m) where p holds m on an object u of that home, in order
 abbrev pub rows : ℕ → List Effect → List LockRow

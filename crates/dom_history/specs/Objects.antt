@@ -1,19 +1,16 @@
 -- Which objects there are, and what room they take. Each list of effects has the newest first.
-use Rattle.std.specs.Prelude.{ℕ, zero, suc, nat_le, ◌&&◌, ◌==◌, max, Bool, false, not, ◌||◌, is_some, Option, Some, None, List, [], ◌∷◌, ◌++◌, filter, find, sum_by, fold}
+use Rattle.std.specs.Prelude.{ℕ, zero, suc, nat_le, ◌&&◌, max, Bool, false, not, ◌||◌, is_some, Option, Some, None, List, [], ◌∷◌, ◌++◌, filter, find, sum_by, fold}
 use Rattle.uid_names.specs.Names.{ObjectName, same_uid}
 use Rattle.uid_names.specs.Openings.{Start}
 use Rattle.uid_names.specs.declared.opening.Object.{Object}
-use Rattle.uid_names.specs.declared.mode.ObjKind.TheVariants.{Directory}
+use Rattle.uid_names.specs.Beginnings.{at_home, entry_directory}
 use Rattle.dom_history.specs.Effects.{Effect, Makes, Deletes}
 
 -- a node of the opening
 abbrev pub is_node : Start → ℕ → Bool
 is_node opening home = nat_le 1 home && nat_le home opening.nodes
 
--- a node's entry directory: counter 1, a directory of 8 pages
-abbrev pub entry_directory : ℕ → Object
-entry_directory node = record { uid = record { counter = 1; home = node }; kind = Directory; room = 8 }
-
+-- the entry directories of the nodes up to one
 abbrev pub entry_directories : ℕ → List Object
 entry_directories zero = []
 entry_directories (suc n) = entry_directories n ++ entry_directory (suc n) ∷ []
@@ -44,9 +41,6 @@ room_or_none (Some o) = o.room
 abbrev pub room_of : Start → List Effect → ObjectName → ℕ
 room_of opening past u = room_or_none (find (λ o. same_uid o.uid u) (made opening past))
 
-abbrev pub at_home : ℕ → List Object → List Object
-at_home home objects = filter (λ o. o.uid.home == home) objects
-
 -- the room that the present objects of a home take
 abbrev pub room_taken : Start → List Effect → ℕ → ℕ
 room_taken opening past home = sum_by (λ o. o.room) (at_home home (present opening past))
@@ -54,3 +48,8 @@ room_taken opening past home = sum_by (λ o. o.room) (at_home home (present open
 -- the greatest counter that was given at a home
 abbrev pub greatest_counter : Start → List Effect → ℕ → ℕ
 greatest_counter opening past home = fold (λ a o. max a o.uid.counter) 0 (at_home home (made opening past))
+
+-- the name, where there is one, is that of u
+abbrev pub is_named : Option ObjectName → ObjectName → Bool
+is_named None u = false
+is_named (Some v) u = same_uid u v

@@ -1,8 +1,12 @@
 -- The reply to each operation, over what stands before it. The first test of a row that holds decides.
-use Rattle.std.specs.Prelude.{ℕ, ◌+◌, ◌*◌, nat_le, nat_lt, Bool, true, false, not, ◌&&◌, ◌||◌, if◌then◌else◌, is_some, Option, Some, None, List, [], ◌∷◌, filter, find, length, take}
-use Rattle.uid_names.specs.Names.{ProcName, ObjectName, same_proc, same_uid, proc_lt, uid_lt}
-use Rattle.uid_names.specs.Modes.{mode_writes, modes_clash}
+use Rattle.std.specs.Prelude.{ℕ, ◌+◌, ◌*◌, nat_le, nat_lt, Bool, true, false, not, if◌then◌else◌, is_some, Option, Some, None, List, [], ◌∷◌, find, length, take}
+use Rattle.uid_names.specs.Names.{ProcName, ObjectName, same_uid}
+use Rattle.uid_names.specs.Modes.{mode_writes}
 use Rattle.uid_names.specs.Openings.{Start}
+use Rattle.uid_names.specs.Rows.{is_in_conflict, rows_after}
+use Rattle.uid_names.specs.Segments.{segments}
+use Rattle.uid_names.specs.declared.opening.TheConstants.{VOLUME_ROOM}
+use Rattle.uid_names.specs.declared.segment.TheConstants.{SEGMENT_SIZE}
 use Rattle.uid_names.specs.declared.lists.LockRow.{LockRow}
 use Rattle.uid_names.specs.declared.mode.Mode.{Mode}
 use Rattle.uid_names.specs.declared.mode.Mode.TheVariants.{Write}
@@ -16,7 +20,7 @@ use Rattle.dom_history.specs.declared.deed.LockState.TheVariants.{Free, Held}
 use Rattle.dom_history.specs.Effects.{Effect, effects, own}
 use Rattle.dom_history.specs.Objects.{is_node, is_present, room_of, room_taken, greatest_counter}
 use Rattle.dom_history.specs.Locks.{state, is_free, is_held, is_unsettled, not_free, rows}
-use Rattle.dom_history.specs.Mappings.{Mapping, mappings, segments, segment_size, Target, target, lowest_run}
+use Rattle.dom_history.specs.Mappings.{Mapping, mappings, Target, target, lowest_run}
 use Rattle.dom_history.specs.Bytes.{length_of, bytes_from}
 
 -- what stands before an operation of p: the effects of all deeds, and what p was told; the newest first
@@ -29,12 +33,8 @@ abbrev pub new_reply : Before → ℕ → ℕ → Reply
 new_reply b home room =
     if not (is_node b.opening home) then NoSpace
     else if nat_lt b.opening.greatest room then NoSpace
-    else if nat_lt 16384 (room_taken b.opening b.past home + room) then NoSpace
+    else if nat_lt VOLUME_ROOM (room_taken b.opening b.past home + room) then NoSpace
     else Made (record { counter = greatest_counter b.opening b.past home + 1; home = home })
-
--- q, not p, holds u in conflict with m
-abbrev pub is_in_conflict : ProcName → ObjectName → Mode → LockRow → Bool
-is_in_conflict p u m row = same_uid u row.uid && (not (same_proc p row.proc) && modes_clash p m row.proc row.mode)
 
 abbrev pub conflict_or_fine : Option LockRow → Reply
 conflict_or_fine None = Fine
@@ -92,7 +92,7 @@ length_reply b u = if not (is_held (state u b.told)) then NoLock else Size (leng
 
 abbrev pub run_or_none : Option ℕ → Reply
 run_or_none None = NoSegment
-run_or_none (Some first) = At (first * segment_size) true
+run_or_none (Some first) = At (first * SEGMENT_SIZE) true
 
 abbrev pub map_anew_reply : Before → ProcName → ObjectName → Option Mapping → Reply
 map_anew_reply b p u (Some m) = At m.address false
@@ -110,14 +110,6 @@ map_reply b p u =
 
 abbrev pub unmap_reply : Before → ProcName → ObjectName → Reply
 unmap_reply b p u = if not (is_some (mapping_of b p u)) then NotMapped else Fine
-
-abbrev pub is_after : Option (ObjectName × ProcName) → LockRow → Bool
-is_after None row = true
-is_after (Some (u, p)) row = uid_lt u row.uid || (same_uid u row.uid && proc_lt p row.proc)
-
--- the rows above a row
-abbrev pub rows_after : Option (ObjectName × ProcName) → List LockRow → List LockRow
-rows_after after all = filter (is_after after) all
 
 abbrev pub list_reply : List LockRow → Reply
 list_reply listed = LocksReply (take 64 listed) (nat_lt 64 (length listed))

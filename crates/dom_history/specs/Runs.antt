@@ -1,18 +1,16 @@
 -- A run of the plain store, and its history.
-use Rattle.std.specs.Prelude.{ℕ, ◌+◌, ◌≡◌, if◌then◌else◌, List, [], ◌∷◌, All, length, map}
-use Rattle.uid_names.specs.Names.{ProcName, same_proc}
+use Rattle.std.specs.Prelude.{ℕ, ◌+◌, ◌≡◌, List, [], ◌∷◌, All, length, map}
+use Rattle.uid_names.specs.Names.{ProcName}
 use Rattle.uid_names.specs.Openings.{Start}
-use Rattle.dom_history.specs.declared.op.Op.{Op}
 use Rattle.dom_history.specs.declared.op.Reply.{Reply}
 use Rattle.dom_history.specs.declared.op.Reply.TheVariants.{Kept, Doubt, LinkFault}
 use Rattle.dom_history.specs.declared.op.Want.{Want}
-use Rattle.dom_history.specs.declared.op.Want.TheVariants.{Done}
 use Rattle.dom_history.specs.declared.op.Entry.{Entry}
 use Rattle.dom_history.specs.declared.deed.Deed.{Deed}
-use Rattle.dom_history.specs.Histories.{Item, Answered, Acted, History, entries, told}
+use Rattle.dom_history.specs.Histories.{Item, Answered, Acted, History, entries}
 use Rattle.dom_history.specs.Replies.{before_of, reply_of}
 use Rattle.dom_history.specs.Legal.{IsLegal}
-use Rattle.dom_history.specs.Follows.{Heard, Reaches, Follows, IsEnded, IsPhased}
+use Rattle.dom_history.specs.Follows.{Heard, Follows, IsEnded, IsPhased}
 
 -- each deed was answered as one store answers it; the newest is first
 abbrev pub AreAnswered : Start → List Deed → Type 0
@@ -58,18 +56,3 @@ pub record IsPlainRun (opening : Start) (asks : ProcName → Heard → Want) (h 
   pub no_acts : All IsEntry h.items
   pub no_faults : All (λ e. IsFaultless e.reply) (entries h.items)
   pub ticked : AreTicked (entries h.items)
-
--- the programs where p has this one, and all others are done at once
-abbrev pub alone : ProcName → (Heard → Want) → ProcName → Heard → Want
-alone p ask q heard = if same_proc p q then ask heard else Done
-
--- what p was answered alone on the plain store so far: these entries, the newest first
-pub record IsRunAlone (opening : Start) (ask : Heard → Want) (p : ProcName) (es : List Entry) (heard : Heard) (phase : ℕ) : Type 0 where
-  pub reaches : Reaches ask es heard phase
-  pub answered_so : AreAnswered opening (told es)
-  pub own : All (λ e. e.proc ≡ p) es
-  pub ticked : AreTicked es
-
--- the entry of p that comes after so many others
-abbrev pub entry_after : ℕ → ProcName → ℕ → Op → Reply → Entry
-entry_after n p phase op reply = record { place = record { tick = n + 1; node = p.node }; proc = p; phase = phase; op = op; reply = reply }

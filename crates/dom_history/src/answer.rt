@@ -1,193 +1,232 @@
-//! The plain store's reply to each operation.
-ghost use Rattle.std.specs.Prelude.{◌≡◌, ◌+◌, ◌%◌, ◌^◌, ◌<◌, ◌≤◌, ℕ, length, reverse, IfOk, All, Some};
-ghost use Rattle.uid_names.specs.Names.{ProcName};
+//! The plain store's reply to each operation, by what it keeps.
+ghost use Rattle.std.specs.Prelude.{◌≡◌, ◌+◌, ◌≤◌, None, List, IfOk};
 ghost use Rattle.uid_names.specs.Openings.{Start};
-ghost use Rattle.dom_history.specs.Effects.{effects, own};
-ghost use Rattle.dom_history.specs.Fitting.{Fits, FitsNew, FitsLock, FitsUnlock, FitsLoad, FitsStore};
-ghost use Rattle.dom_history.specs.KeptPages.{HoldBytes};
-ghost use Rattle.dom_history.specs.Locks.{state};
-ghost use Rattle.dom_history.specs.Ranges.{IsOp};
-ghost use Rattle.dom_history.specs.Replies.{before_of, reply_of, new_reply as new_reply_of, lock_reply as lock_reply_of, home_lock_reply as home_lock_reply_of, unlock_reply as unlock_reply_of, load_reply as load_reply_of, store_reply as store_reply_of};
-ghost use Rattle.dom_history.specs.Runs.{AreAnswered, IsFaultless};
-ghost use Rattle.dom_history.specs.Plain.{IsServed, CanBegin, IsPlainDeed};
+ghost use Rattle.dom_history.specs.declared.deed.Deed.{Deed};
+ghost use Rattle.uid_names.specs.Rows.{rows_after};
+ghost use Rattle.dom_history.specs.Effects.{effects};
+ghost use Rattle.dom_history.specs.Fitting.{Fits, FitsNew, FitsLock, FitsUnlock, FitsDelete, FitsLoad, FitsStore, FitsLength, FitsMap, FitsUnmap, FitsList};
+ghost use Rattle.dom_history.specs.Kept.{HoldDeeds};
+ghost use Rattle.dom_history.specs.KeptLengths.{AreShort};
+ghost use Rattle.dom_history.specs.KeptObjects.{HaveSmallCounters};
+ghost use Rattle.dom_history.specs.Locks.{rows};
+ghost use Rattle.dom_history.specs.Mappings.{target};
+ghost use Rattle.dom_history.specs.Ranges.{IsOp, offset_in_page};
+ghost use Rattle.dom_history.specs.Replies.{before_of, reply_of, new_reply as new_reply_of, lock_reply as lock_reply_of, unlock_reply as unlock_reply_of, delete_reply as delete_reply_of, load_reply as load_reply_of, store_reply as store_reply_of, length_reply as length_reply_of, map_reply as map_reply_of, map_anew_reply as map_anew_reply_of, mapping_of, list_reply as list_reply_of, unmap_reply as unmap_reply_of};
+ghost use Rattle.dom_history.specs.Runs.{IsFaultless};
 
-use crate::deed::{Deed, LockState};
+use crate::kept::Kept;
 use crate::op::{Op, Reply, Spot};
-use crate::pages::{PAGE_SIZE, Pages};
-use crate::scan::{
-    conflict, is_present, length_of, not_free, object_of, rows_at, state_in, volume_of,
-};
+use crate::pages::PAGE_SIZE;
 use std::alloc::Global;
-use uid_names::{Mode, NoMemory, NodeId, Opening, ProcId, Uid};
+use uid_names::{Mode, NoMemory, NodeId, Opening, ProcId, SEGMENT_SIZE, Uid, VOLUME_ROOM};
 
-/// The pages of a node's volume.
-const VOLUME_PAGES: u128 = 16_384;
-
-fn new_reply(opening: &Opening, deeds: &[Deed], home: NodeId, room: u32) -> Reply
-    requires begun { CanBegin opening.now }
-    requires plain { All IsPlainDeed deeds.now }
-    requires answered { AreAnswered opening.now (reverse deeds.now) }
-    requires few { length deeds.now < 2 ^ 40 }
-    ensures value { (p : ProcName) → result ≡ new_reply_of (before_of opening.now (reverse deeds.now) p) home room }
+fn new_reply(opening: &Opening, kept: &Kept, p: ProcId, home: NodeId, room: u32) -> Reply
+    requires { HaveSmallCounters kept.now.objects }
+    ensures value { (deeds : List Deed) → HoldDeeds kept.now opening.now deeds → result ≡ new_reply_of (before_of opening.now deeds p) home room }
     ensures fits { FitsNew result }
     ensures faultless { IsFaultless result }
 {
     if opening.nodes() < home.number() || opening.greatest() < room {
         return Reply::NoSpace;
     }
-    let volume = volume_of(opening, deeds, home);
-    if VOLUME_PAGES < volume.taken + room as u128 {
+    let volume = kept.objects.volume_of(home);
+    if u128::from(VOLUME_ROOM) < volume.taken + room as u128 {
         return Reply::NoSpace;
     }
     Reply::Made(Uid::from_parts(volume.greatest + 1, home))
 }
 
-fn home_lock_reply(
-    alloc: Global,
-    opening: &Opening,
-    deeds: &[Deed],
-    p: ProcId,
-    uid: Uid,
-    mode: Mode,
-) -> Result<Reply, NoMemory>
-    requires { All IsPlainDeed deeds.now }
-    ensures value { IfOk result (λ reply. reply ≡ home_lock_reply_of opening.now (effects (reverse deeds.now)) p uid mode) }
-    ensures fits { IfOk result FitsLock }
-    ensures faultless { IfOk result IsFaultless }
-{
-    if !is_present(opening, deeds, uid) {
-        return Ok(Reply::NoObject);
-    }
-    let rows = rows_at(alloc, deeds, uid.home())?;
-    match conflict(rows.as_slice(), p, uid, mode) {
-        Some(row) => Ok(Reply::Conflict(row.proc, row.mode)),
-        None => Ok(Reply::Fine),
-    }
-}
-
 /// The most objects on which a process is not free.
 const MAX_LOCKS: usize = 8;
 
-fn lock_reply(
-    alloc: Global,
-    opening: &Opening,
-    deeds: &[Deed],
-    p: ProcId,
-    uid: Uid,
-    mode: Mode,
-) -> Result<Reply, NoMemory>
-    requires { All IsPlainDeed deeds.now }
-    ensures value { IfOk result (λ reply. reply ≡ lock_reply_of (before_of opening.now (reverse deeds.now) p) p uid mode) }
-    ensures fits { IfOk result FitsLock }
-    ensures faultless { IfOk result IsFaultless }
+fn lock_reply(kept: &Kept, p: ProcId, uid: Uid, mode: Mode) -> Reply
+    ensures value { (opening : Start) → (deeds : List Deed) → HoldDeeds kept.now opening deeds → result ≡ lock_reply_of (before_of opening deeds p) p uid mode }
+    ensures fits { FitsLock result }
+    ensures faultless { IsFaultless result }
 {
-    let lines = not_free(alloc, deeds, p)?;
-    match state_in(uid, lines.as_slice()) {
-        LockState::Held(_) => Ok(Reply::AlreadyHeld),
-        LockState::Free if lines.len() >= MAX_LOCKS => Ok(Reply::TooMany),
-        LockState::Free => home_lock_reply(alloc, opening, deeds, p, uid, mode),
-        LockState::Taking(_) | LockState::Releasing(_) | LockState::Deleting => Ok(
-            Reply::Unsettled,
-        ),
+    if kept.locks.mode_of(p, uid).is_some() {
+        return Reply::AlreadyHeld;
+    }
+    if kept.locks.count_of(p) >= MAX_LOCKS {
+        return Reply::TooMany;
+    }
+    if !kept.objects.is_present(uid) {
+        return Reply::NoObject;
+    }
+    match kept.locks.conflict(p, uid, mode) {
+        Some(row) => Reply::Conflict(row.proc, row.mode),
+        None => Reply::Fine,
     }
 }
 
-/// What a process knows of its lock on an object.
-fn state_of(alloc: Global, deeds: &[Deed], p: ProcId, uid: Uid) -> Result<LockState, NoMemory>
-    requires { All IsPlainDeed deeds.now }
-    ensures { IfOk result (λ s. s ≡ state uid (own p (reverse deeds.now))) }
+fn unlock_reply(kept: &Kept, p: ProcId, uid: Uid) -> Reply
+    ensures value { (opening : Start) → (deeds : List Deed) → HoldDeeds kept.now opening deeds → result ≡ unlock_reply_of (before_of opening deeds p) uid }
+    ensures fits { FitsUnlock result }
+    ensures faultless { IsFaultless result }
 {
-    let lines = not_free(alloc, deeds, p)?;
-    Ok(state_in(uid, lines.as_slice()))
+    match kept.locks.mode_of(p, uid) {
+        Some(_) => Reply::Fine,
+        None => Reply::NotHeld,
+    }
 }
 
-fn unlock_reply(alloc: Global, deeds: &[Deed], p: ProcId, uid: Uid) -> Result<Reply, NoMemory>
-    requires { All IsPlainDeed deeds.now }
-    ensures value { IfOk result (λ reply. (opening : Start) → reply ≡ unlock_reply_of (before_of opening (reverse deeds.now) p) uid) }
-    ensures fits { IfOk result FitsUnlock }
-    ensures faultless { IfOk result IsFaultless }
+fn delete_reply(kept: &Kept, p: ProcId, uid: Uid) -> Reply
+    ensures value { (opening : Start) → (deeds : List Deed) → HoldDeeds kept.now opening deeds → result ≡ delete_reply_of (before_of opening deeds p) uid }
+    ensures fits { FitsDelete result }
+    ensures faultless { IsFaultless result }
 {
-    match state_of(alloc, deeds, p, uid)? {
-        LockState::Free => Ok(Reply::NotHeld),
-        _ => Ok(Reply::Fine),
+    match kept.locks.mode_of(p, uid) {
+        Some(Mode::Write) => Reply::Fine,
+        Some(Mode::Read) => Reply::WrongMode,
+        None => Reply::NoLock,
     }
 }
 
 fn load_reply(
     alloc: Global,
-    deeds: &[Deed],
-    pages: &Pages,
+    kept: &Kept,
     p: ProcId,
-    uid: Uid,
-    offset: u32,
+    spot: Spot,
     count: u32,
 ) -> Result<Reply, NoMemory>
-    requires plain { All IsPlainDeed deeds.now }
-    requires page { offset % 1024 + count ≤ 1024 }
-    ensures value { IfOk result (λ reply. (opening : Start) → HoldBytes pages.now opening (effects (reverse deeds.now)) → reply ≡ load_reply_of (before_of opening (reverse deeds.now) p) (Some (record { uid = uid; offset = offset })) count) }
-    ensures fits { IfOk result (FitsLoad (Spot.Of uid offset) count) }
+    requires { offset_in_page spot + count ≤ 1024 }
+    ensures value { IfOk result (λ reply. (opening : Start) → (deeds : List Deed) → HoldDeeds kept.now opening deeds → reply ≡ load_reply_of (before_of opening deeds p) (target opening (effects deeds) p spot) count) }
+    ensures fits { IfOk result (FitsLoad spot count) }
     ensures faultless { IfOk result IsFaultless }
 {
-    match state_of(alloc, deeds, p, uid)? {
-        LockState::Held(_) => {
-            if length_of(deeds, uid) < offset as u64 + count as u64 {
+    match kept.maps.target_of(p, spot) {
+        None => Ok(Reply::NotMapped),
+        Some((uid, offset)) => {
+            if kept.locks.mode_of(p, uid).is_none() {
+                return Ok(Reply::NoLock);
+            }
+            if kept.lengths.of(uid) < offset as u64 + count as u64 {
                 return Ok(Reply::PastEnd);
             }
-            let bytes = pages.load(alloc, uid, offset, count)?;
+            let bytes = kept.pages.load(alloc, uid, offset, count)?;
             Ok(Reply::Bytes(bytes))
         }
-        _ => Ok(Reply::NoLock),
     }
 }
 
-fn store_reply(
+fn store_reply(kept: &Kept, p: ProcId, spot: Spot, bytes: &[u8]) -> Reply
+    ensures value { (opening : Start) → (deeds : List Deed) → HoldDeeds kept.now opening deeds → result ≡ store_reply_of (before_of opening deeds p) (target opening (effects deeds) p spot) bytes.now }
+    ensures fits { FitsStore spot result }
+    ensures faultless { IsFaultless result }
+{
+    match kept.maps.target_of(p, spot) {
+        None => Reply::NotMapped,
+        Some((uid, offset)) => match kept.locks.mode_of(p, uid) {
+            None => Reply::NoLock,
+            Some(mode) if !mode.writes() => Reply::WrongMode,
+            Some(_) => {
+                let room = kept.objects.room_of(uid);
+                if PAGE_SIZE as u64 * (room as u64) < offset as u64 + bytes.len() as u64 {
+                    Reply::PastRoom
+                } else {
+                    Reply::Fine
+                }
+            }
+        },
+    }
+}
+
+fn length_reply(kept: &Kept, p: ProcId, uid: Uid) -> Reply
+    requires { AreShort kept.now.lengths }
+    ensures value { (opening : Start) → (deeds : List Deed) → HoldDeeds kept.now opening deeds → result ≡ length_reply_of (before_of opening deeds p) uid }
+    ensures fits { FitsLength result }
+    ensures faultless { IsFaultless result }
+{
+    match kept.locks.mode_of(p, uid) {
+        Some(_) => Reply::Size(kept.lengths.of(uid) as u32),
+        None => Reply::NoLock,
+    }
+}
+
+/// The most mappings of a process.
+const MAX_MAPPINGS: usize = 16;
+
+/// The reply to the mapping of an object that a process holds and has not mapped.
+fn map_anew_reply(kept: &Kept, p: ProcId, uid: Uid) -> Reply
+    ensures value { (opening : Start) → (deeds : List Deed) → HoldDeeds kept.now opening deeds → result ≡ map_anew_reply_of (before_of opening deeds p) p uid None }
+    ensures fits { FitsMap result }
+    ensures faultless { IsFaultless result }
+{
+    if kept.maps.count_of(p) >= MAX_MAPPINGS {
+        return Reply::TooManyMaps;
+    }
+    match kept.maps.run_of(p, kept.objects.room_of(uid)) {
+        Some(first) => Reply::At {
+            address: u32::from(first) * SEGMENT_SIZE,
+            fresh: true,
+        },
+        None => Reply::NoSegment,
+    }
+}
+
+/// The reply to the mapping of an object that a process holds.
+fn map_held_reply(kept: &Kept, p: ProcId, uid: Uid) -> Reply
+    ensures value { (opening : Start) → (deeds : List Deed) → HoldDeeds kept.now opening deeds → result ≡ map_anew_reply_of (before_of opening deeds p) p uid (mapping_of (before_of opening deeds p) p uid) }
+    ensures fits { FitsMap result }
+    ensures faultless { IsFaultless result }
+{
+    match kept.maps.address_of(p, uid) {
+        Some(address) => Reply::At {
+            address,
+            fresh: false,
+        },
+        None => map_anew_reply(kept, p, uid),
+    }
+}
+
+fn map_reply(kept: &Kept, p: ProcId, uid: Uid) -> Reply
+    ensures value { (opening : Start) → (deeds : List Deed) → HoldDeeds kept.now opening deeds → result ≡ map_reply_of (before_of opening deeds p) p uid }
+    ensures fits { FitsMap result }
+    ensures faultless { IsFaultless result }
+{
+    match kept.locks.mode_of(p, uid) {
+        Some(_) => map_held_reply(kept, p, uid),
+        None => Reply::NoLock,
+    }
+}
+
+fn unmap_reply(kept: &Kept, p: ProcId, uid: Uid) -> Reply
+    ensures value { (opening : Start) → (deeds : List Deed) → HoldDeeds kept.now opening deeds → result ≡ unmap_reply_of (before_of opening deeds p) p uid }
+    ensures fits { FitsUnmap result }
+    ensures faultless { IsFaultless result }
+{
+    match kept.maps.address_of(p, uid) {
+        Some(_) => Reply::Fine,
+        None => Reply::NotMapped,
+    }
+}
+
+fn list_reply(
     alloc: Global,
-    opening: &Opening,
-    deeds: &[Deed],
-    p: ProcId,
-    uid: Uid,
-    offset: u32,
-    bytes: &[u8],
+    kept: &Kept,
+    home: NodeId,
+    after: Option<(Uid, ProcId)>,
 ) -> Result<Reply, NoMemory>
-    requires plain { All IsPlainDeed deeds.now }
-    requires page { offset % 1024 + length bytes.now ≤ 1024 }
-    ensures value { IfOk result (λ reply. reply ≡ store_reply_of (before_of opening.now (reverse deeds.now) p) (Some (record { uid = uid; offset = offset })) bytes.now) }
-    ensures fits { IfOk result (FitsStore (Spot.Of uid offset)) }
+    ensures value { IfOk result (λ reply. (opening : Start) → (deeds : List Deed) → HoldDeeds kept.now opening deeds → reply ≡ list_reply_of (rows_after after (rows home (effects deeds)))) }
+    ensures fits { IfOk result FitsList }
     ensures faultless { IfOk result IsFaultless }
 {
-    match state_of(alloc, deeds, p, uid)? {
-        LockState::Held(mode) => {
-            if !mode.writes() {
-                return Ok(Reply::WrongMode);
-            }
-            let room = object_of(opening, deeds, uid).map_or(0, |object| object.room);
-            if PAGE_SIZE as u64 * (room as u64) < offset as u64 + bytes.len() as u64 {
-                Ok(Reply::PastRoom)
-            } else {
-                Ok(Reply::Fine)
-            }
-        }
-        _ => Ok(Reply::NoLock),
-    }
+    let (rows, more) = kept.locks.list(alloc, home, after)?;
+    Ok(Reply::Locks { rows, more })
 }
 
-/// The reply to an operation, after all that was done.
+/// The reply to an operation, after what was done.
 pub fn reply_to(
     alloc: Global,
     opening: &Opening,
-    deeds: &[Deed],
-    pages: &Pages,
+    kept: &Kept,
     p: ProcId,
     op: &Op,
 ) -> Result<Reply, NoMemory>
-    requires served { IsServed op.now }
     requires range { IsOp op.now }
-    requires begun { CanBegin opening.now }
-    requires plain { All IsPlainDeed deeds.now }
-    requires answered { AreAnswered opening.now (reverse deeds.now) }
-    requires bytes { HoldBytes pages.now opening.now (effects (reverse deeds.now)) }
-    requires few { length deeds.now < 2 ^ 40 }
-    ensures value { IfOk result (λ reply. reply ≡ reply_of (before_of opening.now (reverse deeds.now) p) p op.now) }
+    requires counters { HaveSmallCounters kept.now.objects }
+    requires lengths { AreShort kept.now.lengths }
+    ensures value { IfOk result (λ reply. (deeds : List Deed) → HoldDeeds kept.now opening.now deeds → reply ≡ reply_of (before_of opening.now deeds p) p op.now) }
     ensures fits { IfOk result (Fits op.now) }
     ensures faultless { IfOk result IsFaultless }
 {
@@ -196,17 +235,15 @@ pub fn reply_to(
             home,
             kind: _,
             room,
-        } => Ok(new_reply(opening, deeds, *home, *room)),
-        Op::Lock { uid, mode } => lock_reply(alloc, opening, deeds, p, *uid, *mode),
-        Op::Unlock { uid } => unlock_reply(alloc, deeds, p, *uid),
-        Op::Load {
-            spot: Spot::Of(uid, offset),
-            count,
-        } => load_reply(alloc, deeds, pages, p, *uid, *offset, *count),
-        Op::Store {
-            spot: Spot::Of(uid, offset),
-            bytes,
-        } => store_reply(alloc, opening, deeds, p, *uid, *offset, bytes.bytes()),
-        _ => unreachable!(),
+        } => Ok(new_reply(opening, kept, p, *home, *room)),
+        Op::Lock { uid, mode } => Ok(lock_reply(kept, p, *uid, *mode)),
+        Op::Unlock { uid } => Ok(unlock_reply(kept, p, *uid)),
+        Op::Delete { uid } => Ok(delete_reply(kept, p, *uid)),
+        Op::Load { spot, count } => load_reply(alloc, kept, p, *spot, *count),
+        Op::Store { spot, bytes } => Ok(store_reply(kept, p, *spot, bytes.bytes())),
+        Op::Length { uid } => Ok(length_reply(kept, p, *uid)),
+        Op::Map { uid } => Ok(map_reply(kept, p, *uid)),
+        Op::Unmap { uid } => Ok(unmap_reply(kept, p, *uid)),
+        Op::List { home, after } => list_reply(alloc, kept, *home, *after),
     }
 }

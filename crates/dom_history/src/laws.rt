@@ -3,21 +3,23 @@ ghost use Rattle.std.specs.Prelude.{◌≡◌, ◌≢◌, ◌+◌, ℕ, List, []
 ghost use Rattle.uid_names.specs.Names.{ProcName, ObjectName};
 ghost use Rattle.uid_names.specs.Openings.{Start, IsStart};
 ghost use Rattle.dom_history.specs.declared.op.Want.{Want};
-ghost use Rattle.dom_history.specs.declared.op.Want.TheVariants.{Do, Phase, Done};
+ghost use Rattle.dom_history.specs.declared.op.Want.TheVariants.{Phase, Done};
 ghost use Rattle.dom_history.specs.declared.op.Op.{Op};
 ghost use Rattle.dom_history.specs.declared.op.Op.TheVariants.{Length, Map};
 ghost use Rattle.dom_history.specs.declared.op.Reply.{Reply};
 ghost use Rattle.dom_history.specs.declared.op.Entry.{Entry};
 ghost use Rattle.dom_history.specs.declared.deed.Deed.{Deed};
 ghost use Rattle.dom_history.specs.Effects.{Effect};
-ghost use Rattle.dom_history.specs.Locks.{state, state_by_last, holds, mode_in, same_row, row_lt, rows};
-ghost use Rattle.dom_history.specs.Histories.{Item, Acted, Act, History, deed_of, told, before, place_of, place_lt, IsRising};
+ghost use Rattle.uid_names.specs.InOrder.{AreInOrder};
+ghost use Rattle.uid_names.specs.Rows.{same_row, row_lt};
+ghost use Rattle.dom_history.specs.Locks.{state, state_by_last, holds, mode_in, rows};
+ghost use Rattle.dom_history.specs.Histories.{Item, Acted, Act, History, deed_of, told, entries, before, place_of, place_lt, IsRising};
 ghost use Rattle.dom_history.specs.Legal.{IsLegal, IsAtHomeOf, begun_of, MayEnd, IsIdle, with_entry};
-ghost use Rattle.dom_history.specs.Follows.{Heard, IsEnded, IsPhased};
+ghost use Rattle.dom_history.specs.Follows.{Heard, IsEnded, IsDoneAt, IsPhased};
 ghost use Rattle.dom_history.specs.Ranges.{IsOp};
 ghost use Rattle.dom_history.specs.Fitting.{Fits};
 ghost use Rattle.dom_history.specs.Replies.{Before, before_of, reply_of};
-ghost use Rattle.dom_history.specs.Runs.{AreAnswered, history_at, history_of, IsFaultless, IsPlainRun, IsRunAlone, alone, entry_after};
+ghost use Rattle.dom_history.specs.Runs.{AreAnswered, history_at, history_of, IsFaultless, IsPlainRun, AreTicked};
 ghost use Rattle.uid_names.specs.declared.mode.Mode.TheVariants.{Write};
 ghost use Rattle.dom_history.specs.declared.op.Reply.TheVariants.{Bytes, Conflict, Fine, NoSpace, PastEnd};
 ghost use Rattle.dom_history.specs.Samples.{one_node, two_nodes, p, at, first_run, in_doubt, acted_in_doubt, closed, loads, locks_too, locks_first, deletes_under, makes_again, makes_nowhere, locked_in, opens, unlocks_from, loads_another_byte, loads_past_the_end, locked_twice, conflicts_with_nobody, acts_twice, deletes_under_read, makes_one_name_twice, makes_at_no_node, phases_fall, opens_meet, answered_behind_open};
@@ -76,7 +78,7 @@ pub fn lock_tables_say_the_last()
 
 /// The rows of a home stand in order of object and process, and are of its objects.
 pub fn lock_rows_are_in_order()
-    ensures rise { (home : ℕ) → (past : List Effect) → AllPairs (λ a b. IsTrue (row_lt a b)) (rows home past) }
+    ensures rise { (home : ℕ) → (past : List Effect) → AreInOrder row_lt (rows home past) }
     ensures of_home { (home : ℕ) → (past : List Effect) → All (λ row. row.uid.home ≡ home) (rows home past) }
 {}
 
@@ -113,20 +115,16 @@ pub fn replies_fit()
     ensures after_answers { (opening : Start) → IsStart opening → (past : List Deed) → AreAnswered opening past → All (λ d. IsOp d.op) past → (p : ProcName) → (op : Op) → Fits op (reply_of (before_of opening past p) p op) }
 {}
 
-/// A program alone has at most one plain run.
-pub fn the_history_is_one()
-    ensures { (opening : Start) → (ask : Heard → Want) → (p : ProcName) → (h k : History) → IsPlainRun opening (alone p ask) h → IsPlainRun opening (alone p ask) k → h ≡ k }
+/// A plain run is its entries, each answered as one store answers it.
+pub fn plain_runs_are_their_entries()
+    ensures answered { (opening : Start) → (asks : ProcName → Heard → Want) → (h : History) → IsPlainRun opening asks h → AreAnswered opening (told (entries h.items)) }
+    ensures whole { (opening : Start) → (asks : ProcName → Heard → Want) → (h : History) → IsPlainRun opening asks h → h ≡ history_of (entries h.items) }
 {}
 
-/// A run alone begins with nothing, goes on with each answer of the store and past each phase, and is the plain run
-/// once its program is done.
-pub fn runs_alone_become_plain()
-    ensures begins { (opening : Start) → (ask : Heard → Want) → (p : ProcName) → IsRunAlone opening ask p [] [] 1 }
-    ensures answers { (opening : Start) → (ask : Heard → Want) → (p : ProcName) → (es : List Entry) → (heard : Heard) → (phase : ℕ) → (op : Op) → (reply : Reply) →
-        IsRunAlone opening ask p es heard phase → ask heard ≡ Do op → reply ≡ reply_of (before_of opening (told es) p) p op →
-        IsRunAlone opening ask p (entry_after (length es) p phase op reply ∷ es) (Some reply ∷ heard) phase }
-    ensures passes { (opening : Start) → (ask : Heard → Want) → (p : ProcName) → (es : List Entry) → (heard : Heard) → (phase : ℕ) →
-        IsRunAlone opening ask p es heard phase → ask heard ≡ Phase → IsRunAlone opening ask p es (None ∷ heard) (phase + 1) }
-    ensures ends { (opening : Start) → (ask : Heard → Want) → (p : ProcName) → (es : List Entry) → (heard : Heard) → (phase : ℕ) →
-        IsRunAlone opening ask p es heard phase → ask heard ≡ Done → IsPlainRun opening (alone p ask) (history_of es) }
+/// Entries that one store answered, at the ticks 1, 2 and so on and phase by phase, to the end of all programs, are
+/// a plain run.
+pub fn answered_entries_are_plain_runs()
+    ensures entries { (es : List Entry) → entries (history_of es).items ≡ es }
+    ensures plain { (opening : Start) → (asks : ProcName → Heard → Want) → (es : List Entry) → AreAnswered opening (told es) → AreTicked es → IsPhased es →
+        ((p : ProcName) → IsDoneAt (asks p) (history_of es) p) → IsPlainRun opening asks (history_of es) }
 {}

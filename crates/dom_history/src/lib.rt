@@ -3,17 +3,33 @@
 
 mod answer;
 pub mod deed;
+pub mod end_word;
+pub mod event;
+mod kept;
 pub mod laws;
+mod lengths;
+mod locks;
+mod maps;
+pub mod node_names;
+mod objects;
 pub mod op;
 mod op_copy;
 mod pages;
+pub mod plan;
 pub mod program;
-mod scan;
+#[cfg(test)]
+mod reply_tests;
 pub mod store;
 #[cfg(test)]
 mod tests;
+#[cfg(test)]
+mod value_tests;
 
 pub use deed::{Deed, LockLine, LockState};
+pub use end_word::EndWord;
+pub use event::{Dropped, Effects, Event, EventList, NodeLog, Sent, What};
+pub use node_names::NodeNames;
 pub use op::{Entry, Op, Reply, Spot, Want};
+pub use plan::{Fate, FateRow, FaultPlan};
 pub use program::Program;
 pub use store::PlainStore;

@@ -1,0 +1,49 @@
+-- What becomes of the frames on the links between nodes.
+use Rattle.std.specs.Prelude.{ℕ, ◌≡◌, ◌≢◌, false, Bool, ◌==◌, ◌&&◌, is_some, Option, Some, None, List, find, All, AllPairs}
+use Rattle.std.specs.HashMap.{get, HashMap}
+use Rattle.std.specs.declared.hash.FoldHasher.{FoldHasher}
+use Rattle.std.specs.declared.hash.BuildHasherDefault.{BuildHasherDefault}
+use Rattle.dom_history.specs.declared.plan.Fate.{Fate}
+use Rattle.dom_history.specs.declared.plan.Fate.TheVariants.{Pass}
+use Rattle.dom_history.specs.declared.plan.FateRow.{FateRow}
+
+-- the row is of the frame of this number on the link between these nodes
+abbrev pub is_of_frame : ℕ → ℕ → ℕ → FateRow → Bool
+is_of_frame from to index row = (row.from == from) && (row.to == to) && (row.index == index)
+
+abbrev pub fate_in : Option FateRow → Option Fate
+fate_in None = None
+fate_in (Some row) = Some row.fate
+
+-- the fate that was set for a frame
+abbrev pub set_fate : List FateRow → ℕ → ℕ → ℕ → Option Fate
+set_fate plan from to index = fate_in (find (is_of_frame from to index) plan)
+
+abbrev pub fate_or_pass : Option Fate → Fate
+fate_or_pass None = Pass
+fate_or_pass (Some fate) = fate
+
+-- the fate of a frame: Pass where none was set
+abbrev pub fate_of : List FateRow → ℕ → ℕ → ℕ → Fate
+fate_of plan from to index = fate_or_pass (set_fate plan from to index)
+
+abbrev pub is_set : List FateRow → ℕ → ℕ → ℕ → Bool
+is_set plan from to index = is_some (set_fate plan from to index)
+
+-- what each plan keeps: no link leads from a node to itself, and no frame has two rows
+pub record IsPlan (plan : List FateRow) : Type 0 where
+  pub apart : All (λ row. row.from ≢ row.to) plan
+  pub once : AllPairs (λ a b. is_of_frame b.from b.to b.index a ≡ false) plan
+
+-- one frame: the nodes of its link, and its number there
+abbrev pub same_frame : ℕ × ℕ × ℕ → ℕ × ℕ × ℕ → Bool
+same_frame a b = (a.0 == b.0) && (a.1 == b.1) && (a.2 == b.2)
+
+-- the fates by frame
+abbrev pub Fates : Type 0
+Fates = HashMap (ℕ × ℕ × ℕ) Fate (BuildHasherDefault FoldHasher)
+
+-- the rows are a plan, and the fates by frame are its
+pub record HoldsPlan (plan : List FateRow) (fates : Fates) : Type 0 where
+  pub rows : IsPlan plan
+  pub held : (from to index : ℕ) → get same_frame fates (from, to, index) ≡ set_fate plan from to index

@@ -1,0 +1,118 @@
+//! How an operation ended, in one word.
+ghost use Rattle.std.specs.Prelude.{◌≡◌, ◌≢◌, MatchOption};
+ghost use Rattle.dom_history.specs.declared.end_word.EndWord.{EndWord};
+ghost use Rattle.dom_history.specs.EndWords.{word_text, word_of};
+
+use crate::op::Reply;
+
+/// How an operation ended: done, or with one of the other replies.
+#[derive(Clone, Copy, Debug, PartialEq, Eq, PartialOrd, Ord, Hash)]
+pub enum EndWord {
+    Fine,
+    Conflict,
+    NoObject,
+    AlreadyHeld,
+    NotHeld,
+    Unsettled,
+    TooMany,
+    NoLock,
+    WrongMode,
+    PastRoom,
+    PastEnd,
+    NoSpace,
+    Kept,
+    Doubt,
+    LinkFault,
+    TooManyMaps,
+    NoSegment,
+    NotMapped,
+}
+
+impl EndWord {
+    /// How it is written in a journal.
+    pub fn word(self) -> &'static str
+        ensures { result.now ≡ word_text self }
+    {
+        match self {
+            EndWord::Fine => "ok",
+            EndWord::Conflict => "conflict",
+            EndWord::NoObject => "no-object",
+            EndWord::AlreadyHeld => "already-held",
+            EndWord::NotHeld => "not-held",
+            EndWord::Unsettled => "unsettled",
+            EndWord::TooMany => "too-many",
+            EndWord::NoLock => "no-lock",
+            EndWord::WrongMode => "wrong-mode",
+            EndWord::PastRoom => "past-room",
+            EndWord::PastEnd => "past-end",
+            EndWord::NoSpace => "no-space",
+            EndWord::Kept => "kept",
+            EndWord::Doubt => "doubt",
+            EndWord::LinkFault => "link-fault",
+            EndWord::TooManyMaps => "too-many-maps",
+            EndWord::NoSegment => "no-segment",
+            EndWord::NotMapped => "not-mapped",
+        }
+    }
+
+    /// The one that is written so; None exactly where none is.
+    pub fn from_word(word: &[u8]) -> Option<EndWord>
+        ensures { MatchOption result ((w : EndWord) → word.now ≢ word_text w) (λ w. word.now ≡ word_text w) }
+    {
+        match word {
+            b"ok" => Some(EndWord::Fine),
+            b"conflict" => Some(EndWord::Conflict),
+            b"no-object" => Some(EndWord::NoObject),
+            b"already-held" => Some(EndWord::AlreadyHeld),
+            b"not-held" => Some(EndWord::NotHeld),
+            b"unsettled" => Some(EndWord::Unsettled),
+            b"too-many" => Some(EndWord::TooMany),
+            b"no-lock" => Some(EndWord::NoLock),
+            b"wrong-mode" => Some(EndWord::WrongMode),
+            b"past-room" => Some(EndWord::PastRoom),
+            b"past-end" => Some(EndWord::PastEnd),
+            b"no-space" => Some(EndWord::NoSpace),
+            b"kept" => Some(EndWord::Kept),
+            b"doubt" => Some(EndWord::Doubt),
+            b"link-fault" => Some(EndWord::LinkFault),
+            b"too-many-maps" => Some(EndWord::TooManyMaps),
+            b"no-segment" => Some(EndWord::NoSegment),
+            b"not-mapped" => Some(EndWord::NotMapped),
+            _ => None,
+        }
+    }
+
+    /// How an operation ended that has this reply.
+    pub fn of(reply: &Reply) -> EndWord
+        ensures { result ≡ word_of reply.now }
+    {
+        match reply {
+            Reply::Made(_)
+            | Reply::Fine
+            | Reply::Bytes(_)
+            | Reply::Size(_)
+            | Reply::At {
+                address: _,
+                fresh: _,
+            }
+            | Reply::Locks { rows: _, more: _ } => EndWord::Fine,
+            Reply::Conflict(_, _) => EndWord::Conflict,
+            Reply::NoObject => EndWord::NoObject,
+            Reply::AlreadyHeld => EndWord::AlreadyHeld,
+            Reply::NotHeld => EndWord::NotHeld,
+            Reply::Unsettled => EndWord::Unsettled,
+            Reply::TooMany => EndWord::TooMany,
+            Reply::NoLock => EndWord::NoLock,
+            Reply::WrongMode => EndWord::WrongMode,
+            Reply::PastRoom => EndWord::PastRoom,
+            Reply::PastEnd => EndWord::PastEnd,
+            Reply::NoSpace => EndWord::NoSpace,
+            Reply::Kept => EndWord::Kept,
+            Reply::Doubt => EndWord::Doubt,
+            Reply::LinkFault => EndWord::LinkFault,
+            Reply::TooManyMaps => EndWord::TooManyMaps,
+            Reply::NoSegment => EndWord::NoSegment,
+            Reply::NotMapped => EndWord::NotMapped,
+        }
+    }
+}
