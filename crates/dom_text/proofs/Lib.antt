@@ -1,0 +1,5 @@
+pub mod Readings
+pub mod Words
+pub mod Written
+pub mod Spelling
+pub mod Again

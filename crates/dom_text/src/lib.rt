@@ -1,0 +1,16 @@
+//! The texts of scripts, journals and answers: tokens of a line, numbers and quoted texts, both ways.
+#![tactic(auto)]
+
+pub mod laws;
+pub mod line;
+pub mod numbers;
+mod quoted;
+#[cfg(test)]
+mod tests;
+pub mod token;
+pub mod write;
+
+pub use line::{TextFault, tokens};
+pub use numbers::{BadNumber, decimal, hex8};
+pub use token::{Token, TokenList};
+pub use write::{put_decimal, put_quoted};

@@ -1,0 +1,141 @@
+//! Reads a line's tokens from the left.
+ghost use Rattle.std.specs.Prelude.{◌≡◌, ◌≢◌, ◌<◌, ◌≤◌, false, ℕ, All, IsTrue, length, take, slice_index, List, [], ◌∷◌, ◌++◌, Ok, IfOk, IfErr, IfSome, IfNone};
+ghost use Rattle.dom_text.specs.Answers.{Fails, Gives};
+ghost use Rattle.dom_text.specs.Tokens.{tokens_of, fault_at as fault_of_byte, is_blank as is_blank_byte};
+ghost use Rattle.dom_text.specs.Reading.{AreApart, is_word_byte as may_stand_in_word, with_tokens};
+ghost use Rattle.dom_text.specs.declared.line.TextFault.TheVariants.{NoMemory as OutOfMemory};
+ghost use Rattle.dom_text.specs.declared.token.Token.TheVariants.{Word};
+
+use crate::quoted::read_text;
+use crate::token::{Token, TokenList};
+use std::alloc::Global;
+use thiserror::Error;
+use uid_names::{ByteList, NoMemory};
+
+/// Why a line has no tokens.
+#[derive(Clone, Copy, Debug, PartialEq, Eq, Error)]
+pub enum TextFault {
+    /// A byte that may stand nowhere in a line.
+    #[error("byte")]
+    Byte,
+    /// A quote inside a word, or a quoted text that can't be read on.
+    #[error("quote")]
+    Quote,
+    /// There was no memory.
+    #[error("no memory")]
+    NoMemory,
+}
+
+impl From<NoMemory> for TextFault {
+    ghost from_gives = { λ _ e. e ≡ OutOfMemory };
+
+    fn from(_error: NoMemory) -> TextFault {
+        TextFault::NoMemory
+    }
+}
+
+/// The tokens of a line without its end. The first fault from the left decides.
+pub fn tokens(alloc: Global, line: &[u8]) -> Result<TokenList, TextFault>
+    ensures { Gives (λ list. list) result (tokens_of line.now) }
+{
+    let mut found = TokenList::new(alloc);
+    let mut rest = line;
+    while let Some((token, behind)) = next_token(alloc, rest)? {
+        found.push(token)?;
+        rest = behind;
+    }
+    Ok(found)
+}
+
+/// The first token of a line, and what stands behind it; None where the line has none.
+fn next_token(alloc: Global, line: &[u8]) -> Result<Option<(Token, &[u8])>, TextFault>
+    ensures some { IfOk result (λ found. IfSome found (λ t. tokens_of line.now ≡ with_tokens (t.0 ∷ []) (tokens_of t.1.now))) }
+    ensures shorter { IfOk result (λ found. IfSome found (λ t. length t.1.now < length line.now)) }
+    ensures none { IfOk result (λ found. IfNone found (tokens_of line.now ≡ Ok [])) }
+    ensures fault { IfErr result (λ fault. Fails fault (tokens_of line.now)) }
+{
+    let line = without_blanks(line);
+    let Some((first, inside)) = line.split_first() else {
+        return Ok(None);
+    };
+    match *first {
+        b'#' => Ok(None),
+        b'"' => {
+            let (text, behind) = read_text(alloc, inside)?;
+            Ok(Some((Token::Text(text), behind)))
+        }
+        _ => {
+            let (word, behind) = cut_word(line)?;
+            let word = ByteList::from_slice(alloc, word)?;
+            Ok(Some((Token::Word(word), behind)))
+        }
+    }
+}
+
+/// A line without the blanks at its front.
+fn without_blanks(line: &[u8]) -> &[u8]
+    ensures same { tokens_of line.now ≡ tokens_of result.now }
+    ensures begun { (b : ℕ) (rest : List ℕ) → result.now ≡ b ∷ rest → is_blank_byte b ≡ false }
+    ensures within { length result.now ≤ length line.now }
+{
+    let mut rest = line;
+    while let Some((byte, behind)) = rest.split_first() {
+        if !is_blank(*byte) {
+            return rest;
+        }
+        rest = behind;
+    }
+    rest
+}
+
+/// The word at the front of a line that begins with no blank, no quote and no `#`, and what stands behind it.
+fn cut_word(line: &[u8]) -> Result<(&[u8], &[u8]), TextFault>
+    requires begun { (b : ℕ) (rest : List ℕ) → line.now ≡ b ∷ rest → (is_blank_byte b ≡ false) × (b ≢ 34) × (b ≢ 35) }
+    requires some { 0 < length line.now }
+    ensures word { IfOk result (λ found. tokens_of line.now ≡ with_tokens (Word found.0.now ∷ []) (tokens_of found.1.now)) }
+    ensures shorter { IfOk result (λ found. length found.1.now < length line.now) }
+    ensures fault { IfErr result (λ fault. Fails fault (tokens_of line.now)) }
+{
+    let end = word_end(line);
+    let (word, rest) = line.split_at(end);
+    match rest.split_first() {
+        Some((byte, _)) if !is_blank(*byte) => Err(fault_at(*byte)),
+        _ => Ok((word, rest)),
+    }
+}
+
+/// How many bytes at the front of a line may stand in a word.
+fn word_end(line: &[u8]) -> usize
+    ensures within { result ≤ length line.now }
+    ensures word { All (λ b. IsTrue (may_stand_in_word b)) (take result line.now) }
+    ensures end { result < length line.now → may_stand_in_word (slice_index line.now result) ≡ false }
+{
+    match line.iter().position(|b| !is_word_byte(*b)) {
+        Some(end) => end,
+        None => line.len(),
+    }
+}
+
+/// Whether this byte may stand in a word.
+fn is_word_byte(byte: u8) -> bool
+    ensures { result ≡ may_stand_in_word byte }
+{
+    matches!(byte, b'!'..=b'~') && byte != b'"'
+}
+
+/// Whether this byte separates tokens.
+pub(crate) fn is_blank(byte: u8) -> bool
+    ensures { result ≡ is_blank_byte byte }
+{
+    byte == b' ' || byte == b'\t'
+}
+
+/// The fault of a byte where it may not stand.
+pub(crate) fn fault_at(byte: u8) -> TextFault
+    ensures { result ≡ fault_of_byte byte }
+{
+    match byte {
+        b' '..=b'~' | b'\t' => TextFault::Quote,
+        _ => TextFault::Byte,
+    }
+}
