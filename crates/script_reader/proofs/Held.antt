@@ -1,0 +1,208 @@
+-- What a draft holds beside its content, after one more object or command.
+use Rattle.std.proofs.Common.{◌≡◌, ◌≢◌, ◌≤◌, ◌<◌, ◌+◌, ◌-◌, ◌*◌, ◌↔◌, ◌⊎◌, inl, inr, ⊎_elim, ℕ, zero, suc, Bool, true, false, IsTrue, All, AllPairs, Contains, List, [], ◌∷◌, ◌++◌, length, get_or, set, map, refl, ap, sym, subst, ◌∙◌, append-nil, append_assoc, length-append, arith, rules}
+use Rattle.std.specs.Prelude.{◌&&◌, ◌||◌, ◌==◌, nat_le, nat_lt, not, if◌then◌else◌, sum_by}
+use Rattle.std.specs.List.{list_any}
+use Rattle.std.proofs.lemmas.Bool.{false≢true, eqb-true, eqb-false, ne_eqb, eq-eqb}
+use Rattle.std.proofs.lemmas.Bool.Decides.{nat_tests}
+use Rattle.std.proofs.lemmas.List.{get_or-set_other, length-set}
+use Rattle.std.proofs.lemmas.Grind.{get_or-set_at}
+use Rattle.std.proofs.lemmas.List.Elements.{All-push, All-head, All-tail, All-weaker, filter-append}
+use Rattle.std.proofs.lemmas.List.Folds.{list_any-append}
+use Rattle.std.proofs.lemmas.List.Quantifiers.{all_pairs_push}
+use Rattle.std.proofs.lemmas.List.Sums.{sum_by-append, sum_by-cons}
+use Rattle.uid_names.specs.Names.{ProcName, ObjectName, same_proc, same_uid}
+use Rattle.uid_names.specs.Openings.{IsDeclarable}
+use Rattle.uid_names.specs.declared.opening.Object.{Object}
+use Rattle.uid_names.specs.declared.mode.TheConstants.{MAX_ROOM}
+use Rattle.uid_names.specs.declared.mode.ObjKind.TheVariants.{File}
+use Rattle.uid_names.specs.Beginnings.{at_home}
+use Rattle.uid_names.specs.Beginnings.{AreNumbered}
+use Rattle.script_reader.specs.Drafts.{HoldsDeclared, HoldsTallies}
+use Rattle.script_reader.specs.Starts.{AreStarts}
+use Rattle.script_reader.specs.Named.{HoldsNamed, IsProc}
+use Rattle.script_reader.specs.Index.{HasAlso, slot_of}
+use Rattle.script_reader.specs.Judging.{next_uid, pages_at}
+use Rattle.script_reader.specs.Scripts.{is_declared, is_named, makes, same_text}
+use Rattle.script_reader.specs.declared.command.Command.{Command}
+use Rattle.script_reader.specs.declared.script.VarRow.{VarRow}
+use Rattle.script_reader.specs.declared.script.CommandRow.{CommandRow}
+use Rattle.script_reader.proofs.Decisions.{same_text-refl, same_text-true}
+
+-- a test of a list and of one more decides that the list has it, or that it is this
+also_decides : (P Q R : Type 0) (a b : Bool) → P ↔ (Q ⊎ R) → Q ↔ IsTrue a → R ↔ IsTrue b → P ↔ IsTrue (a || (b || false))
+also_decides P Q R true b h k l = (λ p. refl, λ yes. h.1 (inl (k.1 refl)))
+also_decides P Q R false true h k l = (λ p. refl, λ yes. h.1 (inr (l.1 refl)))
+also_decides P Q R false false h k l = (λ p. ⊎_elim k.0 l.0 (h.0 p), λ no. absurd (false≢true no))
+
+-- a declared object more
+pub declared-push : (old new : List (List ℕ)) (objects : List VarRow) (row : VarRow) → HoldsDeclared old objects → HasAlso old new row.var → HoldsDeclared new (objects ++ row ∷ [])
+declared-push old new objects row h also q =
+    rw (list_any-append (λ r. same_text r.var q) objects (row ∷ []))
+    (also_decides (Contains new q) (Contains old q) (row.var ≡ q) (is_declared objects q) (same_text row.var q) (also q) (h q) (same_text-refl row.var q, same_text-true row.var q))
+
+-- the processes have places of their own
+one_slot : (p q : ProcName) → IsProc p → IsProc q → slot_of p ≡ slot_of q → p ≡ q
+one_slot p q h k e =
+    let node : p.node ≡ q.node = omega (arith, h.node_low, k.node_low, h.number_low, k.number_low, h.number_high, k.number_high, e) in
+    let number : p.number ≡ q.number = omega (arith, h.node_low, k.node_low, h.number_low, k.number_low, h.number_high, k.number_high, e, node) in
+    ap (λ n. record { node = n; number = p.number }) node ∙ ap (λ m. record { node = q.node; number = m }) number
+
+same_proc-refl : (p : ProcName) → same_proc p p ≡ true
+same_proc-refl p = grind (arith, nat_tests)
+
+same_proc-true : (p q : ProcName) → same_proc p q ≡ true → p ≡ q
+same_proc-true p q h =
+    let node : p.node ≡ q.node = grind (arith, nat_tests) in
+    let number : p.number ≡ q.number = grind (arith, nat_tests) in
+    ap (λ n. record { node = n; number = p.number }) node ∙ ap (λ m. record { node = q.node; number = m }) number
+
+-- a command that names no variable more
+pub named-other : (sets : List (List (List ℕ))) (commands : List CommandRow) (row : CommandRow) → HoldsNamed sets commands → ((var : List ℕ) → makes var row.command ≡ false) → HoldsNamed sets (commands ++ row ∷ [])
+named-other sets commands row h other proc is var =
+    let none : (same_proc row.proc proc && makes var row.command) ≡ false = both (same_proc row.proc proc) (makes var row.command) (other var) in
+    let same : is_named (commands ++ row ∷ []) proc var ≡ is_named commands proc var =
+    list_any-append (λ r. same_proc r.proc proc && makes var r.command) commands (row ∷ []) ∙ (ap (λ t. is_named commands proc var || (t || false)) none ∙ or-false (is_named commands proc var)) in
+    subst (λ t. Contains (get_or sets (slot_of proc) []) var ↔ IsTrue t) (sym same) (h proc is var) where
+      both : (a b : Bool) → b ≡ false → (a && b) ≡ false
+      both true b e = e
+      both false b e = refl
+
+      or-false : (a : Bool) → (a || (false || false)) ≡ a
+      or-false true = refl
+      or-false false = refl
+
+-- a `new`: its process's set has one variable more
+pub named-new : (old new : List (List (List ℕ))) (commands : List CommandRow) (row : CommandRow) (name : List ℕ) → HoldsNamed old commands → IsProc row.proc → ((var : List ℕ) → makes var row.command ≡ same_text name var)
+    → HasAlso (get_or old (slot_of row.proc) []) (get_or new (slot_of row.proc) []) name → ((slot : ℕ) → slot ≢ slot_of row.proc → get_or new slot [] ≡ get_or old slot []) → HoldsNamed new (commands ++ row ∷ [])
+named-new old new commands row name h is made own others proc good var =
+    rw (list_any-append (λ r. same_proc r.proc proc && makes var r.command) commands (row ∷ [])) (by_proc (same_proc row.proc proc) refl) where
+      by_proc : (t : Bool) → same_proc row.proc proc ≡ t → Contains (get_or new (slot_of proc) []) var ↔ IsTrue (is_named commands proc var || ((t && makes var row.command) || false))
+      by_proc true e =
+          let same = same_proc-true row.proc proc e in
+          let slot : slot_of row.proc ≡ slot_of proc = ap slot_of same in
+          let also : HasAlso (get_or old (slot_of proc) []) (get_or new (slot_of proc) []) name = subst (λ k. HasAlso (get_or old k []) (get_or new k []) name) slot own in
+          rw (made var) (also_decides (Contains (get_or new (slot_of proc) []) var) (Contains (get_or old (slot_of proc) []) var) (name ≡ var) (is_named commands proc var) (same_text name var) (also var) (h proc good var) (same_text-refl name var, same_text-true name var))
+      by_proc false e =
+          let other : slot_of proc ≢ slot_of row.proc = λ slot. false≢true (sym e ∙ ap (λ p. same_proc row.proc p) (one_slot proc row.proc good is slot) ∙ same_proc-refl row.proc) in
+          rw (others (slot_of proc) other) (also_decides (Contains (get_or old (slot_of proc) []) var) (Contains (get_or old (slot_of proc) []) var) ⊥ (is_named commands proc var) false (inl, ⊎_elim (λ x. x) (λ no. absurd no)) (h proc good var) (λ no. absurd no, λ no. absurd (false≢true no)))
+
+-- the objects of a home, with one more
+home-push : (home : ℕ) (starts : List Object) (o : Object) → at_home home (starts ++ o ∷ []) ≡ at_home home starts ++ (if o.uid.home == home then o ∷ [] else [])
+home-push home starts o = filter-append (λ x. x.uid.home == home) starts (o ∷ [])
+
+pages-push : (home : ℕ) (starts : List Object) (o : Object) → pages_at home (starts ++ o ∷ []) ≡ (if o.uid.home == home then pages_at home starts + o.room else pages_at home starts)
+pages-push home starts o = rw (home-push home starts o, sum_by-append (λ x. x.room) (at_home home starts) (if o.uid.home == home then o ∷ [] else [])) (by_home (o.uid.home == home)) where
+  by_home : (t : Bool) → 8 + (sum_by (λ x. x.room) (at_home home starts) + sum_by (λ x. x.room) (if t then o ∷ [] else [])) ≡ (if t then pages_at home starts + o.room else pages_at home starts)
+  by_home true = omega arith
+  by_home false = omega arith
+
+numbered-push : (n : ℕ) (xs : List Object) (o : Object) → AreNumbered n xs → o.uid.counter ≡ length xs + n → AreNumbered n (xs ++ o ∷ [])
+numbered-push n [] o h e = (omega (arith, e), tt)
+numbered-push n (x ∷ xs) o h e = (h.0, numbered-push (n + 1) xs o h.1 (omega (arith, e)))
+
+-- the counters of a home are below the next one
+below : (home n : ℕ) (starts : List Object) → AreNumbered n (at_home home starts) → (k : ℕ) (d : Object) → k < length starts → (get_or starts k d).uid.home ≡ home → (get_or starts k d).uid.counter < length (at_home home starts) + n
+below home n [] h k d lt at = absurd (omega (arith, lt))
+below home n (x ∷ starts) h zero d lt at =
+    elim (x.uid.home == home) as (λ t. (x.uid.home == home) ≡ t → AreNumbered n (if t then x ∷ at_home home starts else at_home home starts) → x.uid.counter < length (if t then x ∷ at_home home starts else at_home home starts) + n) [
+      | true ↦ λ e numbered. omega (arith, numbered.0)
+      | false ↦ λ e numbered. absurd (eqb-false x.uid.home home e at)
+    ] refl h
+below home n (x ∷ starts) h (suc k) d lt at =
+    elim (x.uid.home == home) as (λ t. AreNumbered n (if t then x ∷ at_home home starts else at_home home starts) → (get_or starts k d).uid.counter < length (if t then x ∷ at_home home starts else at_home home starts) + n) [
+      | true ↦ λ numbered. let b = below home (n + 1) starts numbered.1 k d (omega (arith, lt)) at in omega (arith, b)
+      | false ↦ λ numbered. below home n starts numbered k d (omega (arith, lt)) at
+    ] h
+
+-- a name whose counter is below another's, if they have one home
+other_uid : (u : ObjectName) (m home : ℕ) → (u.home ≡ home → u.counter < m) → same_uid u (record { counter = m; home = home }) ≡ false
+other_uid u m home h = by_home (u.home == home) refl where
+  and-false : (a : Bool) → (a && false) ≡ false
+  and-false true = refl
+  and-false false = refl
+
+  by_home : (t : Bool) → (u.home == home) ≡ t → ((u.counter == m) && t) ≡ false
+  by_home true e =
+      let lt : u.counter < m = h (eqb-true u.home home e) in
+      let ne : u.counter ≡ m → ⊥ = λ same. omega (arith, lt, same) in
+      rw (ne_eqb u.counter m ne) refl
+  by_home false e = and-false (u.counter == m)
+
+-- an object more
+pub AreStarts-push : (nodes : ℕ) (starts : List Object) (home room : ℕ) → AreStarts nodes starts → home ≤ nodes → 1 ≤ room → room ≤ MAX_ROOM → pages_at home starts + room ≤ 16384 → AreStarts nodes (starts ++ record { uid = next_uid starts home; kind = File; room = room } ∷ [])
+AreStarts-push nodes starts home room h at low high fits =
+    let object : Object = record { uid = next_uid starts home; kind = File; room = room } in record {
+      declarable = All-push (IsDeclarable nodes MAX_ROOM) starts object h.declarable (record { counter = omega arith; home = at; room_low = low; room_high = high });
+      apart = all_pairs_push (λ a b. same_uid a.uid b.uid ≡ false) starts object h.apart (λ k d lt. other_uid (get_or starts k d).uid (length (at_home home starts) + 2) home (below home 2 starts (h.counters home) k d lt));
+      counters = λ other. rw (home-push other starts object) (numbered other (home == other) refl);
+      volume = λ other. rw (pages-push other starts object) (paged other (home == other) refl);
+    } where
+      numbered : (other : ℕ) (t : Bool) → (home == other) ≡ t → AreNumbered 2 (at_home other starts ++ (if t then record { uid = next_uid starts home; kind = File; room = room } ∷ [] else []))
+      numbered other true e =
+          let same : home ≡ other = eqb-true home other e in
+          numbered-push 2 (at_home other starts) (record { uid = next_uid starts home; kind = File; room = room }) (h.counters other) (ap (λ x. length (at_home x starts) + 2) same)
+      numbered other false e = subst (λ xs. AreNumbered 2 xs) (sym (append-nil (at_home other starts))) (h.counters other)
+
+      paged : (other : ℕ) (t : Bool) → (home == other) ≡ t → (if t then pages_at other starts + room else pages_at other starts) ≤ 16384
+      paged other true e = subst (λ x. pages_at x starts + room ≤ 16384) (eqb-true home other e) fits
+      paged other false e = h.volume other
+
+-- a node more
+pub AreStarts-wider : (m n : ℕ) (starts : List Object) → m ≤ n → AreStarts m starts → AreStarts n starts
+AreStarts-wider m n starts le h = record {
+  declarable = All-weaker (IsDeclarable m MAX_ROOM) (IsDeclarable n MAX_ROOM) (λ o is. record { counter = is.counter; home = omega (arith, is.home, le); room_low = is.room_low; room_high = is.room_high }) starts h.declarable;
+  apart = h.apart;
+  counters = h.counters;
+  volume = h.volume;
+}
+
+length-home : (home : ℕ) (starts : List Object) (o : Object) → length (at_home home (starts ++ o ∷ [])) ≡ (if o.uid.home == home then length (at_home home starts) + 1 else length (at_home home starts))
+length-home home starts o = rw (home-push home starts o, length-append (at_home home starts) (if o.uid.home == home then o ∷ [] else [])) (by_home (o.uid.home == home)) where
+  by_home : (t : Bool) → length (at_home home starts) + length (if t then o ∷ [] else []) ≡ (if t then length (at_home home starts) + 1 else length (at_home home starts))
+  by_home true = refl
+  by_home false = omega arith
+
+-- the tallies after one more object at a home, whose place is i
+pub HoldsTallies-push : (counts pages : List ℕ) (starts : List Object) (o : Object) (i : ℕ) → HoldsTallies counts pages starts → 1 ≤ o.uid.home → o.uid.home ≤ 8 → i ≡ o.uid.home - 1
+    → HoldsTallies (set counts i (get_or counts i 0 + 1)) (set pages i (get_or pages i 0 + o.room)) (starts ++ o ∷ [])
+HoldsTallies-push counts pages starts o i h low high at = record {
+  homes_counted = length-set counts i (get_or counts i 0 + 1) ∙ h.homes_counted;
+  homes_paged = length-set pages i (get_or pages i 0 + o.room) ∙ h.homes_paged;
+  counts_are = λ home least most. rw (length-home home starts o) (counted home least most (o.uid.home == home) refl);
+  pages_are = λ home least most. rw (pages-push home starts o) (paged home least most (o.uid.home == home) refl);
+} where
+  counted : (home : ℕ) → 1 ≤ home → home ≤ 8 → (t : Bool) → (o.uid.home == home) ≡ t → get_or (set counts i (get_or counts i 0 + 1)) (home - 1) 0 ≡ (if t then length (at_home home starts) + 1 else length (at_home home starts))
+  counted home least most true e =
+      let same : o.uid.home ≡ home = eqb-true o.uid.home home e in
+      let place : home - 1 ≡ i = omega arith in
+      get_or-set_at counts i (home - 1) (get_or counts i 0 + 1) 0 place (omega (arith, h.homes_counted)) ∙ ap (λ n. n + 1) (ap (λ k. get_or counts k 0) (sym place) ∙ h.counts_are home least most)
+  counted home least most false e =
+      let other : o.uid.home ≢ home = eqb-false o.uid.home home e in
+      let apart : home - 1 ≢ i = λ same. other (omega arith) in
+      get_or-set_other counts i (home - 1) (get_or counts i 0 + 1) 0 apart ∙ h.counts_are home least most
+
+  paged : (home : ℕ) → 1 ≤ home → home ≤ 8 → (t : Bool) → (o.uid.home == home) ≡ t → get_or (set pages i (get_or pages i 0 + o.room)) (home - 1) 0 ≡ (if t then pages_at home starts + o.room else pages_at home starts)
+  paged home least most true e =
+      let same : o.uid.home ≡ home = eqb-true o.uid.home home e in
+      let place : home - 1 ≡ i = omega arith in
+      get_or-set_at pages i (home - 1) (get_or pages i 0 + o.room) 0 place (omega (arith, h.homes_paged)) ∙ ap (λ n. n + o.room) (ap (λ k. get_or pages k 0) (sym place) ∙ h.pages_are home least most)
+  paged home least most false e =
+      let other : o.uid.home ≢ home = eqb-false o.uid.home home e in
+      let apart : home - 1 ≢ i = λ same. other (omega arith) in
+      get_or-set_other pages i (home - 1) (get_or pages i 0 + o.room) 0 apart ∙ h.pages_are home least most
+
+one_more_small : (x : Object) (xs : List Object) → 1 ≤ x.room → length xs ≤ sum_by (λ o. o.room) xs → length (x ∷ xs) ≤ sum_by (λ o. o.room) (x ∷ xs)
+one_more_small x xs low few =
+    let sum : sum_by (λ o. o.room) (x ∷ xs) ≡ x.room + sum_by (λ o. o.room) xs = sum_by-cons (λ o. o.room) x xs in
+    omega (arith, sum, low, few)
+
+-- what a home's objects number is bounded by what they take
+pub few_objects : (n : ℕ) (starts : List Object) (home : ℕ) → All (IsDeclarable n MAX_ROOM) starts → length (at_home home starts) ≤ sum_by (λ o. o.room) (at_home home starts)
+few_objects n [] home h = omega arith
+few_objects n (x ∷ starts) home h =
+    let first = All-head (IsDeclarable n MAX_ROOM) x starts h in
+    let rest = few_objects n starts home (All-tail (IsDeclarable n MAX_ROOM) x starts h) in
+    elim (x.uid.home == home) as (λ t. length (if t then x ∷ at_home home starts else at_home home starts) ≤ sum_by (λ o. o.room) (if t then x ∷ at_home home starts else at_home home starts)) [
+      | true ↦ one_more_small x (at_home home starts) first.room_low rest
+      | false ↦ rest
+    ]

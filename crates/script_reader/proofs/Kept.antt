@@ -1,0 +1,207 @@
+-- Each kind of line leaves a draft.
+use Rattle.std.proofs.Common.{◌≡◌, ◌≢◌, ◌≤◌, ◌<◌, ◌+◌, ◌-◌, ◌↔◌, ◌⊎◌, inl, inr, ⊎_elim, ℕ, zero, suc, Bool, true, false, IsTrue, All, AllPairs, Contains, List, [], ◌∷◌, ◌++◌, length, get_or, map, Option, Some, None, refl, ap, sym, subst, ◌∙◌, append-nil, append_assoc, length-append, arith, rules}
+use Rattle.std.specs.Prelude.{◌&&◌, ◌||◌, ◌==◌, nat_le, nat_lt, not, is_some, if◌then◌else◌, IfSome, position, sum_by}
+use Rattle.std.specs.List.{list_all, list_any, position_or_len}
+use Rattle.std.proofs.lemmas.Bool.{false≢true, eqb-true, eqb-false, ne_eqb, eq-eqb}
+use Rattle.std.proofs.lemmas.List.{map-append}
+use Rattle.std.proofs.lemmas.List.Elements.{All-push, All-weaker, filter-append}
+use Rattle.std.proofs.lemmas.List.Folds.{list_any-append}
+use Rattle.std.proofs.lemmas.List.Quantifiers.{all_pairs_push}
+use Rattle.std.proofs.lemmas.List.Sums.{AllPass-from_list_all, sum_by-append}
+use Rattle.uid_names.specs.Names.{ProcName, ObjectName, same_proc, same_uid}
+use Rattle.uid_names.specs.NameTexts.{IsNameText, is_name_byte}
+use Rattle.uid_names.specs.Openings.{IsDeclarable}
+use Rattle.uid_names.specs.declared.opening.Object.{Object}
+use Rattle.uid_names.specs.declared.mode.TheConstants.{MAX_ROOM}
+use Rattle.uid_names.specs.Beginnings.{at_home}
+use Rattle.uid_names.specs.Beginnings.{AreNumbered}
+use Rattle.dom_history.specs.Plans.{IsPlan, is_of_frame, is_set}
+use Rattle.dom_history.specs.declared.plan.Fate.{Fate}
+use Rattle.dom_history.specs.declared.plan.FateRow.{FateRow}
+use Rattle.script_reader.specs.Scripts.{Content, IsDraft, IsNode, IsObject, IsFateRow, IsGivenFate, IsCommandRow, IsCommand, IsHome, IsSpoken, AreSpoken, is_declared, is_named, knows, makes, same_text}
+use Rattle.script_reader.specs.Judging.{after, declared_at, is_node_name, next_uid, pages_at, place_of, with_command, with_declared, with_fate, with_node}
+use Rattle.script_reader.specs.Words.{is_name}
+use Rattle.script_reader.specs.declared.command.Command.{Command}
+use Rattle.script_reader.specs.declared.command.Command.TheVariants.{New, Lock, Unlock, Delete, Load, Store, Length, Map, Unmap, Loadat, Storeat}
+use Rattle.script_reader.specs.declared.script.NodeRow.{NodeRow}
+use Rattle.script_reader.specs.declared.script.VarRow.{VarRow}
+use Rattle.script_reader.specs.declared.script.CommandRow.{CommandRow}
+use Rattle.script_reader.proofs.Decisions.{same_text-refl}
+
+-- one more
+longer : {X : Type 0} (xs : List X) (x : X) → length (xs ++ x ∷ []) ≡ length xs + 1
+longer xs x = length-append xs (x ∷ [])
+
+-- what the test of a name decides
+pub name_text : (word : List ℕ) → is_name word ≡ true → IsNameText word
+name_text word h =
+    let parts : (nat_le 1 (length word) ≡ true) × (nat_le (length word) 32 ≡ true) × (list_all is_name_byte word ≡ true) = grind arith in
+    record { some = search (rules, parts.0); few = search (rules, parts.1); bytes = AllPass-from_list_all is_name_byte word parts.2 }
+
+-- no row of the nodes has a name that none has
+no_place : (p : NodeRow → Bool) (rows : List NodeRow) → nat_lt (position_or_len p rows) (length rows) ≡ false → (k : ℕ) (d : NodeRow) → k < length rows → p (get_or rows k d) ≡ false
+no_place p [] h k d below = absurd (omega (arith, below))
+no_place p (row ∷ rows) h zero d below = grind arith
+no_place p (row ∷ rows) h (suc k) d below =
+    let rest : nat_lt (position_or_len p rows) (length rows) ≡ false = grind arith in
+    no_place p rows rest k d (omega (arith, below))
+
+not_placed : (t : Bool) (n : ℕ) → is_some (if t then Some n else None) ≡ false → t ≡ false
+not_placed true n h = absurd cc
+not_placed false n h = refl
+
+-- no node has a name that is none of a node
+new_name : (rows : List NodeRow) (name : List ℕ) → is_node_name rows name ≡ false → (k : ℕ) (d : NodeRow) → k < length rows → (get_or rows k d).name ≢ name
+new_name rows name h k d below same =
+    let no = not_placed (nat_lt (position_or_len (λ row. same_text row.name name) rows) (length rows)) (position_or_len (λ row. same_text row.name name) rows) h in
+    false≢true (sym (no_place (λ row. same_text row.name name) rows no k d below) ∙ same_text-refl (get_or rows k d).name name same)
+
+-- no row has what no test finds
+none_of : {X : Type 0} (p : X → Bool) (xs : List X) → list_any p xs ≡ false → (k : ℕ) (d : X) → k < length xs → p (get_or xs k d) ≡ false
+none_of p [] h k d below = absurd (omega (arith, below))
+none_of p (x ∷ xs) h zero d below = grind arith
+none_of p (x ∷ xs) h (suc k) d below =
+    let rest : list_any p xs ≡ false = grind arith in
+    none_of p xs rest k d (omega (arith, below))
+
+-- what holds at a command holds at any more of phases and of nodes
+command_wider : (m n : ℕ) → m ≤ n → (command : Command) → IsCommand m command → IsCommand n command
+command_wider m n le (New var room None) h = h
+command_wider m n le (New var room (Some home)) h = (h.0, h.1, omega (arith, le, h.2))
+command_wider m n le (Lock var mode) h = h
+command_wider m n le (Unlock var) h = h
+command_wider m n le (Delete var) h = h
+command_wider m n le (Load var offset count) h = h
+command_wider m n le (Store var offset text) h = h
+command_wider m n le (Length var) h = h
+command_wider m n le (Map var) h = h
+command_wider m n le (Unmap var) h = h
+command_wider m n le (Loadat address count) h = h
+command_wider m n le (Storeat address text) h = h
+
+row_wider : (m n p q : ℕ) → m ≤ n → p ≤ q → (row : CommandRow) → IsCommandRow m p row → IsCommandRow n q row
+row_wider m n p q nodes phases row h = record {
+  node = omega (arith, h.node);
+  phase_low = h.phase_low;
+  phase_high = omega (arith, h.phase_high);
+  command = command_wider m n nodes row.command h.command;
+}
+
+-- a node more
+pub IsDraft-node : (s : Content) (name : List ℕ) (frames : ℕ) → IsDraft s → is_name name ≡ true → 5 ≤ frames → frames ≤ 256 → is_node_name s.nodes name ≡ false → length s.nodes < 8 → IsDraft (with_node s name frames)
+IsDraft-node s name frames h named few many new room =
+    let more = longer s.nodes (record { name = name; frames = frames }) in
+    let wide : length s.nodes ≤ length (s.nodes ++ record { name = name; frames = frames } ∷ []) = omega (arith, more) in record {
+      few_nodes = omega (arith, more);
+      nodes = All-push IsNode s.nodes (record { name = name; frames = frames }) h.nodes (record { name = name_text name named; few = few; many = many });
+      names_apart = all_pairs_push (λ a b. a.name ≢ b.name) s.nodes (record { name = name; frames = frames }) h.names_apart (new_name s.nodes name new);
+      opening_nodes = refl;
+      greatest = h.greatest;
+      files = All-weaker (IsObject (length s.nodes)) (IsObject (length (s.nodes ++ record { name = name; frames = frames } ∷ []))) (λ o is. record { home = omega (arith, is.home, wide); kind = is.kind }) s.opening.objects h.files;
+      vars = h.vars;
+      vars_apart = h.vars_apart;
+      vars_of = h.vars_of;
+      plan = h.plan;
+      fates = All-weaker (IsFateRow (length s.nodes)) (IsFateRow (length (s.nodes ++ record { name = name; frames = frames } ∷ []))) (λ row is. record { from = omega (arith, is.from, wide); to = omega (arith, is.to, wide); index_low = is.index_low; index_high = is.index_high; fate = is.fate }) s.plan h.fates;
+      phase_low = h.phase_low;
+      phase_high = h.phase_high;
+      few_commands = h.few_commands;
+      commands = All-weaker (IsCommandRow (length s.nodes) s.phases) (IsCommandRow (length (s.nodes ++ record { name = name; frames = frames } ∷ [])) s.phases) (row_wider (length s.nodes) (length (s.nodes ++ record { name = name; frames = frames } ∷ [])) s.phases s.phases wide (omega arith)) s.commands h.commands;
+      in_order = h.in_order;
+      spoken = h.spoken;
+    }
+
+-- a phase more
+pub IsDraft-phase : (s : Content) → IsDraft s → s.phases < 1000 → IsDraft (record s { phases = s.phases + 1 })
+IsDraft-phase s h room = record {
+  few_nodes = h.few_nodes;
+  nodes = h.nodes;
+  names_apart = h.names_apart;
+  opening_nodes = h.opening_nodes;
+  greatest = h.greatest;
+  files = h.files;
+  vars = h.vars;
+  vars_apart = h.vars_apart;
+  vars_of = h.vars_of;
+  plan = h.plan;
+  fates = h.fates;
+  phase_low = omega arith;
+  phase_high = omega arith;
+  few_commands = h.few_commands;
+  commands = All-weaker (IsCommandRow (length s.nodes) s.phases) (IsCommandRow (length s.nodes) (s.phases + 1)) (row_wider (length s.nodes) (length s.nodes) s.phases (s.phases + 1) (omega arith) (omega arith)) s.commands h.commands;
+  in_order = h.in_order;
+  spoken = h.spoken;
+}
+
+-- an object more
+pub IsDraft-object : (s : Content) (var : List ℕ) (home room : ℕ) → IsDraft s → is_name var ≡ true → home ≤ length s.nodes → is_declared s.objects var ≡ false → s.commands ≡ [] → IsDraft (with_declared s var (declared_at s home room))
+IsDraft-object s var home room h named at new none =
+    let object = declared_at s home room in record {
+      few_nodes = h.few_nodes;
+      nodes = h.nodes;
+      names_apart = h.names_apart;
+      opening_nodes = h.opening_nodes;
+      greatest = h.greatest;
+      files = All-push (IsObject (length s.nodes)) s.opening.objects object h.files (record { home = at; kind = refl });
+      vars = All-push (λ row. IsNameText row.var) s.objects (record { var = var; uid = object.uid }) h.vars (name_text var named);
+      vars_apart = all_pairs_push (λ a b. a.var ≢ b.var) s.objects (record { var = var; uid = object.uid }) h.vars_apart (λ k d below same. false≢true (sym (none_of (λ row. same_text row.var var) s.objects new k d below) ∙ same_text-refl (get_or s.objects k d).var var same));
+      vars_of = map-append (λ row. row.uid) s.objects (record { var = var; uid = object.uid } ∷ []) ∙ (ap (λ uids. uids ++ object.uid ∷ []) h.vars_of ∙ sym (map-append (λ o. o.uid) s.opening.objects (object ∷ [])));
+      plan = h.plan;
+      fates = h.fates;
+      phase_low = h.phase_low;
+      phase_high = h.phase_high;
+      few_commands = h.few_commands;
+      commands = h.commands;
+      in_order = h.in_order;
+      spoken = rw none tt;
+    }
+
+-- a fate more
+pub IsDraft-fate : (s : Content) (row : FateRow) → IsDraft s → IsPlan (s.plan ++ row ∷ []) → IsFateRow (length s.nodes) row → IsDraft (with_fate s row.from row.to row.index row.fate)
+IsDraft-fate s row h plan is = record {
+  few_nodes = h.few_nodes;
+  nodes = h.nodes;
+  names_apart = h.names_apart;
+  opening_nodes = h.opening_nodes;
+  greatest = h.greatest;
+  files = h.files;
+  vars = h.vars;
+  vars_apart = h.vars_apart;
+  vars_of = h.vars_of;
+  plan = plan;
+  fates = All-push (IsFateRow (length s.nodes)) s.plan row h.fates is;
+  phase_low = h.phase_low;
+  phase_high = h.phase_high;
+  few_commands = h.few_commands;
+  commands = h.commands;
+  in_order = h.in_order;
+  spoken = h.spoken;
+}
+
+-- a command more speaks of what is known
+AreSpoken-push : (objects : List VarRow) (before done : List CommandRow) (row : CommandRow) → AreSpoken objects before done → IsSpoken objects (before ++ done) row.proc row.command → AreSpoken objects before (done ++ row ∷ [])
+AreSpoken-push objects before [] row h spoken = (subst (λ rows. IsSpoken objects rows row.proc row.command) (append-nil before) spoken, tt)
+AreSpoken-push objects before (x ∷ done) row h spoken = (h.0, AreSpoken-push objects (before ++ x ∷ []) done row h.1 (subst (λ rows. IsSpoken objects rows row.proc row.command) (sym (append_assoc before (x ∷ []) done)) spoken))
+
+pub IsDraft-command : (s : Content) (proc : ProcName) (command : Command) → IsDraft s → proc.node ≤ length s.nodes → IsCommand (length s.nodes) command → IsSpoken s.objects s.commands proc command → length s.commands < 20000 → IsDraft (with_command s proc command)
+IsDraft-command s proc command h node range spoken room =
+    let row : CommandRow = record { proc = proc; phase = s.phases; command = command } in
+    let more = longer s.commands row in record {
+      few_nodes = h.few_nodes;
+      nodes = h.nodes;
+      names_apart = h.names_apart;
+      opening_nodes = h.opening_nodes;
+      greatest = h.greatest;
+      files = h.files;
+      vars = h.vars;
+      vars_apart = h.vars_apart;
+      vars_of = h.vars_of;
+      plan = h.plan;
+      fates = h.fates;
+      phase_low = h.phase_low;
+      phase_high = h.phase_high;
+      few_commands = omega (arith, more);
+      commands = All-push (IsCommandRow (length s.nodes) s.phases) s.commands row h.commands (record { node = node; phase_low = h.phase_low; phase_high = omega arith; command = range });
+      in_order = all_pairs_push (λ a b. a.phase ≤ b.phase) s.commands row h.in_order (λ k d below. (h.commands k d below).phase_high);
+      spoken = AreSpoken-push s.objects [] s.commands row h.spoken spoken;
+    }

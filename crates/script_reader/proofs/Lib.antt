@@ -1,0 +1,9 @@
+pub mod Naming
+pub mod Decisions
+pub mod Kept
+pub mod Held
+pub mod Drafting
+pub mod Unique
+pub mod Reading
+pub mod Ranges
+pub mod Begun

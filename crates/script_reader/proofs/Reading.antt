@@ -1,0 +1,124 @@
+-- Lines that are read one by one.
+use Rattle.std.proofs.Common.{◌≡◌, ◌≢◌, ◌≤◌, ◌<◌, ◌+◌, ◌-◌, take, drop, ℕ, Bool, true, false, All, List, [], ◌∷◌, ◌++◌, length, Option, Some, None, Result, Ok, Err, MatchOption, refl, ap, sym, subst, ◌∙◌, arith, rules}
+use Rattle.std.specs.Prelude.{◌==◌, ◌||◌, if◌then◌else◌, find, MatchResult, nat_lt}
+use Rattle.std.proofs.lemmas.List.{length-take, nil_from_length}
+use Rattle.std.proofs.lemmas.Bool.{false≢true, eqb-true, ne_eqb}
+use Rattle.std.proofs.lemmas.List.Elements.{All-head, All-tail}
+use Rattle.dom_text.specs.declared.token.Token.{Token}
+use Rattle.dom_text.specs.declared.token.Token.TheVariants.{Word as WordToken, Text as TextToken}
+use Rattle.script_reader.specs.Cuts.{Lacks, IsCutAt}
+use Rattle.script_reader.specs.Grammar.{AreGood, IsFirstBad, before_lines, raw_lines, without_cr}
+use Rattle.script_reader.specs.Judging.{IsFormed, has_begun, judged, judged_tokens}
+use Rattle.script_reader.specs.Sayings.{Saying, Node, Object, Fault, Phase, Does}
+use Rattle.script_reader.specs.Scripts.{Content, same_text}
+use Rattle.script_reader.specs.Seen.{BeginsWithNoWord, JoinsTwo, seen, seen_line}
+use Rattle.script_reader.specs.Words.{line_word_of, line_word_text, line_words, verb_of, verb_text, verbs}
+use Rattle.script_reader.specs.declared.cause.Cause.{Cause}
+use Rattle.script_reader.specs.declared.cause.Cause.TheVariants.{Word}
+use Rattle.script_reader.specs.declared.line.Line.{Line}
+use Rattle.script_reader.specs.declared.script.CommandRow.{CommandRow}
+use Rattle.script_reader.specs.declared.words.LineWord.{LineWord}
+use Rattle.script_reader.specs.declared.words.LineWord.TheVariants.{Node as NodeWord, Object as ObjectWord, Fault as FaultWord, Phase as PhaseWord}
+use Rattle.script_reader.specs.declared.words.Verb.{Verb}
+use Rattle.script_reader.specs.declared.words.Verb.TheVariants.{New as NewVerb, Lock as LockVerb, Unlock as UnlockVerb, Delete as DeleteVerb, Load as LoadVerb, Store as StoreVerb, Length as LengthVerb, Map as MapVerb, Unmap as UnmapVerb, Loadat as LoadatVerb, Storeat as StoreatVerb}
+use Rattle.script_reader.proofs.Decisions.{same_text-false}
+
+-- a good line in front
+pub good_step : (s t : Content) (line : List ℕ) (lines : List (List ℕ)) (end : Content) → judged s (without_cr line) ≡ Ok t → AreGood t lines end → AreGood s (line ∷ lines) end
+good_step s t line lines end e h = rw e h
+
+pub bad_step : (k : ℕ) (s t : Content) (line : List ℕ) (lines : List (List ℕ)) (n : ℕ) (cause : Cause) → judged s (without_cr line) ≡ Ok t → IsFirstBad (k + 1) t lines n cause → IsFirstBad k s (line ∷ lines) n cause
+bad_step k s t line lines n cause e h = rw e h
+
+-- a bad one in front
+pub bad_here : (k : ℕ) (s : Content) (line : List ℕ) (lines : List (List ℕ)) (cause : Cause) → judged s (without_cr line) ≡ Err cause → IsFirstBad k s (line ∷ lines) k cause
+bad_here k s line lines cause e = rw e (refl, refl)
+
+-- bytes are cut into lines at the first LF
+pub lines-cut : (front back : List ℕ) → Lacks 10 front → raw_lines (front ++ 10 ∷ back) ≡ front ∷ raw_lines back
+lines-cut [] back h = refl
+lines-cut (b ∷ front) back h =
+    rw (ne_eqb b 10 (All-head (λ b. b ≢ 10) b front h)) (ap (before_lines b) (lines-cut front back (All-tail (λ b. b ≢ 10) b front h)))
+
+-- the last line may lack its LF
+pub lines-uncut : (b : ℕ) (line : List ℕ) → Lacks 10 (b ∷ line) → raw_lines (b ∷ line) ≡ (b ∷ line) ∷ []
+lines-uncut b [] h = rw (ne_eqb b 10 (All-head (λ b. b ≢ 10) b [] h)) refl
+lines-uncut b (c ∷ line) h =
+    rw (ne_eqb b 10 (All-head (λ b. b ≢ 10) b (c ∷ line) h)) (ap (before_lines b) (lines-uncut c line (All-tail (λ b. b ≢ 10) b (c ∷ line) h)))
+
+-- a line that ends in a CR
+pub cr-cut : (line : List ℕ) → without_cr (line ++ 13 ∷ []) ≡ line
+cr-cut [] = refl
+cr-cut (b ∷ []) = refl
+cr-cut (b ∷ c ∷ line) = ap (λ t. b ∷ t) (cr-cut (c ∷ line))
+
+-- one that doesn't
+pub no_cr : (line : List ℕ) → ((front : List ℕ) → line ≢ front ++ 13 ∷ []) → without_cr line ≡ line
+no_cr [] h = refl
+no_cr (b ∷ []) h = by_test (b == 13) refl where
+  by_test : (t : Bool) → (b == 13) ≡ t → (if t then [] else b ∷ []) ≡ b ∷ []
+  by_test true e = absurd (h [] (ap (λ x. x ∷ []) (eqb-true b 13 e)))
+  by_test false e = refl
+no_cr (b ∷ c ∷ line) h = ap (λ t. b ∷ t) (no_cr (c ∷ line) (λ front e. h (b ∷ front) (ap (λ t. b ∷ t) e)))
+
+-- bytes without an LF are one line
+pub lines-alone : (bytes : List ℕ) → Lacks 10 bytes → 0 < length bytes → raw_lines bytes ≡ bytes ∷ []
+lines-alone [] h some = absurd (omega (arith, some))
+lines-alone (b ∷ bytes) h some = lines-uncut b bytes h
+
+-- nothing stands behind the end
+pub behind_the_end : (xs : List ℕ) → take (length xs - length xs) (drop (length xs) xs) ≡ []
+behind_the_end xs = nil_from_length (take (length xs - length xs) (drop (length xs) xs)) (omega (arith, length-take (length xs - length xs) (drop (length xs) xs)))
+
+-- tokens that begin with no word are no line
+pub no_word : (s : Content) (tokens : List Token) → BeginsWithNoWord tokens → 0 < length tokens → judged_tokens s tokens ≡ Err Word
+no_word s [] h some = absurd (omega (arith, some))
+no_word s (WordToken word ∷ rest) h some = absurd h
+no_word s (TextToken text ∷ rest) h some = refl
+
+-- a word that is none of these
+none_found : {X : Type 0} (text : X → List ℕ) (word : List ℕ) → ((x : X) → word ≢ text x) → (xs : List X) → find (λ x. same_text (text x) word) xs ≡ None
+none_found text word h [] = refl
+none_found text word h (x ∷ xs) = rw (same_text-false (text x) word (λ e. h x (sym e))) (none_found text word h xs)
+
+pub no_line_word : (word : List ℕ) → ((w : LineWord) → word ≢ line_word_text w) → line_word_of word ≡ None
+no_line_word word h = none_found line_word_text word h line_words
+
+pub no_verb : (word : List ℕ) → ((v : Verb) → word ≢ verb_text v) → verb_of word ≡ None
+no_verb word h = none_found verb_text word h verbs
+
+pub line_word_is : (word : List ℕ) (w : LineWord) → word ≡ line_word_text w → line_word_of word ≡ Some w
+line_word_is word NodeWord e = ap line_word_of e
+line_word_is word ObjectWord e = ap line_word_of e
+line_word_is word FaultWord e = ap line_word_of e
+line_word_is word PhaseWord e = ap line_word_of e
+
+pub verb_is : (word : List ℕ) (v : Verb) → word ≡ verb_text v → verb_of word ≡ Some v
+verb_is word NewVerb e = ap verb_of e
+verb_is word LockVerb e = ap verb_of e
+verb_is word UnlockVerb e = ap verb_of e
+verb_is word DeleteVerb e = ap verb_of e
+verb_is word LoadVerb e = ap verb_of e
+verb_is word StoreVerb e = ap verb_of e
+verb_is word LengthVerb e = ap verb_of e
+verb_is word MapVerb e = ap verb_of e
+verb_is word UnmapVerb e = ap verb_of e
+verb_is word LoadatVerb e = ap verb_of e
+verb_is word StoreatVerb e = ap verb_of e
+
+-- a form that was found, seen as the definitions have it
+pub form_is : (found : Option Line) (form : Option Saying) → MatchOption found (form ≡ None) (λ line. form ≡ Some (seen line)) → form ≡ seen_line found
+form_is None form h = h
+form_is (Some line) form h = h
+
+no_commands : (phases : ℕ) (commands : List CommandRow) → (nat_lt 1 phases || nat_lt 0 (length commands)) ≡ false → commands ≡ []
+no_commands phases [] h = refl
+no_commands phases (c ∷ commands) h = absurd (false≢true (grind arith))
+
+-- before phases and commands all is in its place
+pub in_place : (s : Content) → has_begun s ≡ false → (said : Saying) → JoinsTwo said → IsFormed s said
+in_place s h (Node name frames) two = tt
+in_place s h (Object var room home) two = no_commands s.phases s.commands h
+in_place s h (Fault from to index fate) two = two
+in_place s h Phase two = tt
+in_place s h (Does process command) two = tt

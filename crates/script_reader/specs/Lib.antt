@@ -1,0 +1,14 @@
+pub mod Scripts
+pub mod Causes
+pub mod Words
+pub mod Sayings
+pub mod Judging
+pub mod Grammar
+pub mod Results
+pub mod Seen
+pub mod Index
+pub mod Cuts
+pub mod Drafts
+pub mod Named
+pub mod Notes
+pub mod Starts

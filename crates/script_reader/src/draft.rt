@@ -1,0 +1,581 @@
+//! What the lines of a script have declared and asked for so far.
+ghost use Rattle.std.specs.Prelude.{◌≡◌, ◌≢◌, ◌≤◌, ◌<◌, ◌+◌, ◌-◌, ◌&&◌, ◌==◌, not, ℕ, List, [], ◌∷◌, ◌++◌, true, false, is_some, length, slice_index, IfOk, OnOk, OnErr, IfSome, MatchOption, None, Some};
+ghost use Rattle.uid_names.specs.declared.mode.ObjKind.TheVariants.{File};
+ghost use Rattle.dom_history.specs.Plans.{is_set};
+ghost use Rattle.script_reader.specs.Notes.{NotesCommand};
+ghost use Rattle.script_reader.specs.Starts.{AreStarts};
+ghost use Rattle.script_reader.specs.Grammar.{nothing};
+ghost use Rattle.script_reader.specs.Results.{Follows};
+ghost use Rattle.script_reader.specs.Scripts.{Content, IsContent, IsCommand, IsGivenFate, IsHome, IsSpoken, is_declared, knows};
+ghost use Rattle.script_reader.specs.Judging.{after, declared_at, fate_said, has_begun, has_numbers, home_of, home_number, command_with, is_fate, is_node_name, is_node_or_none, is_no_name, is_no_number, is_number, is_past_limit, is_repeated, is_unknown, is_var_known, IsFormed, are_frames, frames_of, judged_saying, node_number, number_in, pages_at, place_of, with_command, with_declared, with_fate, with_node};
+ghost use Rattle.script_reader.specs.Seen.{seen, seen_command, seen_fate, seen_option};
+ghost use Rattle.script_reader.specs.Words.{is_name};
+
+use crate::cause::{Cause, LineFault};
+use crate::command::Command;
+use crate::index::{NamedVars, VarSet};
+use crate::line::{
+    CommandWords, FateWords, Line, MAX_COUNT, MAX_FRAMES, MAX_INDEX, MAX_LATE, MAX_OFFSET,
+    MAX_PROCESS, MIN_FRAMES,
+};
+use crate::numbers::{address, number};
+use crate::script::{CommandRow, CommandRows, NodeRow, NodeRows, Script, VarRow, VarRows};
+use dom_history::{Fate, FaultPlan};
+use std::alloc::Global;
+use std::marker::Model;
+use uid_names::{
+    ByteList, ENTRY_ROOM, MAX_ROOM, NoMemory, NodeId, ObjKind, Object, Opening, ProcId, Uid,
+    VOLUME_ROOM,
+};
+
+/// The most nodes of a script.
+const MAX_NODES: usize = 8;
+
+/// The most phases of a script.
+const MAX_PHASES: u32 = 1000;
+
+/// The most commands of a script.
+const MAX_COMMANDS: usize = 20_000;
+
+/// The page frames of a node whose line names none.
+const USUAL_FRAMES: u16 = 64;
+
+/// The counter of the first object that is declared at a home.
+const FIRST_COUNTER: u64 = 2;
+
+/// What was declared and asked for. `declared` and `named` have the same variables as the rows, and
+/// `counts` and `pages` say of each home how many objects are declared there, and how many pages they
+/// take with the entry directory, so that no test goes over all rows.
+#[derive(Drop)]
+pub(crate) struct Draft {
+    nodes: Vec<NodeRow>,
+    starts: Vec<Object>,
+    objects: Vec<VarRow>,
+    plan: FaultPlan,
+    phases: u32,
+    commands: Vec<CommandRow>,
+    declared: VarSet,
+    named: NamedVars,
+    counts: [u32; 8],
+    pages: [u32; 8],
+}
+
+impl Model for Draft {
+    ghost use Rattle.script_reader.specs.Scripts.{Content};
+
+    ghost Value = { Content };
+
+    ghost use Rattle.script_reader.specs.Drafts.{content_of, HoldsDraft};
+
+    ghost view = { content_of };
+
+    ghost invariant = { HoldsDraft };
+}
+
+impl Draft {
+    /// Nothing was said.
+    pub(crate) fn new(alloc: Global) -> Result<Draft, NoMemory>
+        ensures { IfOk result (λ draft. draft ≡ nothing) }
+    {
+        let named = NamedVars::new(alloc)?;
+        Ok(Draft {
+            nodes: Vec::new(alloc),
+            starts: Vec::new(alloc),
+            objects: Vec::new(alloc),
+            plan: FaultPlan::new(alloc),
+            phases: 1,
+            commands: Vec::new(alloc),
+            declared: VarSet::new(alloc),
+            named,
+            counts: [0; 8],
+            pages: [ENTRY_ROOM; 8],
+        })
+    }
+
+    /// Whether a phase or a command was said.
+    pub(crate) fn has_begun(&self) -> bool
+        ensures { result ≡ has_begun self.now }
+    {
+        1 < self.phases || !self.commands.is_empty()
+    }
+
+    /// Takes a line that has its form, or refuses it for the first cause that it meets.
+    pub(crate) fn take(&mut self, alloc: Global, line: Line<'_>) -> Result<(), LineFault>
+        requires { IsFormed self.old (seen line) }
+        ensures { Follows self.new result (judged_saying self.old (seen line.entry)) }
+    {
+        if line.is_no_number() {
+            return Err(LineFault::Bad(Cause::Number));
+        }
+        if line.is_no_name() {
+            return Err(LineFault::Bad(Cause::Name));
+        }
+        if self.is_unknown(line) {
+            return Err(LineFault::Bad(Cause::Unknown));
+        }
+        if self.is_repeated(line) {
+            return Err(LineFault::Bad(Cause::Repeat));
+        }
+        if self.is_past_limit(line) {
+            return Err(LineFault::Bad(Cause::Limit));
+        }
+        self.add(alloc, line)?;
+        Ok(())
+    }
+
+    /// Whether the line speaks of a node that was not declared, or of a variable that its process doesn't know.
+    fn is_unknown(&self, line: Line<'_>) -> bool
+        requires { is_no_number (seen line) ≡ false }
+        ensures { result ≡ is_unknown self.now (seen line.entry) }
+    {
+        match line {
+            Line::Node { .. } | Line::Phase => false,
+            Line::Object { home, .. } => self.node_named(home).is_none(),
+            Line::Fault { from, to, .. } => {
+                self.node_named(from).is_none() || self.node_named(to).is_none()
+            }
+            Line::Does {
+                node,
+                digits,
+                command,
+            } => match self.node_named(node) {
+                Some(node) => self.is_command_unknown(proc_of(node, digits), command),
+                None => true,
+            },
+        }
+    }
+
+    /// Whether a process's command speaks of a home that was not declared, or of a variable that the process doesn't know.
+    fn is_command_unknown(&self, proc: ProcId, command: CommandWords<'_>) -> bool
+        ensures { result ≡ not (is_node_or_none self.now.nodes (home_of (seen_command command.entry)) && is_var_known self.now proc (seen_command command.entry)) }
+    {
+        match command {
+            CommandWords::New { home: None, .. } => false,
+            CommandWords::New {
+                home: Some(home),
+                ..
+            } => self.node_named(home).is_none(),
+            CommandWords::Lock { var, .. }
+            | CommandWords::Unlock { var }
+            | CommandWords::Delete { var }
+            | CommandWords::Load { var, .. }
+            | CommandWords::Store { var, .. }
+            | CommandWords::Length { var }
+            | CommandWords::Map { var }
+            | CommandWords::Unmap { var } => !self.knows(proc, var),
+            CommandWords::Loadat { .. } | CommandWords::Storeat { .. } => false,
+        }
+    }
+
+    /// Whether the process knows the variable.
+    fn knows(&self, proc: ProcId, var: &[u8]) -> bool
+        ensures { result ≡ knows self.now.objects self.now.commands proc var.now }
+    {
+        self.is_declared(var) || self.named.has(proc, var)
+    }
+
+    /// Whether a declared object has the variable.
+    fn is_declared(&self, var: &[u8]) -> bool
+        ensures { result ≡ is_declared self.now.objects var.now }
+    {
+        self.declared.has(var)
+    }
+
+    /// Whether the line declares what was declared, or makes an object for the variable of a declared one.
+    fn is_repeated(&self, line: Line<'_>) -> bool
+        requires numbers { is_no_number (seen line) ≡ false }
+        requires known { is_unknown self.now (seen line) ≡ false }
+        ensures { result ≡ is_repeated self.now (seen line.entry) }
+    {
+        match line {
+            Line::Node { name, .. } => self.node_named(name).is_some(),
+            Line::Object { var, .. } => self.is_declared(var),
+            Line::Fault {
+                from,
+                to,
+                index,
+                ..
+            } => {
+                let index = number(index, 1, MAX_INDEX) as u64;
+                self.plan
+                    .is_set(self.known_node(from), self.known_node(to), index)
+            }
+            Line::Phase => false,
+            Line::Does { command, .. } => match command {
+                CommandWords::New { var, .. } => self.is_declared(var),
+                _ => false,
+            },
+        }
+    }
+
+    /// Whether the line is one more than there may be.
+    fn is_past_limit(&self, line: Line<'_>) -> bool
+        requires numbers { is_no_number (seen line) ≡ false }
+        requires known { is_unknown self.now (seen line) ≡ false }
+        ensures { result ≡ is_past_limit self.now (seen line.entry) }
+    {
+        match line {
+            Line::Node { .. } => self.nodes.len() >= MAX_NODES,
+            Line::Object { room, home, .. } => {
+                let home = home_index(self.known_node(home));
+                self.pages[home] + number(room, 1, MAX_ROOM) > VOLUME_ROOM
+            }
+            Line::Fault { .. } => false,
+            Line::Phase => self.phases >= MAX_PHASES,
+            Line::Does { .. } => self.commands.len() >= MAX_COMMANDS,
+        }
+    }
+
+    /// Does what a good line says.
+    fn add(&mut self, alloc: Global, line: Line<'_>) -> Result<(), NoMemory>
+        requires formed { IsFormed self.old (seen line) }
+        requires numbers { is_no_number (seen line) ≡ false }
+        requires names { is_no_name (seen line) ≡ false }
+        requires known { is_unknown self.old (seen line) ≡ false }
+        requires new { is_repeated self.old (seen line) ≡ false }
+        requires within { is_past_limit self.old (seen line) ≡ false }
+        ensures { OnOk result (self.new ≡ after self.old (seen line.entry)) }
+    {
+        match line {
+            Line::Node { name, frames } => self.add_node(alloc, name, frames_in(frames)),
+            Line::Object { var, room, home } => {
+                let home = self.known_node(home);
+                self.add_object(alloc, var, number(room, 1, MAX_ROOM), home)
+            }
+            Line::Fault {
+                from,
+                to,
+                index,
+                fate,
+            } => {
+                let (from, to) = (self.known_node(from), self.known_node(to));
+                self.add_fate(from, to, number(index, 1, MAX_INDEX), fate_of(fate))
+            }
+            Line::Phase => {
+                self.add_phase();
+                Ok(())
+            }
+            Line::Does {
+                node,
+                digits,
+                command,
+            } => {
+                let proc = proc_of(self.known_node(node), digits);
+                let home = self.home_of(command);
+                let command = command_of(alloc, command, home)?;
+                self.add_command(alloc, proc, command)
+            }
+        }
+    }
+
+    /// Begins a phase.
+    fn add_phase(&mut self)
+        requires { self.old.phases < 1000 }
+        ensures { self.new ≡ record self.old { phases = self.old.phases + 1 } }
+    {
+        self.phases += 1;
+    }
+
+    /// Sets the fate of a frame.
+    fn add_fate(&mut self, from: NodeId, to: NodeId, index: u32, fate: Fate) -> Result<(), NoMemory>
+        requires from { from ≤ length self.old.nodes }
+        requires to { to ≤ length self.old.nodes }
+        requires apart { from ≢ to }
+        requires low { 1 ≤ index }
+        requires high { index ≤ 1000000 }
+        requires fate { IsGivenFate fate }
+        requires new { is_set self.old.plan from to index ≡ false }
+        ensures { OnOk result (self.new ≡ with_fate self.old from to index fate) }
+    {
+        self.plan.set(from, to, index as u64, fate)?;
+        let _plan = self.plan.rows();
+        Ok(())
+    }
+
+    /// Declares a node.
+    fn add_node(&mut self, alloc: Global, name: &[u8], frames: u16) -> Result<(), NoMemory>
+        requires name { is_name name.now ≡ true }
+        requires few { 5 ≤ frames }
+        requires many { frames ≤ 256 }
+        requires new { is_node_name self.old.nodes name.now ≡ false }
+        requires room { length self.old.nodes < 8 }
+        ensures { OnOk result (self.new ≡ with_node self.old name.now frames) }
+    {
+        let name = ByteList::from_slice(alloc, name)?;
+        self.nodes.push(NodeRow { name, frames })?;
+        Ok(())
+    }
+
+    /// Declares an object. Where there is no memory for all that is noted of it, nothing is noted.
+    fn add_object(
+        &mut self,
+        alloc: Global,
+        var: &[u8],
+        room: u32,
+        home: NodeId,
+    ) -> Result<(), NoMemory>
+        requires name { is_name var.now ≡ true }
+        requires low { 1 ≤ room }
+        requires high { room ≤ MAX_ROOM }
+        requires home { home ≤ length self.old.nodes }
+        requires new { is_declared self.old.objects var.now ≡ false }
+        requires first { self.old.commands ≡ [] }
+        requires fits { pages_at home self.old.opening.objects + room ≤ VOLUME_ROOM }
+        ensures { OnOk result (self.new ≡ with_declared self.old var.now (declared_at self.old home room)) }
+    {
+        let at = home_index(home);
+        let uid = Uid::from_parts(self.counts[at] as u64 + FIRST_COUNTER, home);
+        let name = ByteList::from_slice(alloc, var)?;
+        self.objects.reserve(1)?;
+        self.starts.reserve(1)?;
+        self.declared.add(alloc, var)?;
+        let object = Object {
+            uid,
+            kind: ObjKind::File,
+            room,
+        };
+        if self.starts.push(object).is_err() {
+            unreachable!();
+        }
+        if self.objects.push(VarRow { var: name, uid }).is_err() {
+            unreachable!();
+        }
+        self.counts[at] += 1;
+        self.pages[at] += room;
+        Ok(())
+    }
+
+    /// Adds a command of the last phase. Where there is no memory for all that is noted of it, nothing is noted.
+    fn add_command(&mut self, alloc: Global, proc: ProcId, command: Command) -> Result<(), NoMemory>
+        requires node { proc.node ≤ length self.old.nodes }
+        requires range { IsCommand (length self.old.nodes) command }
+        requires spoken { IsSpoken self.old.objects self.old.commands proc command }
+        requires room { length self.old.commands < 20000 }
+        ensures { OnOk result (self.new ≡ with_command self.old proc command) }
+    {
+        self.commands.reserve(1)?;
+        note_command(&mut self.named, alloc, proc, &command)?;
+        let row = CommandRow {
+            proc,
+            phase: self.phases,
+            command,
+        };
+        if self.commands.push(row).is_err() {
+            unreachable!();
+        }
+        Ok(())
+    }
+
+    /// The node that a command names as a home.
+    fn home_of(&self, command: CommandWords<'_>) -> Option<NodeId>
+        requires { is_node_or_none self.now.nodes (home_of (seen_command command)) ≡ true }
+        ensures value { result ≡ home_number self.now.nodes (home_of (seen_command command.entry)) }
+        ensures within { IsHome (length self.now.nodes) result }
+    {
+        match command {
+            CommandWords::New {
+                home: Some(home),
+                ..
+            } => Some(self.known_node(home)),
+            _ => None,
+        }
+    }
+
+    /// The node of this name.
+    fn node_named(&self, name: &[u8]) -> Option<NodeId>
+        ensures found { is_some result ≡ is_node_name self.now.nodes name.now }
+        ensures value { IfSome result (λ node. node ≡ node_number self.now.nodes name.now) }
+        ensures within { IfSome result (λ node. node ≤ length self.now.nodes) }
+    {
+        let at = place(self.nodes.as_slice(), name)?;
+        NodeId::new(at as u8 + 1)
+    }
+
+    /// The node of a name that was declared.
+    fn known_node(&self, name: &[u8]) -> NodeId
+        requires { is_node_name self.now.nodes name.now ≡ true }
+        ensures value { result ≡ node_number self.now.nodes name.now }
+        ensures within { result ≤ length self.now.nodes }
+    {
+        match self.node_named(name) {
+            Some(node) => node,
+            None => unreachable!(),
+        }
+    }
+
+    /// The script, where a node was declared.
+    pub(crate) fn finish(self, alloc: Global) -> Result<Script, NoMemory>
+        requires { 1 ≤ length self.nodes }
+        ensures { IfOk result (λ script. script ≡ self) }
+    {
+        let opening = opening_of(alloc, self.nodes.len() as u8, self.starts.as_slice())?;
+        let Draft {
+            nodes,
+            starts: _,
+            objects,
+            plan,
+            phases,
+            commands,
+            declared: _,
+            named: _,
+            counts: _,
+            pages: _,
+        } = self;
+        let nodes = NodeRows::from_vec(nodes);
+        let objects = VarRows::from_vec(objects);
+        let commands = CommandRows::from_vec(commands);
+        Ok(Script::new(nodes, opening, objects, plan, phases, commands))
+    }
+
+    /// Whether no node was declared.
+    pub(crate) fn has_no_node(&self) -> bool
+        ensures { result ≡ (length self.now.nodes == 0) }
+    {
+        self.nodes.is_empty()
+    }
+}
+
+/// The opening of so many nodes with these objects.
+fn opening_of(alloc: Global, nodes: u8, starts: &[Object]) -> Result<Opening, NoMemory>
+    requires low { 1 ≤ nodes }
+    requires high { nodes ≤ 8 }
+    requires starts { AreStarts nodes starts.now }
+    ensures { IfOk result (λ opening. opening ≡ record { nodes = nodes; greatest = MAX_ROOM; objects = starts.now }) }
+{
+    let mut opening = Opening::new(alloc, nodes, MAX_ROOM);
+    for object in starts {
+        opening.add(object.uid, object.kind, object.room)?;
+    }
+    Ok(opening)
+}
+
+/// Notes the variable that a process's command names; without memory nothing changes.
+fn note_command(
+    named: &mut NamedVars,
+    alloc: Global,
+    proc: ProcId,
+    command: &Command,
+) -> Result<(), NoMemory>
+    ensures ok { OnOk result (NotesCommand named.old named.new proc command.now) }
+    ensures err { OnErr result (named.new ≡ named.old) }
+{
+    match command {
+        Command::New { var, .. } => named.add(alloc, proc, var.bytes()),
+        _ => Ok(()),
+    }
+}
+
+/// The page frames of a node whose line names these.
+fn frames_in(frames: Option<&[u8]>) -> u16
+    requires { are_frames (seen_option frames) ≡ true }
+    ensures value { result ≡ frames_of (seen_option frames.entry) }
+    ensures few { 5 ≤ result }
+    ensures many { result ≤ 256 }
+{
+    match frames {
+        Some(word) => number(word, MIN_FRAMES, MAX_FRAMES) as u16,
+        None => USUAL_FRAMES,
+    }
+}
+
+/// The place of a node's name among the nodes, counted from 0.
+fn place(nodes: &[NodeRow], name: &[u8]) -> Option<usize>
+    ensures value { result ≡ place_of nodes.now name.now }
+    ensures within { IfSome result (λ at. at < length nodes.now) }
+{
+    nodes.iter().position(|row| row.name.bytes() == name)
+}
+
+/// The place of a home in the lists by home.
+fn home_index(home: NodeId) -> usize
+    ensures value { result ≡ home - 1 }
+    ensures least { 1 ≤ home }
+    ensures greatest { home ≤ 8 }
+    ensures within { result < 8 }
+{
+    home.number() as usize - 1
+}
+
+/// The process of these digits at a node.
+fn proc_of(node: NodeId, digits: &[u8]) -> ProcId
+    requires { is_number 1 4 digits.now ≡ true }
+    ensures { result ≡ record { node = node; number = number_in digits.now } }
+{
+    match ProcId::new(node, number(digits, 1, MAX_PROCESS) as u8) {
+        Some(proc) => proc,
+        None => unreachable!(),
+    }
+}
+
+/// The fate that its words say.
+fn fate_of(words: FateWords<'_>) -> Fate
+    requires { is_fate (seen_fate words) ≡ true }
+    ensures { result ≡ fate_said (seen_fate words.entry) }
+{
+    match words {
+        FateWords::Lose => Fate::Lose,
+        FateWords::Twice(count) => Fate::Twice(number(count, 1, MAX_LATE)),
+        FateWords::Late(count) => Fate::Late(number(count, 1, MAX_LATE)),
+    }
+}
+
+/// The command that its words say.
+fn command_of(
+    alloc: Global,
+    words: CommandWords<'_>,
+    home: Option<NodeId>,
+) -> Result<Command, NoMemory>
+    requires { has_numbers (seen_command words) ≡ true }
+    ensures { IfOk result (λ command. command ≡ command_with home (seen_command words.entry)) }
+{
+    Ok(match words {
+        CommandWords::New { var, room, .. } => Command::New {
+            var: ByteList::from_slice(alloc, var)?,
+            room: number(room, 1, MAX_ROOM),
+            home,
+        },
+        CommandWords::Lock { var, mode } => Command::Lock {
+            var: ByteList::from_slice(alloc, var)?,
+            mode,
+        },
+        CommandWords::Unlock { var } => Command::Unlock {
+            var: ByteList::from_slice(alloc, var)?,
+        },
+        CommandWords::Delete { var } => Command::Delete {
+            var: ByteList::from_slice(alloc, var)?,
+        },
+        CommandWords::Load { var, offset, count } => Command::Load {
+            var: ByteList::from_slice(alloc, var)?,
+            offset: number(offset, 0, MAX_OFFSET),
+            count: number(count, 1, MAX_COUNT),
+        },
+        CommandWords::Store { var, offset, text } => Command::Store {
+            var: ByteList::from_slice(alloc, var)?,
+            offset: number(offset, 0, MAX_OFFSET),
+            text: ByteList::from_slice(alloc, text)?,
+        },
+        CommandWords::Length { var } => Command::Length {
+            var: ByteList::from_slice(alloc, var)?,
+        },
+        CommandWords::Map { var } => Command::Map {
+            var: ByteList::from_slice(alloc, var)?,
+        },
+        CommandWords::Unmap { var } => Command::Unmap {
+            var: ByteList::from_slice(alloc, var)?,
+        },
+        CommandWords::Loadat {
+            address: word,
+            count,
+        } => Command::Loadat {
+            address: address(word),
+            count: number(count, 1, MAX_COUNT),
+        },
+        CommandWords::Storeat {
+            address: word,
+            text,
+        } => Command::Storeat {
+            address: address(word),
+            text: ByteList::from_slice(alloc, text)?,
+        },
+    })
+}

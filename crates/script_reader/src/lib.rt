@@ -1,0 +1,21 @@
+//! Reads scripts: from bytes to nodes, objects, a fault plan and commands, or to the first bad line.
+#![tactic(auto)]
+
+pub mod cause;
+pub mod command;
+mod draft;
+mod forms;
+mod index;
+pub mod laws;
+mod line;
+mod numbers;
+mod reader;
+pub mod script;
+#[cfg(test)]
+mod tests;
+mod words;
+
+pub use cause::{Cause, ScriptFault};
+pub use command::Command;
+pub use reader::read_script;
+pub use script::{CommandRow, CommandRows, NodeRow, NodeRows, Script, VarRow, VarRows};

@@ -1,0 +1,188 @@
+//! Reads a script line by line.
+ghost use Rattle.std.specs.Prelude.{◌≡◌, ◌<◌, ◌≤◌, List, ◌∷◌, length, IfOk, IfErr};
+ghost use Rattle.std.specs.Option.{ForSome};
+ghost use Rattle.script_reader.specs.Grammar.{AreGood, IsScript, nothing, raw_lines, without_cr as without_cr_of};
+ghost use Rattle.script_reader.specs.Judging.{judged, judged_form, judged_place, judged_process, judged_tokens};
+ghost use Rattle.script_reader.specs.Results.{Follows, IsRefusal, RefusesLines};
+ghost use Rattle.script_reader.specs.Sayings.{phase_form as phase_form_of};
+ghost use Rattle.script_reader.specs.Seen.{JoinsTwo, seen, seen_line};
+ghost use Rattle.script_reader.specs.Words.{process_word as process_word_of};
+
+use crate::cause::{Cause, LineFault, ScriptFault};
+use crate::draft::Draft;
+use crate::forms::{command_form, fault_form, first_word, node_form, object_form};
+use crate::line::Line;
+use crate::script::Script;
+use crate::words::{LineWord, cut, process_word, read_line_word, read_verb};
+use dom_text::{TextFault, Token, tokens};
+use std::alloc::Global;
+
+/// The most bytes of a script.
+const MAX_BYTES: usize = 1_048_576;
+
+/// The most bytes of a line before its end.
+const MAX_LINE: usize = 5000;
+
+/// The script that the bytes are. `Bad` names the first bad line and the first cause that it meets.
+pub fn read_script(alloc: Global, bytes: &[u8]) -> Result<Script, ScriptFault>
+    ensures script { IfOk result (λ script. IsScript bytes.now script) }
+    ensures bad { IfErr result (λ fault. IsRefusal bytes.now fault) }
+{
+    if bytes.len() > MAX_BYTES {
+        return Err(ScriptFault::Bad {
+            line: 0,
+            cause: Cause::TooLong,
+        });
+    }
+    let draft = read_lines(alloc, bytes)?;
+    if draft.has_no_node() {
+        return Err(ScriptFault::Bad {
+            line: 1,
+            cause: Cause::NoNode,
+        });
+    }
+    let script = draft.finish(alloc)?;
+    Ok(script)
+}
+
+/// What the lines say, or the first bad one.
+fn read_lines(alloc: Global, bytes: &[u8]) -> Result<Draft, ScriptFault>
+    requires { length bytes.now ≤ 1048576 }
+    ensures good { IfOk result (λ draft. AreGood nothing (raw_lines bytes.now) draft) }
+    ensures bad { IfErr result (λ fault. RefusesLines bytes.now fault) }
+{
+    let mut draft = Draft::new(alloc)?;
+    let mut rest = bytes;
+    let mut number: u32 = 0;
+    while !rest.is_empty() {
+        let (line, behind) = cut_line(rest);
+        number += 1;
+        match read_line(&mut draft, alloc, without_cr(line)) {
+            Ok(()) => {}
+            Err(LineFault::Bad(cause)) => {
+                return Err(ScriptFault::Bad {
+                    line: number,
+                    cause,
+                });
+            }
+            Err(LineFault::NoMemory) => return Err(ScriptFault::NoMemory),
+        }
+        rest = behind;
+    }
+    Ok(draft)
+}
+
+/// The first line, without its LF, and the bytes behind it.
+fn cut_line(bytes: &[u8]) -> (&[u8], &[u8])
+    requires { 0 < length bytes.now }
+    ensures lines { raw_lines bytes.now ≡ result.0.now ∷ raw_lines result.1.now }
+    ensures shorter { length result.1.now < length bytes.now }
+{
+    match cut(bytes, b'\n') {
+        Some((line, rest)) => (line, rest),
+        None => (bytes, &bytes[bytes.len()..]),
+    }
+}
+
+/// A line without a CR at its end.
+fn without_cr(line: &[u8]) -> &[u8]
+    ensures { result.now ≡ without_cr_of line.now }
+{
+    match line.strip_suffix(b"\r") {
+        Some(before) => before,
+        None => line,
+    }
+}
+
+/// Reads a line without its end.
+fn read_line(draft: &mut Draft, alloc: Global, line: &[u8]) -> Result<(), LineFault>
+    ensures { Follows draft.new result (judged draft.old line.now) }
+{
+    if line.len() > MAX_LINE {
+        return Err(LineFault::Bad(Cause::TooLong));
+    }
+    match tokens(alloc, line) {
+        Ok(tokens) => read_tokens(draft, alloc, tokens.items()),
+        Err(TextFault::Byte) => Err(LineFault::Bad(Cause::Byte)),
+        Err(TextFault::Quote) => Err(LineFault::Bad(Cause::Quote)),
+        Err(TextFault::NoMemory) => Err(LineFault::NoMemory),
+    }
+}
+
+/// Reads the tokens of a line; a line without tokens is skipped.
+fn read_tokens(draft: &mut Draft, alloc: Global, tokens: &[Token]) -> Result<(), LineFault>
+    ensures { Follows draft.new result (judged_tokens draft.old tokens.now) }
+{
+    if tokens.is_empty() {
+        return Ok(());
+    }
+    let Some((word, rest)) = first_word(tokens) else {
+        return Err(LineFault::Bad(Cause::Word));
+    };
+    match read_line_word(word) {
+        Some(LineWord::Node) => read_declaration(draft, alloc, node_form(rest)),
+        Some(LineWord::Object) => read_declaration(draft, alloc, object_form(rest)),
+        Some(LineWord::Fault) => read_declaration(draft, alloc, fault_form(rest)),
+        Some(LineWord::Phase) => read_phase(draft, alloc, rest),
+        None => read_command(draft, alloc, word, rest),
+    }
+}
+
+/// Reads a line that stands before all phases and commands.
+fn read_declaration(
+    draft: &mut Draft,
+    alloc: Global,
+    line: Option<Line<'_>>,
+) -> Result<(), LineFault>
+    requires { ForSome line (λ l. JoinsTwo (seen l)) }
+    ensures { Follows draft.new result (judged_place draft.old (seen_line line.entry)) }
+{
+    if draft.has_begun() {
+        return Err(LineFault::Bad(Cause::Place));
+    }
+    match line {
+        Some(line) => draft.take(alloc, line),
+        None => Err(LineFault::Bad(Cause::Form)),
+    }
+}
+
+/// Reads a phase, of which these tokens stand behind its word.
+fn read_phase(draft: &mut Draft, alloc: Global, rest: &[Token]) -> Result<(), LineFault>
+    ensures { Follows draft.new result (judged_form draft.old (phase_form_of rest.now)) }
+{
+    if !rest.is_empty() {
+        return Err(LineFault::Bad(Cause::Form));
+    }
+    draft.take(alloc, Line::Phase)
+}
+
+/// Reads a command, whose first token is this word.
+fn read_command(
+    draft: &mut Draft,
+    alloc: Global,
+    word: &[u8],
+    rest: &[Token],
+) -> Result<(), LineFault>
+    ensures { Follows draft.new result (judged_process draft.old (process_word_of word.now) rest.now) }
+{
+    let Some((node, digits)) = process_word(word) else {
+        return Err(LineFault::Bad(Cause::Word));
+    };
+    let Some((verb, rest)) = first_word(rest) else {
+        return Err(LineFault::Bad(Cause::Word));
+    };
+    let Some(verb) = read_verb(verb) else {
+        return Err(LineFault::Bad(Cause::Word));
+    };
+    match command_form(verb, rest) {
+        Some(command) => draft.take(
+            alloc,
+            Line::Does {
+                node,
+                digits,
+                command,
+            },
+        ),
+        None => Err(LineFault::Bad(Cause::Form)),
+    }
+}

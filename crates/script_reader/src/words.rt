@@ -1,0 +1,135 @@
+//! The words that begin lines and commands, and how a line names a process. No function takes memory.
+ghost use Rattle.std.specs.Prelude.{◌≡◌, ◌≢◌, Some, None, MatchOption, All, IsTrue, ◌↔◌};
+ghost use Rattle.std.specs.Char.{is_ascii_digit};
+ghost use Rattle.uid_names.specs.NameTexts.{is_name_byte as may_stand_in_name};
+ghost use Rattle.script_reader.specs.Words.{are_digits as are_digits_in, is_name as is_name_text, line_word_of, line_word_text, process_word as process_word_of, verb_of, verb_text};
+ghost use Rattle.script_reader.specs.Cuts.{Lacks, IsCutAt};
+ghost use Rattle.script_reader.specs.declared.words.LineWord.{LineWord};
+ghost use Rattle.script_reader.specs.declared.words.Verb.{Verb};
+
+/// The most bytes of a name.
+const MAX_NAME: usize = 32;
+
+/// A word that begins a line, beside those that name a process.
+#[derive(Clone, Copy)]
+pub(crate) enum LineWord {
+    Node,
+    Object,
+    Fault,
+    Phase,
+}
+
+/// A command's word.
+#[derive(Clone, Copy)]
+pub(crate) enum Verb {
+    New,
+    Lock,
+    Unlock,
+    Delete,
+    Load,
+    Store,
+    Length,
+    Map,
+    Unmap,
+    Loadat,
+    Storeat,
+}
+
+/// The line word that a word is.
+pub(crate) fn read_line_word(word: &[u8]) -> Option<LineWord>
+    ensures word { MatchOption result ((w : LineWord) → word.now ≢ line_word_text w) (λ w. word.now ≡ line_word_text w) }
+{
+    match word {
+        b"node" => Some(LineWord::Node),
+        b"object" => Some(LineWord::Object),
+        b"fault" => Some(LineWord::Fault),
+        b"phase" => Some(LineWord::Phase),
+        _ => None,
+    }
+}
+
+/// The command that a word is.
+pub(crate) fn read_verb(word: &[u8]) -> Option<Verb>
+    ensures word { MatchOption result ((v : Verb) → word.now ≢ verb_text v) (λ v. word.now ≡ verb_text v) }
+{
+    match word {
+        b"new" => Some(Verb::New),
+        b"lock" => Some(Verb::Lock),
+        b"unlock" => Some(Verb::Unlock),
+        b"delete" => Some(Verb::Delete),
+        b"load" => Some(Verb::Load),
+        b"store" => Some(Verb::Store),
+        b"length" => Some(Verb::Length),
+        b"map" => Some(Verb::Map),
+        b"unmap" => Some(Verb::Unmap),
+        b"loadat" => Some(Verb::Loadat),
+        b"storeat" => Some(Verb::Storeat),
+        _ => None,
+    }
+}
+
+/// The node's name and the digits of a word that names a process.
+pub(crate) fn process_word(word: &[u8]) -> Option<(&[u8], &[u8])>
+    ensures { MatchOption result (process_word_of word.now ≡ None) (λ p. process_word_of word.now ≡ Some (record { node = p.0.now; digits = p.1.now })) }
+{
+    let Some((node, digits)) = cut(word, b'.') else {
+        return None;
+    };
+    if !is_name(node) {
+        return None;
+    }
+    if are_digits(digits) {
+        Some((node, digits))
+    } else {
+        None
+    }
+}
+
+/// The text before the first such byte, and the text after it.
+pub(crate) fn cut(text: &[u8], byte: u8) -> Option<(&[u8], &[u8])>
+    ensures { MatchOption result (Lacks byte text.now) (λ parts. IsCutAt byte text.now parts.0.now parts.1.now) }
+{
+    let at = text.iter().position(|b| *b == byte)?;
+    Some((&text[..at], &text[at + 1..]))
+}
+
+/// Whether this byte may stand in a name.
+fn is_name_byte(byte: u8) -> bool
+    ensures { result ≡ may_stand_in_name byte }
+{
+    matches!(byte, b'a'..=b'z' | b'A'..=b'Z' | b'0'..=b'9' | b'_' | b'$')
+}
+
+/// Whether each byte may stand in a name.
+fn are_name_bytes(word: &[u8]) -> bool
+    ensures { IsTrue result ↔ All (λ b. IsTrue (may_stand_in_name b)) word.now }
+{
+    word.iter().all(|b| is_name_byte(*b))
+}
+
+/// Whether a word is a name of a node or a variable.
+pub(crate) fn is_name(word: &[u8]) -> bool
+    ensures { result ≡ is_name_text word.now }
+{
+    if word.is_empty() || word.len() > MAX_NAME {
+        return false;
+    }
+    are_name_bytes(word)
+}
+
+/// Whether each byte is a digit.
+fn are_digit_bytes(word: &[u8]) -> bool
+    ensures { IsTrue result ↔ All (λ b. IsTrue (is_ascii_digit b)) word.now }
+{
+    word.iter().all(|b| b.is_ascii_digit())
+}
+
+/// Whether a word is of digits, one at least.
+fn are_digits(word: &[u8]) -> bool
+    ensures { result ≡ are_digits_in word.now }
+{
+    if word.is_empty() {
+        return false;
+    }
+    are_digit_bytes(word)
+}
