@@ -1,0 +1,211 @@
+-- One step of a process: what it reaches from where it stands.
+use Rattle.std.proofs.Common.{◌≡◌, ℕ, suc, ◌+◌, ◌-◌, ◌≤◌, ◌<◌, Bool, true, false, Option, Some, None, List, [], ◌∷◌, ◌++◌, refl, ap, ◌∙◌, sym, subst, arith}
+use Rattle.std.specs.Prelude.{max, IsSome, nat_lt}
+use Rattle.std.proofs.Math.Nat.{max-eq_left, max-eq_right}
+use Rattle.std.proofs.lemmas.Bool.Decides.{nat_tests}
+use Rattle.dom_history.specs.declared.op.Op.{Op}
+use Rattle.dom_history.specs.declared.op.Reply.{Reply}
+use Rattle.dom_history.specs.declared.op.Reply.TheVariants.{Made, Fine, Bytes, Size, At, Locks, Conflict, NoObject, AlreadyHeld, NotHeld, Unsettled, TooMany, NoLock, WrongMode, PastRoom, PastEnd, NoSpace, Kept, Doubt, LinkFault, TooManyMaps, NoSegment, NotMapped}
+use Rattle.dom_history.specs.declared.op.Want.{Want}
+use Rattle.dom_history.specs.declared.op.Want.TheVariants.{Do, Phase, Done}
+use Rattle.script_reader.specs.declared.command.Command.{Command}
+use Rattle.script_reader.specs.declared.command.Command.TheVariants.{New}
+use Rattle.aegis_shell.specs.declared.work.Job.{Job}
+use Rattle.aegis_shell.specs.Bound.{Bound}
+use Rattle.aegis_shell.specs.Work.{Part, object_of}
+use Rattle.aegis_shell.specs.Operations.{ops_of, first_of, second_of, rest_of, head_of}
+use Rattle.aegis_shell.specs.AnswerTexts.{is_done, together, so_far, answer_text, not_bound}
+use Rattle.aegis_shell.specs.Asking.{Told, Reached, waits, answered, behind_phases, Course, Asks, Ends, on_reply, carry_out, bound_after, on_course, on_operations, on_phases, reach}
+use Rattle.aegis_shell.specs.Playing.{resume_from, IsOpen, goes_on, want_in, want_at}
+use Rattle.aegis_shell.proofs.Counts.{IsShort, one, two, AreShort, ops_short}
+
+-- what is behind a job, in the phase that is reached by then
+abbrev pub further_from : Part → ℕ → Job → List Job → Bound → Told → Reached
+further_from part phase job jobs bound told = reach part (max phase job.phase) bound jobs told
+
+-- the same, for a job that is not of a later phase
+abbrev pub further_of : Part → ℕ → List Job → Bound → Told → Reached
+further_of part phase jobs bound told = reach part phase bound jobs told
+
+pub further_here : (part : Part) (phase : ℕ) (job : Job) (jobs : List Job) → job.phase ≤ phase → further_from part phase job jobs ≡ further_of part phase jobs
+further_here part phase job jobs low = ap (λ n. further_of part n jobs) (max-eq_left low)
+
+-- a job that is not of a later phase is carried out
+pub reach-here : (part : Part) (phase : ℕ) (bound : Bound) (job : Job) (jobs : List Job) (told : Told) → job.phase ≤ phase
+    → reach part phase bound (job ∷ jobs) told ≡ on_operations part.names job.command bound (further_of part phase jobs) (ops_of part.node job.command (object_of job bound)) told
+reach-here part phase bound job jobs told low =
+    let none : job.phase - phase ≡ 0 = omega arith in
+    ap (λ n. on_phases (on_operations part.names job.command bound (further_from part phase job jobs) (ops_of part.node job.command (object_of job bound))) (behind_phases n told)) none
+    ∙ ap (λ further. on_operations part.names job.command bound further (ops_of part.node job.command (object_of job bound)) told) (further_here part phase job jobs low)
+
+-- before a job of a later phase a process wants that phase
+pub reach-phase : (part : Part) (phase : ℕ) (bound : Bound) (job : Job) (jobs : List Job) → phase < job.phase → reach part phase bound (job ∷ jobs) [] ≡ waits Phase
+reach-phase part phase bound job jobs later =
+    let some : job.phase - phase ≡ suc (job.phase - (phase + 1)) = omega arith in
+    ap (λ n. on_phases (on_operations part.names job.command bound (further_from part phase job jobs) (ops_of part.node job.command (object_of job bound))) (behind_phases n [])) some
+
+-- and goes into it when it is called again
+pub reach-passed : (part : Part) (phase : ℕ) (bound : Bound) (job : Job) (jobs : List Job) (told : Option Reply) (future : Told) → phase < job.phase
+    → reach part phase bound (job ∷ jobs) (told ∷ future) ≡ reach part (phase + 1) bound (job ∷ jobs) future
+reach-passed part phase bound job jobs told future later =
+    let some : job.phase - phase ≡ suc (job.phase - (phase + 1)) = omega arith in
+    let same : max phase job.phase ≡ max (phase + 1) job.phase = max-eq_right (omega arith) ∙ sym (max-eq_right (omega arith)) in
+    ap (λ n. on_phases (on_operations part.names job.command bound (further_from part phase job jobs) (ops_of part.node job.command (object_of job bound))) (behind_phases n (told ∷ future))) some
+    ∙ ap (λ m. on_phases (on_operations part.names job.command bound (λ b t. reach part m b jobs t) (ops_of part.node job.command (object_of job bound))) (behind_phases (job.phase - (phase + 1)) future)) same
+
+-- a job that lacks its object is answered
+pub reach-lacking : (part : Part) (phase : ℕ) (bound : Bound) (job : Job) (jobs : List Job) (told : Told) → job.phase ≤ phase → first_of (ops_of part.node job.command (object_of job bound)) ≡ None
+    → reach part phase bound (job ∷ jobs) told ≡ answered not_bound (reach part phase bound jobs told)
+reach-lacking part phase bound job jobs told low lacks =
+    reach-here part phase bound job jobs told low
+    ∙ by_ops (ops_of part.node job.command (object_of job bound)) (ops_short part.node job.command (object_of job bound)) lacks
+  where
+    by_ops : (list : Option (List Op)) → AreShort list → first_of list ≡ None → on_operations part.names job.command bound (further_of part phase jobs) list told ≡ answered not_bound (reach part phase bound jobs told)
+    by_ops None short lacks = refl
+    by_ops (Some []) short lacks = elim short [ ]
+    by_ops (Some (op ∷ rest)) short lacks = cc
+
+-- a job asks for its first operation
+pub reach-asks : (part : Part) (phase : ℕ) (bound : Bound) (job : Job) (jobs : List Job) (op : Op) → job.phase ≤ phase → first_of (ops_of part.node job.command (object_of job bound)) ≡ Some op
+    → reach part phase bound (job ∷ jobs) [] ≡ waits (Do op)
+reach-asks part phase bound job jobs op low asks =
+    reach-here part phase bound job jobs [] low ∙ by_ops (ops_of part.node job.command (object_of job bound)) asks
+  where
+    by_ops : (list : Option (List Op)) → first_of list ≡ Some op → on_operations part.names job.command bound (further_of part phase jobs) list [] ≡ waits (Do op)
+    by_ops None asks = cc
+    by_ops (Some []) asks = cc
+    by_ops (Some (first ∷ rest)) asks = let same : first ≡ op = cc in ap (λ o. waits (Do o)) same
+
+-- a refusal stands alone
+refused_alone : (earlier reply : Reply) → is_done reply ≡ false → together earlier reply ≡ reply
+refused_alone (Bytes first) (Bytes second) refused = cc
+refused_alone earlier reply refused = refl
+
+-- the variables behind a command are those that its last reply binds
+bound_together : (c : Command) (earlier reply : Reply) (bound : Bound) → bound_after c (together earlier reply) bound ≡ bound_after c reply bound
+bound_together c (Bytes first) (Bytes second) bound = by_command c where
+  by_command : (c : Command) → bound_after c (Bytes (first ++ second)) bound ≡ bound_after c (Bytes second) bound
+  by_command (New var room home) = refl
+  by_command _ = refl
+bound_together c earlier reply bound = refl
+
+-- what the end of a command reaches that came to this
+abbrev ended : List (List ℕ) → Command → Bound → (Bound → Told → Reached) → Told → Reply → Reached
+ended names c bound further future outcome = answered (answer_text names outcome) (further (bound_after c outcome bound) future)
+
+-- a command behind its last operation
+last_done : (names : List (List ℕ)) (c : Command) (bound : Bound) (further : Bound → Told → Reached) (earlier reply : Reply) (op : Op) (future : Told)
+    → on_course names c bound further (carry_out earlier (op ∷ []) (Some reply ∷ future)) ≡ ended names c bound further future (together earlier reply)
+last_done names c bound further earlier reply op future = by_reply (is_done reply) refl where
+  by_reply : (done : Bool) → is_done reply ≡ done → on_course names c bound further (on_reply done reply future (Ends (together earlier reply) future)) ≡ ended names c bound further future (together earlier reply)
+  by_reply true is = refl
+  by_reply false is = ap (ended names c bound further future) (sym (refused_alone earlier reply is))
+
+-- a command behind its first operation, which was refused
+first_refused : (names : List (List ℕ)) (c : Command) (bound : Bound) (further : Bound → Told → Reached) (reply : Reply) (op next : Op) (future : Told) → is_done reply ≡ false
+    → on_course names c bound further (carry_out Fine (op ∷ (next ∷ [])) (Some reply ∷ future)) ≡ ended names c bound further future reply
+first_refused names c bound further reply op next future refused =
+    ap (λ done. on_course names c bound further (on_reply done reply future (carry_out (together Fine reply) (next ∷ []) future))) refused
+
+-- a second operation does not follow a refusal
+not_done : (done : Bool) (next : Op) → goes_on None done (Some next) ≡ None → done ≡ false
+not_done true next ends = cc
+not_done false next ends = refl
+
+-- a command ends behind the reply to its open operation, unless it goes on
+ends_by : (names : List (List ℕ)) (c : Command) (bound : Bound) (further : Bound → Told → Reached) (list : Option (List Op)) (reply : Reply) (future : Told)
+    → AreShort list → IsSome (first_of list) → goes_on None (is_done reply) (second_of list) ≡ None
+    → on_operations names c bound further list (Some reply ∷ future) ≡ ended names c bound further future (together Fine reply)
+ends_by names c bound further None reply future short opens ends = cc
+ends_by names c bound further (Some list) reply future short opens ends = by_list list short ends where
+  by_list : (list : List Op) → IsShort list → goes_on None (is_done reply) (second_of (Some list)) ≡ None
+      → on_course names c bound further (carry_out Fine list (Some reply ∷ future)) ≡ ended names c bound further future (together Fine reply)
+  by_list [] short ends = elim short [ ]
+  by_list (op ∷ []) short ends = last_done names c bound further Fine reply op future
+  by_list (op ∷ (next ∷ [])) short ends = first_refused names c bound further reply op next future (not_done (is_done reply) next ends)
+  by_list (op ∷ (next ∷ (third ∷ more))) short ends = elim short [ ]
+
+second_ends_by : (names : List (List ℕ)) (c : Command) (bound : Bound) (further : Bound → Told → Reached) (list : Option (List Op)) (earlier reply : Reply) (future : Told)
+    → AreShort list → IsSome (second_of list)
+    → on_course names c bound further (carry_out earlier (rest_of list) (Some reply ∷ future)) ≡ ended names c bound further future (together earlier reply)
+second_ends_by names c bound further None earlier reply future short opens = cc
+second_ends_by names c bound further (Some list) earlier reply future short opens = by_list list short opens where
+  by_list : (list : List Op) → IsShort list → IsSome (second_of (Some list))
+      → on_course names c bound further (carry_out earlier (rest_of (Some list)) (Some reply ∷ future)) ≡ ended names c bound further future (together earlier reply)
+  by_list [] short opens = elim short [ ]
+  by_list (op ∷ []) short opens = cc
+  by_list (op ∷ (next ∷ [])) short opens = last_done names c bound further earlier reply next future
+  by_list (op ∷ (next ∷ (third ∷ more))) short opens = elim short [ ]
+
+-- behind the end of a job come those that are left
+ended_here : (part : Part) (phase : ℕ) (bound : Bound) (job : Job) (jobs : List Job) (earlier reply : Reply) (future : Told)
+    → ended part.names job.command bound (further_of part phase jobs) future (together earlier reply) ≡ answered (answer_text part.names (together earlier reply)) (reach part phase (bound_after job.command reply bound) jobs future)
+ended_here part phase bound job jobs earlier reply future =
+    ap (λ b. answered (answer_text part.names (together earlier reply)) (reach part phase b jobs future)) (bound_together job.command earlier reply bound)
+
+pub job-ends : (part : Part) (phase : ℕ) (bound : Bound) (first : Option Reply) (job : Job) (jobs : List Job) (reply : Reply) (future : Told)
+    → IsOpen first phase job (ops_of part.node job.command (object_of job bound))
+    → goes_on first (is_done reply) (second_of (ops_of part.node job.command (object_of job bound))) ≡ None
+    → resume_from part phase bound first (job ∷ jobs) (Some reply ∷ future) ≡ answered (answer_text part.names (together (so_far first) reply)) (reach part phase (bound_after job.command reply bound) jobs future)
+job-ends part phase bound None job jobs reply future opens ends =
+    reach-here part phase bound job jobs (Some reply ∷ future) opens.0
+    ∙ (ends_by part.names job.command bound (further_of part phase jobs) (ops_of part.node job.command (object_of job bound)) reply future
+    (ops_short part.node job.command (object_of job bound)) opens.1 ends
+    ∙ ended_here part phase bound job jobs Fine reply future)
+job-ends part phase bound (Some earlier) job jobs reply future opens ends =
+    second_ends_by part.names job.command bound (further_of part phase jobs) (ops_of part.node job.command (object_of job bound)) earlier reply future
+    (ops_short part.node job.command (object_of job bound)) opens
+    ∙ ended_here part phase bound job jobs earlier reply future
+
+-- a command goes on behind its first operation
+goes_by : (names : List (List ℕ)) (c : Command) (bound : Bound) (further : Bound → Told → Reached) (list : Option (List Op)) (reply : Reply) (op : Op) (future : Told)
+    → is_done reply ≡ true → second_of list ≡ Some op
+    → on_operations names c bound further list (Some reply ∷ future) ≡ on_course names c bound further (carry_out reply (rest_of list) future)
+goes_by names c bound further None reply op future done next = cc
+goes_by names c bound further (Some []) reply op future done next = cc
+goes_by names c bound further (Some (first ∷ rest)) reply op future done next =
+    ap (λ d. on_course names c bound further (on_reply d reply future (carry_out (together Fine reply) rest future))) done
+
+pub job-goes : (part : Part) (phase : ℕ) (bound : Bound) (job : Job) (jobs : List Job) (reply : Reply) (op : Op) (future : Told) → job.phase ≤ phase
+    → is_done reply ≡ true → second_of (ops_of part.node job.command (object_of job bound)) ≡ Some op
+    → reach part phase bound (job ∷ jobs) (Some reply ∷ future) ≡ resume_from part phase bound (Some reply) (job ∷ jobs) future
+job-goes part phase bound job jobs reply op future low done next =
+    reach-here part phase bound job jobs (Some reply ∷ future) low
+    ∙ goes_by part.names job.command bound (further_of part phase jobs) (ops_of part.node job.command (object_of job bound)) reply op future done next
+
+-- and asks for its second one
+pub second-asks : (part : Part) (phase : ℕ) (bound : Bound) (job : Job) (jobs : List Job) (reply : Reply) (op : Op)
+    → second_of (ops_of part.node job.command (object_of job bound)) ≡ Some op
+    → resume_from part phase bound (Some reply) (job ∷ jobs) [] ≡ waits (Do op)
+second-asks part phase bound job jobs reply op next = by_rest (rest_of (ops_of part.node job.command (object_of job bound))) next where
+  by_rest : (rest : List Op) → head_of rest ≡ Some op → on_course part.names job.command bound (further_of part phase jobs) (carry_out reply rest []) ≡ waits (Do op)
+  by_rest [] next = cc
+  by_rest (second ∷ rest) next = let same : second ≡ op = cc in ap (λ o. waits (Do o)) same
+
+-- when a command goes on, its first operation was done
+pub goes_on-is : (first : Option Reply) (done : Bool) (second : Option Op) (op : Op) → goes_on first done second ≡ Some op → (first ≡ None) × (done ≡ true) × (second ≡ Some op)
+goes_on-is None true second op goes = (refl, refl, goes)
+goes_on-is None false second op goes = cc
+goes_on-is (Some reply) done second op goes = cc
+
+-- a job before which nothing is wanted is of this phase and lacks its object
+pub want_at-none : (part : Part) (phase : ℕ) (bound : Bound) (job : Job) → want_at part phase bound job ≡ None → (job.phase ≤ phase) × (first_of (ops_of part.node job.command (object_of job bound)) ≡ None)
+want_at-none part phase bound job lacks = by_phase (nat_lt phase job.phase) (first_of (ops_of part.node job.command (object_of job bound))) refl lacks where
+  by_phase : (later : Bool) (op : Option Op) → nat_lt phase job.phase ≡ later → want_in later op ≡ None → (job.phase ≤ phase) × (op ≡ None)
+  by_phase true op is lacks = cc
+  by_phase false None is lacks = (grind (arith, nat_tests), refl)
+  by_phase false (Some op) is lacks = cc
+
+-- what is wanted before a job is what its process reaches
+pub want_at-some : (part : Part) (phase : ℕ) (bound : Bound) (job : Job) (jobs : List Job) (want : Want) → want_at part phase bound job ≡ Some want → reach part phase bound (job ∷ jobs) [] ≡ waits want
+want_at-some part phase bound job jobs want wants = by_phase (nat_lt phase job.phase) (first_of (ops_of part.node job.command (object_of job bound))) refl refl wants where
+  by_phase : (later : Bool) (op : Option Op) → nat_lt phase job.phase ≡ later → first_of (ops_of part.node job.command (object_of job bound)) ≡ op → want_in later op ≡ Some want → reach part phase bound (job ∷ jobs) [] ≡ waits want
+  by_phase true op is asks wants =
+      let later : phase < job.phase = grind (arith, nat_tests) in
+      let same : Phase ≡ want = cc in
+      reach-phase part phase bound job jobs later ∙ ap waits same
+  by_phase false None is asks wants = cc
+  by_phase false (Some op) is asks wants =
+      let low : job.phase ≤ phase = grind (arith, nat_tests) in
+      let same : Do op ≡ want = cc in
+      reach-asks part phase bound job jobs op low asks ∙ ap waits same

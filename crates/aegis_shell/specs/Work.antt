@@ -1,0 +1,53 @@
+-- What a script gives one process to do.
+use Rattle.std.specs.Prelude.{ℕ, Option, Some, None, List, map, filter}
+use Rattle.uid_names.specs.Names.{ProcName, ObjectName, same_proc}
+use Rattle.script_reader.specs.declared.command.Command.{Command}
+use Rattle.script_reader.specs.declared.command.Command.TheVariants.{New, Lock, Unlock, Delete, Load, Store, Length, Map, Unmap, Loadat, Storeat}
+use Rattle.script_reader.specs.declared.script.CommandRow.{CommandRow}
+use Rattle.script_reader.specs.Scripts.{Content}
+use Rattle.aegis_shell.specs.declared.work.Job.{Job}
+use Rattle.aegis_shell.specs.Bound.{Bound, unbound, declare}
+
+-- the variable on whose object a command works
+abbrev pub variable : Command → Option (List ℕ)
+variable (New var room home) = None
+variable (Lock var mode) = Some var
+variable (Unlock var) = Some var
+variable (Delete var) = Some var
+variable (Load var offset count) = Some var
+variable (Store var offset text) = Some var
+variable (Length var) = Some var
+variable (Map var) = Some var
+variable (Unmap var) = Some var
+variable (Loadat address count) = None
+variable (Storeat address text) = None
+
+-- the object of a variable, where there is one
+abbrev pub object_in : Bound → Option (List ℕ) → Option ObjectName
+object_in bound None = None
+object_in bound (Some var) = bound var
+
+-- a command with its phase, and with the declared object on which it works, if it works on one
+abbrev pub job_of : Bound → CommandRow → Job
+job_of declared row = record { phase = row.phase; command = row.command; declared = object_in declared (variable row.command) }
+
+-- what a process needs of a script: its node, the names of all nodes, and its own commands in order
+pub record Part : Type 0 where
+  pub node : ℕ
+  pub names : List (List ℕ)
+  pub jobs : List Job
+
+abbrev pub jobs_of : Content → ProcName → List Job
+jobs_of s p = map (job_of (declare s.objects unbound)) (filter (λ row. same_proc row.proc p) s.commands)
+
+abbrev pub part_of : Content → ProcName → Part
+part_of s p = record { node = p.node; names = map (λ n. n.name) s.nodes; jobs = jobs_of s p }
+
+-- one thing or else another
+abbrev pub or_else : Option ObjectName → Option ObjectName → Option ObjectName
+or_else (Some u) other = Some u
+or_else None other = other
+
+-- the object on which a job works: the declared one, or else the one that its process bound
+abbrev pub object_of : Job → Bound → Option ObjectName
+object_of job bound = or_else job.declared (object_in bound (variable job.command))

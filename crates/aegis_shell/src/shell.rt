@@ -1,0 +1,91 @@
+//! The program of a process.
+ghost use Rattle.std.specs.Prelude.{◌≡◌, ◌^◌, ◌<◌, ℕ, length, Option, None, List, [], IfOk, OnOk};
+ghost use Rattle.std.specs.Option.{option_copied};
+
+use crate::progress::Progress;
+use crate::work::Work;
+use dom_history::{Program, Reply, Want};
+use script_reader::Script;
+use std::alloc::Global;
+use std::marker::Model;
+use uid_names::{ByteList, NoMemory, ProcId};
+
+/// The program of one process of a script: it carries out the process's commands in turn.
+#[derive(Drop)]
+pub struct Shell {
+    work: Work,
+    begun: bool,
+    told: Vec<Option<Reply>>,
+    progress: Progress,
+    spent: bool,
+}
+
+impl Model for Shell {
+    ghost use Rattle.aegis_shell.specs.Playing.{Shelled, heard_of, UnlessSpent, IsShell};
+
+    ghost Value = { Shelled };
+
+    ghost view = { λ s. record { part = s.work; heard = heard_of s.begun s.told.items; answers = s.progress.answers.items; spent = s.spent } };
+
+    ghost invariant = { λ s. UnlessSpent s.spent (IsShell s.work s.begun s.told.items s.progress) };
+}
+
+impl Shell {
+    ghost use Rattle.aegis_shell.specs.Playing.{fresh_shell};
+
+    /// The program of a process of a script. It keeps the process's own commands alone.
+    pub fn new(alloc: Global, script: &Script, proc: ProcId) -> Result<Shell, NoMemory>
+        ensures { IfOk result (λ shell. shell ≡ fresh_shell script.now proc) }
+    {
+        let work = Work::new(alloc, script, proc)?;
+        Ok(Shell {
+            work,
+            begun: false,
+            told: Vec::new(alloc),
+            progress: Progress::new(alloc),
+            spent: false,
+        })
+    }
+
+    /// The answers of the finished commands, in order.
+    pub fn answers(&self) -> &[ByteList]
+        ensures { result.now ≡ self.now.answers }
+    {
+        self.progress.answers.as_slice()
+    }
+}
+
+impl Program for Shell {
+    ghost use Rattle.std.specs.Prelude.{length};
+    ghost use Rattle.aegis_shell.specs.Asking.{reached};
+    ghost use Rattle.aegis_shell.specs.Playing.{shell_after};
+
+    ghost ask = { λ s heard. (reached s.part heard).want };
+
+    ghost heard = { λ s. s.heard };
+
+    ghost answered = { λ s. length s.answers };
+
+    ghost spent = { λ s. s.spent };
+
+    ghost becomes = { λ s told. shell_after s told };
+
+    fn next(&mut self, alloc: Global, last: Option<&Reply>) -> Result<Want, NoMemory> {
+        // Its commands are in their ranges, and so is what they ask.
+        let _jobs = self.work.jobs();
+        // Until the turn is done; where it finds no memory the value stays so.
+        self.spent = true;
+        let want = self
+            .progress
+            .turn(alloc, &self.work, self.begun, last, &mut self.told)?;
+        self.begun = true;
+        self.spent = false;
+        Ok(want)
+    }
+
+    fn at(&self) -> u32 {
+        // There are as many commands at least, and they are few.
+        let _jobs = self.work.jobs();
+        self.progress.answers.len() as u32
+    }
+}

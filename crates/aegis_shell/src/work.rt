@@ -1,0 +1,245 @@
+//! What a script gives a process to do.
+ghost use Rattle.std.specs.Prelude.{◌≡◌, ◌^◌, ◌<◌, ◌≤◌, length, map, filter, IfOk, OnOk};
+ghost use Rattle.std.specs.Option.{option_copied};
+ghost use Rattle.dom_history.specs.NodeTexts.{AreNodeNames};
+ghost use Rattle.uid_names.specs.Names.{same_proc};
+ghost use Rattle.script_reader.specs.Scripts.{IsContent};
+ghost use Rattle.aegis_shell.specs.Bound.{declare, unbound};
+ghost use Rattle.aegis_shell.specs.Bindings.{object_at};
+ghost use Rattle.aegis_shell.specs.Work.{variable as variable_of, object_in, object_of as object_of_job, job_of, part_of};
+ghost use Rattle.aegis_shell.specs.Ranges.{AreJobs};
+
+use crate::bindings::Bindings;
+use dom_history::NodeNames;
+use script_reader::{Command, CommandRow, NodeRow, Script, VarRow};
+use std::alloc::Global;
+use std::marker::Model;
+use uid_names::{ByteList, NoMemory, NodeId, ProcId, Uid};
+
+/// A command of a process with its phase, and the declared object on which it works, if it works on one.
+#[derive(Drop)]
+pub struct Job {
+    pub phase: u32,
+    pub command: Command,
+    pub declared: Option<Uid>,
+}
+
+/// The variable on whose object a command works.
+fn variable(command: &Command) -> Option<&[u8]>
+    ensures { option_copied result ≡ variable_of command.now }
+{
+    match command {
+        Command::Lock { var, mode: _ } => Some(var.bytes()),
+        Command::Unlock { var } => Some(var.bytes()),
+        Command::Delete { var } => Some(var.bytes()),
+        Command::Load {
+            var,
+            offset: _,
+            count: _,
+        } => Some(var.bytes()),
+        Command::Store {
+            var,
+            offset: _,
+            text: _,
+        } => Some(var.bytes()),
+        Command::Length { var } => Some(var.bytes()),
+        Command::Map { var } => Some(var.bytes()),
+        Command::Unmap { var } => Some(var.bytes()),
+        Command::New {
+            var: _,
+            room: _,
+            home: _,
+        }
+        | Command::Loadat {
+            address: _,
+            count: _,
+        }
+        | Command::Storeat {
+            address: _,
+            text: _,
+        } => None,
+    }
+}
+
+/// The object of a command's variable.
+fn object_named(bound: &Bindings, command: &Command) -> Option<Uid>
+    ensures { result ≡ object_in (object_at bound.now) (variable_of command.now) }
+{
+    match variable(command) {
+        Some(var) => bound.object(var),
+        None => None,
+    }
+}
+
+impl Job {
+    /// The object on which it works: the declared one, or else the one that its process bound.
+    pub fn object(&self, bound: &Bindings) -> Option<Uid>
+        ensures { result ≡ object_of_job self.now (object_at bound.now) }
+    {
+        match self.declared {
+            Some(uid) => Some(uid),
+            None => object_named(bound, &self.command),
+        }
+    }
+}
+
+/// A copy of a command.
+fn copy_of(alloc: Global, command: &Command) -> Result<Command, NoMemory>
+    ensures { IfOk result (λ copy. copy ≡ command.now) }
+{
+    Ok(match command {
+        Command::New { var, room, home } => Command::New {
+            var: var.copy(alloc)?,
+            room: *room,
+            home: *home,
+        },
+        Command::Lock { var, mode } => Command::Lock {
+            var: var.copy(alloc)?,
+            mode: *mode,
+        },
+        Command::Unlock { var } => Command::Unlock {
+            var: var.copy(alloc)?,
+        },
+        Command::Delete { var } => Command::Delete {
+            var: var.copy(alloc)?,
+        },
+        Command::Load { var, offset, count } => Command::Load {
+            var: var.copy(alloc)?,
+            offset: *offset,
+            count: *count,
+        },
+        Command::Store { var, offset, text } => Command::Store {
+            var: var.copy(alloc)?,
+            offset: *offset,
+            text: text.copy(alloc)?,
+        },
+        Command::Length { var } => Command::Length {
+            var: var.copy(alloc)?,
+        },
+        Command::Map { var } => Command::Map {
+            var: var.copy(alloc)?,
+        },
+        Command::Unmap { var } => Command::Unmap {
+            var: var.copy(alloc)?,
+        },
+        Command::Loadat { address, count } => Command::Loadat {
+            address: *address,
+            count: *count,
+        },
+        Command::Storeat { address, text } => Command::Storeat {
+            address: *address,
+            text: text.copy(alloc)?,
+        },
+    })
+}
+
+/// The declared objects by their variables.
+fn declared(alloc: Global, objects: &[VarRow]) -> Result<Bindings, NoMemory>
+    ensures { IfOk result (λ bound. object_at bound ≡ declare objects.now unbound) }
+{
+    let mut bound = Bindings::new(alloc);
+    for row in objects {
+        bound.bind(alloc, row.var.bytes(), row.uid)?;
+    }
+    Ok(bound)
+}
+
+/// The names of the nodes.
+fn names(alloc: Global, nodes: &[NodeRow]) -> Result<NodeNames, NoMemory>
+    requires { AreNodeNames (map (λ n. n.name) nodes.now) }
+    ensures { IfOk result (λ names. names ≡ map (λ n. n.name) nodes.now) }
+{
+    let mut names = Vec::new(alloc);
+    for node in nodes {
+        names.push(node.name.copy(alloc)?)?;
+    }
+    NodeNames::from_list(alloc, names.as_slice())
+}
+
+/// A command of a script as a job of its process.
+fn job_from(alloc: Global, declared: &Bindings, row: &CommandRow) -> Result<Job, NoMemory>
+    ensures { IfOk result (λ job. job ≡ job_of (object_at declared.now) row.now) }
+{
+    Ok(Job {
+        phase: row.phase,
+        command: copy_of(alloc, &row.command)?,
+        declared: object_named(declared, &row.command),
+    })
+}
+
+/// The jobs of one process among all commands, in order.
+fn jobs(
+    alloc: Global,
+    declared: &Bindings,
+    rows: &[CommandRow],
+    proc: ProcId,
+) -> Result<Vec<Job>, NoMemory>
+    ensures { IfOk result (λ jobs. jobs.items ≡ map (job_of (object_at declared.now)) (filter (λ row. same_proc row.proc proc) rows.now)) }
+{
+    let mut jobs = Vec::new(alloc);
+    for row in rows {
+        if row.proc.is(proc) {
+            jobs.push(job_from(alloc, declared, row)?)?;
+        }
+    }
+    Ok(jobs)
+}
+
+/// A process's part of a script.
+#[derive(Drop)]
+pub struct Work {
+    node: NodeId,
+    names: NodeNames,
+    jobs: Vec<Job>,
+}
+
+impl Model for Work {
+    ghost use Rattle.std.specs.Prelude.{length, ◌<◌, ◌^◌};
+    ghost use Rattle.aegis_shell.specs.Work.{Part};
+    ghost use Rattle.aegis_shell.specs.Ranges.{AreJobs};
+
+    ghost Value = { Part };
+
+    ghost view = { λ w. record { node = w.node; names = w.names; jobs = w.jobs.items } };
+
+    ghost invariant = { λ w. AreJobs w.jobs.items × (length w.jobs.items < 2 ^ 32) };
+}
+
+impl Work {
+    /// The part of a process of a script. It goes over the script's lists once.
+    pub fn new(alloc: Global, script: &Script, proc: ProcId) -> Result<Work, NoMemory>
+        ensures { IfOk result (λ work. work ≡ part_of script.now proc) }
+    {
+        let names = names(alloc, script.nodes())?;
+        let declared = declared(alloc, script.objects())?;
+        let jobs = jobs(alloc, &declared, script.commands(), proc)?;
+        Ok(Work {
+            node: proc.node(),
+            names,
+            jobs,
+        })
+    }
+
+    /// The process's node.
+    pub fn node(&self) -> NodeId
+        ensures { result ≡ self.now.node }
+    {
+        self.node
+    }
+
+    /// The names of all nodes.
+    pub fn names(&self) -> &NodeNames
+        ensures { result.now ≡ self.now.names }
+    {
+        &self.names
+    }
+
+    /// The process's commands, in order.
+    pub fn jobs(&self) -> &[Job]
+        ensures value { result.now ≡ self.now.jobs }
+        ensures ranges { AreJobs self.now.jobs }
+        ensures few { length self.now.jobs < 2 ^ 32 }
+    {
+        self.jobs.as_slice()
+    }
+}
