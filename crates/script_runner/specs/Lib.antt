@@ -1,8 +1,8 @@
-pub mod FirstForm
-pub mod Texts
-pub mod Asking
-pub mod Playing
-pub mod Serving
+pub mod Turns
+pub mod Steps
+pub mod Rounds
+pub mod Processes
 pub mod Reports
 pub mod Domain
-pub mod Reading
+pub mod Beginnings
+pub mod DueTexts

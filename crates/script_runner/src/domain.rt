@@ -1,13 +1,19 @@
 //! The program: from its words and a script's bytes to the report.
-ghost use Rattle.std.specs.Prelude.{◌≡◌, ◌≢◌, ◌⊎◌, ◌↔◌, ℕ, List, [], ◌∷◌, map, string_bytes, Contains, IsTrue, IfOk, IsErrOf, Some, codes};
+ghost use Rattle.std.specs.Prelude.{◌≡◌, ◌≢◌, ◌⊎◌, ◌↔◌, ℕ, List, [], ◌∷◌, map, string_bytes, Contains, IsTrue, IsSome, IfOk, IsErrOf, Some, codes};
 ghost use Rattle.dom_io.specs.Counts.{CountRose};
 ghost use Rattle.dom_io.specs.Known.{TakesAtMost, AppendsPrefix};
-ghost use Rattle.script_runner.specs.FirstForm.{Content, IsFirstForm};
-ghost use Rattle.script_runner.specs.Domain.{is_status, IsTaken, usage as usage_text, refused as refused_text, IsReportOfSource, IsRefusedSource, Adds, AddsReport, AddsPart};
+ghost use Rattle.script_reader.specs.declared.cause.Cause.{Cause};
+ghost use Rattle.script_reader.specs.Scripts.{Content};
+ghost use Rattle.script_reader.specs.Grammar.{IsScript};
+ghost use Rattle.dom_text.specs.Numbers.{number_of};
+ghost use Rattle.script_runner.specs.Domain.{is_status, IsTaken, usage as usage_text, refusal as refusal_text, Adds, AddsReport, AddsRefusal, AddsPart};
+ghost use Rattle.script_runner.specs.DueTexts.{IsDueText};
 
-use crate::reader::{FormFault, read_first_form};
-use crate::run::run_first;
+use crate::run::run_script;
 use dom_io::{ReadEnd, Sink, Source, read_all, write_all};
+use dom_text::{decimal, put_decimal};
+use script_reader::laws::scripts_have_one_reading;
+use script_reader::{Cause, ScriptFault, read_script};
 use std::alloc::Global;
 use thiserror::Error;
 use uid_names::{ByteList, NoMemory};
@@ -17,48 +23,85 @@ const SCRIPT_LIMIT: u32 = 1_048_576;
 
 const USAGE: &[u8; 60] = b"usage: domain run [--turns N] | domain gen SEED [--turns N]\n";
 
-const REFUSED: &[u8; 8] = b"refused\n";
+/// What is due for the bytes of a source.
+#[derive(Drop)]
+pub(crate) enum Due {
+    /// The report of a script's run.
+    Report(ByteList),
+    /// What is said of the first bad line.
+    Refusal(ByteList),
+}
 
-/// Why there is no report.
+/// Why nothing is due.
 #[derive(Clone, Copy, Debug, PartialEq, Eq, Error)]
 enum RunEnd {
     #[error("a read failed")]
     ReadFault,
-    #[error("no script")]
-    Refused,
     #[error("no memory")]
     NoMemory,
+}
+
+impl From<NoMemory> for RunEnd {
+    ghost use Rattle.std.specs.Prelude.{◌≡◌};
+    ghost use Rattle.script_runner.specs.declared.domain.RunEnd.TheVariants.{NoMemory as OutOfMemory};
+
+    ghost from_gives = { λ _ e. e ≡ OutOfMemory };
+
+    fn from(_error: NoMemory) -> RunEnd {
+        RunEnd::NoMemory
+    }
+}
+
+fn is_run(word: &str) -> bool
+    ensures { IsTrue result ↔ (word.now ≡ codes "run") }
+{
+    word == "run"
+}
+
+fn is_turns(option: &str, turns: &str) -> bool
+    ensures { IsTrue result ↔ ((option.now ≡ codes "--turns") × IsSome (number_of turns.now)) }
+{
+    option == "--turns" && decimal(turns.as_bytes()).is_ok()
 }
 
 fn is_taken(words: &[String]) -> bool
     ensures { IsTrue result ↔ IsTaken (map string_bytes words.now) }
 {
     match words {
-        [word] => word.as_str() == "run",
+        [run] => is_run(run.as_str()),
+        [run, option, turns] => is_run(run.as_str()) && is_turns(option.as_str(), turns.as_str()),
         _ => false,
     }
 }
 
-/// The report of the script that a source has left.
-fn read_report<S: Source>(alloc: Global, script: &mut S) -> Result<ByteList, RunEnd>
-    ensures report { IfOk result (IsReportOfSource (S.left script.old)) }
-    ensures refused { IsErrOf result RunEnd.Refused → IsRefusedSource (S.left script.old) }
+/// What is said of a bad line.
+fn refusal(alloc: Global, line: u32, cause: Cause) -> Result<ByteList, NoMemory>
+    ensures { IfOk result (λ text. text ≡ refusal_text line cause) }
+{
+    let mut text = ByteList::from_slice(alloc, b"line ")?;
+    put_decimal(&mut text, u64::from(line))?;
+    text.extend(b": ")?;
+    text.extend(cause.text().as_bytes())?;
+    text.extend(b"\n")?;
+    Ok(text)
+}
+
+/// What is due for the bytes that a source has left.
+fn read_due<S: Source>(alloc: Global, script: &mut S) -> Result<Due, RunEnd>
+    ensures due { IfOk result (IsDueText (S.left script.old)) }
     ensures read_fault { IsErrOf result RunEnd.ReadFault → CountRose (S.faults script.old) (S.faults script.new) }
     ensures taken { TakesAtMost 1048577 (S.left script.old) (S.left script.new) }
 {
     let bytes = match read_all(alloc, script, SCRIPT_LIMIT) {
         Ok(bytes) => bytes,
         Err(ReadEnd::ReadFault) => return Err(RunEnd::ReadFault),
-        Err(ReadEnd::TooLong) => return Err(RunEnd::Refused),
+        Err(ReadEnd::TooLong) => return Ok(Due::Refusal(refusal(alloc, 0, Cause::TooLong)?)),
         Err(ReadEnd::NoMemory) => return Err(RunEnd::NoMemory),
     };
-    match read_first_form(alloc, bytes.bytes()) {
-        Ok(first) => match run_first(alloc, first) {
-            Ok(text) => Ok(text),
-            Err(NoMemory) => Err(RunEnd::NoMemory),
-        },
-        Err(FormFault::Refused) => Err(RunEnd::Refused),
-        Err(FormFault::NoMemory) => Err(RunEnd::NoMemory),
+    match read_script(alloc, bytes.bytes()) {
+        Ok(read) => Ok(Due::Report(run_script(alloc, &read)?)),
+        Err(ScriptFault::Bad { line, cause }) => Ok(Due::Refusal(refusal(alloc, line, cause)?)),
+        Err(ScriptFault::NoMemory) => Err(RunEnd::NoMemory),
     }
 }
 
@@ -78,7 +121,7 @@ fn write_text<O: Sink>(out: &mut O, text: &[u8], status: u8) -> u8
 ///
 /// - 0: the report of the script's one run was written;
 /// - 2: the words are not taken, and the usage was written;
-/// - 3: the source has no script, which was said;
+/// - 3: the source has no script, and its first bad line was named with the cause;
 /// - 4: a read failed;
 /// - 5: a write failed;
 /// - 7: there was no memory.
@@ -98,7 +141,7 @@ pub fn run_domain<S: Source, O: Sink, J: Sink>(
     ensures words_taken { result ≡ 0 → IsTaken (map string_bytes words.now) }
     ensures words_refused { (IsTaken (map string_bytes words.now) → ⊥) → (result ≡ 2) ⊎ (result ≡ 5) }
     ensures usage { result ≡ 2 → (IsTaken (map string_bytes words.now) → ⊥) × Adds (O.held out.old) (O.held out.new) usage_text }
-    ensures bytes_refused { result ≡ 3 → IsTaken (map string_bytes words.now) × IsRefusedSource (S.left script.old) × Adds (O.held out.old) (O.held out.new) refused_text }
+    ensures bytes_refused { result ≡ 3 → IsTaken (map string_bytes words.now) × AddsRefusal (S.left script.old) (O.held out.old) (O.held out.new) }
 
     // Faults of the outside, only where their count rose.
     ensures read_fault { result ≡ 4 → CountRose (S.faults script.old) (S.faults script.new) }
@@ -113,7 +156,7 @@ pub fn run_domain<S: Source, O: Sink, J: Sink>(
     ensures journal { journal.new ≡ journal.old }
 
     // Where nothing outside fails, a script is run, or there was no memory.
-    ensures complete { (bytes : List ℕ) → (s : Content) → IsTaken (map string_bytes words.now) → S.left script.old ≡ Some bytes → IsFirstForm bytes s
+    ensures complete { (bytes : List ℕ) → (s : Content) → IsTaken (map string_bytes words.now) → S.left script.old ≡ Some bytes → IsScript bytes s
         → (CountRose (S.faults script.old) (S.faults script.new) → ⊥) → (CountRose (O.faults out.old) (O.faults out.new) → ⊥)
         → (result ≡ 0) ⊎ (result ≡ 7) }
 {
@@ -121,9 +164,11 @@ pub fn run_domain<S: Source, O: Sink, J: Sink>(
     if !is_taken(words) {
         return write_text(out, USAGE, 2);
     }
-    match read_report(alloc, script) {
-        Ok(text) => write_text(out, text.bytes(), 0),
-        Err(RunEnd::Refused) => write_text(out, REFUSED, 3),
+    // So bytes that are a script have no bad line.
+    scripts_have_one_reading();
+    match read_due(alloc, script) {
+        Ok(Due::Report(text)) => write_text(out, text.bytes(), 0),
+        Ok(Due::Refusal(text)) => write_text(out, text.bytes(), 3),
         Err(RunEnd::ReadFault) => 4,
         Err(RunEnd::NoMemory) => 7,
     }

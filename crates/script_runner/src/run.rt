@@ -1,45 +1,44 @@
 //! Runs a script that was read.
-ghost use Rattle.std.specs.Prelude.{◌≡◌, ◌≤◌, ◌^◌, ◌<◌, length, All, IfOk};
-ghost use Rattle.script_runner.specs.FirstForm.{IsCommand};
-ghost use Rattle.script_runner.specs.Asking.{first_process as the_process};
+ghost use Rattle.std.specs.Prelude.{◌≡◌, map, IfOk};
+ghost use Rattle.script_runner.specs.Beginnings.{process_of};
 ghost use Rattle.script_runner.specs.Reports.{IsReportOf};
 
-use crate::answer::report;
-use crate::form::FirstScript;
-use crate::program::FirstProgram;
-use crate::serve::serve_alone;
+use crate::laws::the_run_is_one;
+use crate::processes::processes_in;
+use crate::report::report;
+use crate::rounds::process::Process;
+use crate::rounds::serve_in_rounds;
+use aegis_shell::Shell;
+use aegis_shell::laws::{answers_only_become_more, processes_come_to_their_end};
 use dom_history::PlainStore;
-use dom_history::laws::{runs_alone_become_plain, the_history_is_one};
+use script_reader::Script;
 use std::alloc::Global;
-use uid_names::{ByteList, MAX_ROOM, NoMemory, NodeId, Opening, ProcId};
+use uid_names::{ByteList, NoMemory, ProcId};
 
-/// The one process of a script.
-fn first_process() -> ProcId
-    ensures { result ≡ the_process }
+/// A process of each of these names, with its shell.
+fn begin(alloc: Global, script: &Script, procs: &[ProcId]) -> Result<Vec<Process<Shell>>, NoMemory>
+    ensures { IfOk result (λ processes. processes.items ≡ map (process_of script.now) procs.now) }
 {
-    let Some(node) = NodeId::new(1) else {
-        unreachable!()
-    };
-    let Some(proc) = ProcId::new(node, 1) else {
-        unreachable!()
-    };
-    proc
+    let mut processes = Vec::new(alloc);
+    for proc in procs {
+        let shell = Shell::new(alloc, script, *proc)?;
+        processes.push(Process::new(*proc, shell))?;
+    }
+    Ok(processes)
 }
 
 /// The report of a script's run on one store.
-pub fn run_first(alloc: Global, script: FirstScript) -> Result<ByteList, NoMemory>
-    requires ranges { All IsCommand script.commands }
-    requires few { length script.commands ≤ 20000 }
-    ensures { IfOk result (IsReportOf script) }
+pub fn run_script(alloc: Global, script: &Script) -> Result<ByteList, NoMemory>
+    ensures { IfOk result (IsReportOf script.now) }
 {
-    // What is served alone is the one plain run of its program.
-    runs_alone_become_plain();
-    the_history_is_one();
-    let opening = Opening::new(alloc, 1, MAX_ROOM);
-    let mut store = PlainStore::new(alloc, &opening)?;
-    let most = script.commands().len() as u32;
-    let mut program = FirstProgram::new(alloc, script);
-    serve_alone(alloc, &mut store, &mut program, first_process(), most)?;
-    let text = report(alloc, program.name(), program.answers())?;
+    // The shells come to their end, and what they were served is the one run of the script.
+    processes_come_to_their_end();
+    answers_only_become_more();
+    the_run_is_one();
+    let mut store = PlainStore::new(alloc, script.opening())?;
+    let procs = processes_in(alloc, script.commands())?;
+    let mut processes = begin(alloc, script, procs.as_slice())?;
+    serve_in_rounds(alloc, &mut store, processes.as_mut_slice())?;
+    let text = report(alloc, script.nodes(), processes.as_slice())?;
     Ok(text)
 }

@@ -1,16 +1,19 @@
-use Rattle.std.proofs.Common.{◌≡◌, [], ◌∷◌, ap, sym, ◌∙◌, map, string_bytes, codes}
-use Rattle.std.proofs.lemmas.Bool.Decides.{Decides-eqb}
-use Rattle.std.proofs.lemmas.Slice.Eq.{slice_eq-Decides}
-use Rattle.script_runner.proofs.Sourced.{single}
+use Rattle.std.proofs.Common.{◌≡◌, [], ◌∷◌, ap, map, string_bytes, codes, rules}
+use Rattle.std.specs.Prelude.{IsTrue}
+use Rattle.script_runner.proofs.Sourced.{three_are, taken_turns}
 use Rattle.script_runner.proofs.domain.is_taken.Goals as goal
 
-pub returns-in-len1 : goal.returns-in-len1
-returns-in-len1 c =
+pub returns-then-is_run : goal.returns-then-is_run
+returns-then-is_run c =
     let words = c.args.words.now in
-    let word = c.word-item.result in
-    let alone : words ≡ word ∷ [] = single words word c.in-len1.len_at_least c.in-len1.len_below ∙ ap (λ w. w ∷ []) (sym c.word-item.is) in
-    let bytes : map string_bytes words ≡ string_bytes word ∷ [] = ap (map string_bytes) alone in
-    let decides = slice_eq-Decides Decides-eqb c.as_str.result.now (codes "run") c.eq.result c.eq.ensures in (
-      λ taken. bytes ∙ ap (λ b. b ∷ []) (sym c.as_str.ensures.value ∙ decides.0 taken),
-      λ taken. let same : string_bytes word ≡ codes "run" = cc in decides.1 (c.as_str.ensures.value ∙ same),
-    )
+    let run = c.run-item-then-words-lt4.result in
+    let option = c.option-item.result in
+    let turns = c.turns-item.result in
+    let run_bytes = c.as_str-in-len3.ensures.value in
+    let option_bytes = c.as_str-then-is_run.ensures.value in
+    let turns_bytes = c.as_str-then-is_run-2.ensures.value in
+    let are = three_are words run option turns c.in-len3.len_at_least c.in-len3.len_below c.run-item-then-words-lt4.is c.option-item.is c.turns-item.is in
+    let all : map string_bytes words ≡ string_bytes run ∷ (string_bytes option ∷ (string_bytes turns ∷ [])) = ap (map string_bytes) are in
+    let is_run : IsTrue c.is_run-in-len3.result = search (rules, c.if-is_run.true) in
+    taken_turns (map string_bytes words) c.as_str-in-len3.result.now c.as_str-then-is_run.result.now c.as_str-then-is_run-2.result.now c.is_turns.result
+    (cc) (c.is_run-in-len3.ensures.0 is_run) c.is_turns.ensures

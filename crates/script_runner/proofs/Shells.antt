@@ -1,0 +1,101 @@
+-- What the shells of a script's processes are as programs.
+use Rattle.std.proofs.Common.{◌≡◌, ◌≤◌, ◌<◌, ◌+◌, ◌^◌, ◌*◌, ℕ, Bool, true, false, Option, Some, None, List, [], ◌∷◌, ◌++◌, length, map, refl, sym, ◌∙◌, ap, subst, arith, rules}
+use Rattle.std.specs.Prelude.{All, filter, reverse, if◌then◌else◌}
+use Rattle.std.proofs.lemmas.List.{reverse-append, length-reverse}
+use Rattle.std.proofs.lemmas.List.Elements.{All-cons, All-nil, All-head, All-tail}
+use Rattle.uid_names.specs.Names.{ProcName, same_proc}
+use Rattle.dom_history.specs.declared.op.Reply.{Reply}
+use Rattle.dom_history.specs.declared.op.Want.{Want}
+use Rattle.dom_history.specs.declared.op.Want.TheVariants.{Do, Phase, Done}
+use Rattle.dom_history.specs.declared.op.Entry.{Entry}
+use Rattle.dom_history.specs.Fitting.{Fits}
+use Rattle.dom_history.specs.Follows.{Heard, Reaches, starts, answered as answered_by, passed}
+use Rattle.dom_history.specs.Programs.{heard_with, program_after, FitsWant}
+use Rattle.script_reader.specs.declared.script.CommandRow.{CommandRow}
+use Rattle.script_reader.specs.Scripts.{Content, IsContent, IsCommandRow}
+use Rattle.aegis_shell.specs.declared.work.Job.{Job}
+use Rattle.aegis_shell.specs.Bound.{Bound, unbound, declare}
+use Rattle.aegis_shell.specs.Work.{Part, part_of, jobs_of, job_of}
+use Rattle.aegis_shell.specs.Asking.{Told, Reached, reach, reached, ask, answers}
+use Rattle.aegis_shell.specs.Playing.{Shelled, fresh_shell, shell_after}
+use Rattle.script_runner.specs.declared.rounds.process.Process.{Process}
+use Rattle.script_runner.specs.Rounds.{IsFinite, IsCounting, IsFresh, program_of, asked, asks_of, finished_by, counts_of}
+use Rattle.script_runner.specs.Beginnings.{process_of}
+use Rattle.script_runner.specs.Reports.{counts}
+
+-- a shell as a program
+abbrev pub shell_ask : Shelled → Heard → Want
+shell_ask v heard = (reached v.part heard).want
+
+abbrev pub shell_heard : Shelled → Option Heard
+shell_heard v = v.heard
+
+abbrev pub shell_answered : Shelled → ℕ
+shell_answered v = length v.answers
+
+abbrev pub shell_spent : Shelled → Bool
+shell_spent v = v.spent
+
+-- a process that heard enough is done
+abbrev pub AreEnding : Type 0
+AreEnding = (s : Content) (p : ProcName) (heard : Heard) → IsContent s → 1000 + 2 * length (jobs_of s p) ≤ length heard → ask s p heard ≡ Done
+
+-- what a process hears only adds answers
+abbrev pub AreGrowing : Type 0
+AreGrowing = (part : Part) (heard : Heard) (told : Option Reply) → length (reached part heard).answers ≤ length (reached part (told ∷ heard)).answers
+
+module _ (s : Content) (p : ProcName) where
+  -- a process has no more jobs than the script has commands
+  jobs_few : (rows : List CommandRow) → length (map (job_of (declare s.objects unbound)) (filter (λ row. same_proc row.proc p) rows)) ≤ length rows
+  jobs_few [] = omega arith
+  jobs_few (row ∷ rows) = few_by (same_proc row.proc p) (jobs_few rows)
+    where
+      few_by : (b : Bool) → length (map (job_of (declare s.objects unbound)) (filter (λ r. same_proc r.proc p) rows)) ≤ length rows → length (map (job_of (declare s.objects unbound)) (if b then row ∷ filter (λ r. same_proc r.proc p) rows else filter (λ r. same_proc r.proc p) rows)) ≤ length (row ∷ rows)
+      few_by true h = omega (arith, h)
+      few_by false h = omega (arith, h)
+
+  -- its program comes to its end
+  shell_finite : AreEnding → IsContent s → IsFinite (shell_ask (fresh_shell s p))
+  shell_finite ending content = record {
+    ends = λ heard enough. ending s p heard content (omega (arith, enough, jobs_few s.commands, content.draft.few_commands));
+  }
+
+  -- the shell once it has heard this
+  pub shell_after-heard : (heard : Heard) → program_after shell_after (fresh_shell s p) heard ≡ record { part = part_of s p; heard = Some heard; answers = answers s p heard; spent = false }
+  shell_after-heard [] = refl
+  shell_after-heard (told ∷ heard) = rw (shell_after-heard heard) refl
+
+  -- what it has finished stays finished
+  shell_counting : AreGrowing → IsCounting (λ heard. shell_answered (program_after shell_after (fresh_shell s p) heard))
+  shell_counting growing = record {
+    never_falls = λ heard told. rw (shell_after-heard heard) (growing (part_of s p) heard told);
+  }
+
+  -- a process of a script is fresh
+  pub process_fresh : AreEnding → AreGrowing → IsContent s → IsFresh shell_ask shell_heard shell_spent shell_answered shell_after (process_of s p)
+  process_fresh ending growing content = record {
+    phase = refl;
+    finished = refl;
+    want = refl;
+    whole = refl;
+    fresh = refl;
+    nothing_answered = refl;
+    finite = shell_finite ending content;
+    counting = shell_counting growing;
+  }
+
+  none_by : (row : CommandRow) (rows : List CommandRow) → same_proc row.proc p ≡ false → filter (λ r. same_proc r.proc p) rows ≡ [] → filter (λ r. same_proc r.proc p) (row ∷ rows) ≡ []
+  none_by row rows apart rest = rw apart rest
+
+  -- a process without a command has no job
+  pub no_jobs : (rows : List CommandRow) → All (λ row. same_proc row.proc p ≡ false) rows → filter (λ row. same_proc row.proc p) rows ≡ []
+  no_jobs [] h = refl
+  no_jobs (row ∷ rows) h = none_by row rows (All-head (λ r. same_proc r.proc p ≡ false) row rows h) (no_jobs rows (All-tail (λ r. same_proc r.proc p ≡ false) row rows h))
+
+  -- so it is done at once, with no answer
+  pub done_at_once : All (λ row. same_proc row.proc p ≡ false) s.commands → (heard : Heard) → (ask s p heard ≡ Done) × (length (answers s p heard) ≡ 0)
+  done_at_once h heard =
+      let none : jobs_of s p ≡ [] = ap (map (job_of (declare s.objects unbound))) (no_jobs s.commands h) in (
+        ap (λ jobs. (reach (record { node = p.node; names = map (λ n. n.name) s.nodes; jobs = jobs }) 1 unbound jobs (reverse heard)).want) none,
+        ap (λ jobs. length (reach (record { node = p.node; names = map (λ n. n.name) s.nodes; jobs = jobs }) 1 unbound jobs (reverse heard)).answers) none,
+      )

@@ -1,6 +1,0 @@
-use Rattle.script_runner.proofs.Naming.{HasAlso-insert_key}
-use Rattle.script_runner.proofs.reader.variables.Variables.add.Goals as goal
-
-pub returns-clause-ok : goal.returns-clause-ok
-returns-clause-ok c =
-    rw (← c.self.view_is, c.in_ok-insert.ensures.keys, ← c.in_ok-name.ensures.items) (HasAlso-insert_key c.self.inside.names.keys c.in_ok-name.name)

@@ -1,0 +1,68 @@
+//! How answers are written in a report.
+ghost use Rattle.std.specs.Prelude.{◌≡◌, ◌++◌, ℕ, List, map, IfOk, OnOk};
+ghost use Rattle.script_runner.specs.Reports.{process_text, report_line, report_lines, lines_of};
+ghost use Rattle.aegis_shell.specs.AnswerTexts.{node_name};
+
+use crate::rounds::process::Process;
+use aegis_shell::Shell;
+use dom_text::put_decimal;
+use script_reader::NodeRow;
+use std::alloc::Global;
+use uid_names::{ByteList, NoMemory, NodeId, ProcId};
+
+/// The name of a node; empty where there is no such node.
+fn name_of(nodes: &[NodeRow], node: NodeId) -> &[u8]
+    ensures { result.now ≡ node_name (map (λ n. n.name) nodes.now) node }
+{
+    match nodes.get(node.number() as usize - 1) {
+        Some(row) => row.name.bytes(),
+        None => b"",
+    }
+}
+
+/// A process by the name of its node.
+fn process_name(alloc: Global, nodes: &[NodeRow], proc: ProcId) -> Result<ByteList, NoMemory>
+    ensures { IfOk result (λ text. text ≡ process_text (map (λ n. n.name) nodes.now) proc) }
+{
+    let mut text = ByteList::from_slice(alloc, name_of(nodes, proc.node()))?;
+    text.extend(b".")?;
+    put_decimal(&mut text, proc.number() as u64)?;
+    Ok(text)
+}
+
+fn put_line(to: &mut ByteList, process: &[u8], index: u64, answer: &[u8]) -> Result<(), NoMemory>
+    ensures { OnOk result (to.new ≡ to.old ++ report_line process.now index answer.now) }
+{
+    to.extend(process)?;
+    to.extend(b" ")?;
+    put_decimal(to, index)?;
+    to.extend(b" ")?;
+    to.extend(answer)?;
+    to.extend(b"\n")
+}
+
+/// A line for each answer of a process, counted from 1.
+fn put_lines(to: &mut ByteList, process: &[u8], answers: &[ByteList]) -> Result<(), NoMemory>
+    ensures { OnOk result (to.new ≡ to.old ++ report_lines process.now 1 answers.now) }
+{
+    for (i, answer) in answers.iter().enumerate() {
+        put_line(to, process, i as u64 + 1, answer.bytes())?;
+    }
+    Ok(())
+}
+
+/// The report: the lines of each process, one process after another.
+pub fn report(
+    alloc: Global,
+    nodes: &[NodeRow],
+    processes: &[Process<Shell>],
+) -> Result<ByteList, NoMemory>
+    ensures { IfOk result (λ text. text ≡ lines_of (map (λ n. n.name) nodes.now) (map (λ p. record { proc = p.proc; answers = p.program.answers }) processes.now)) }
+{
+    let mut text = ByteList::new(alloc);
+    for process in processes {
+        let name = process_name(alloc, nodes, process.proc)?;
+        put_lines(&mut text, name.bytes(), process.program.answers())?;
+    }
+    Ok(text)
+}
