@@ -1,0 +1,10 @@
+pub mod Codes
+pub mod Fields
+pub mod Loop
+pub mod Rising
+pub mod Heads
+pub mod Values
+pub mod Bodies
+pub mod Sizes
+pub mod Frames
+pub mod RowByRow

@@ -1,0 +1,212 @@
+-- The fields of frames, one by one.
+use Rattle.std.proofs.Common.{◌≡◌, ℕ, zero, suc, ◌/◌, ◌%◌, ◌^◌, ◌<◌, ◌≤◌, Bool, true, false, List, [], ◌∷◌, ◌++◌, length, take, drop, Some, None, refl, sym, ap, subst, ◌∙◌, append_assoc, arith}
+use Rattle.std.specs.Prelude.{All, nat_lt, nat_le, ◌==◌, ◌&&◌, if◌then◌else◌}
+use Rattle.std.specs.List.{flat_map, AllByRecursion}
+use Rattle.std.proofs.lemmas.Bool.{ltb-false, le-ltb}
+use Rattle.std.proofs.lemmas.Bool.Decides.{nat_tests}
+use Rattle.std.proofs.lemmas.List.{take_at, drop_at, take-append-drop, length-append, length-take, get_or_default}
+use Rattle.std.proofs.lemmas.List.Concat.{flat_map-cons}
+use Rattle.uid_names.specs.Names.{ProcName, ObjectName, IsName, number_of}
+use Rattle.uid_names.specs.Modes.{mode_code, object_code}
+use Rattle.uid_names.specs.declared.lists.LockRow.{LockRow}
+use Rattle.uid_names.specs.declared.mode.Mode.{Mode}
+use Rattle.uid_names.specs.declared.mode.ObjKind.{ObjKind}
+use Rattle.ring_messages.specs.Spelling.{be32, be64, uid_bytes, proc_bytes, flag, row_bytes}
+use Rattle.ring_messages.specs.Spelled.{IsProc, IsRow, IsPageBytes}
+use Rattle.ring_messages.specs.Reading.{◌>>=◌, ◌then◌, bytes_at, page_at, length_at, room_at, count_at, name_of, is_name, uid_of, own_of, proc_of, mode_of, object_of, flag_of, uid_at, own_at, proc_at, mode_at, object_at, flag_at, row_of, row_at, rows_at}
+use Rattle.ring_messages.proofs.Codes.{mode_of_code, mode_of_back, object_of_code, object_of_back}
+use Rattle.ring_messages.proofs.Rising.{and-true}
+use Rattle.ring_messages.proofs.Fields.{IsBytes, IsBytes-take, IsBytes-rest, bind_some, if_some, unless_some, some_is, IsField, field-then, field-passing, field-meaning, field-byte, field-be32, field-be64}
+
+pub field-page : IsField be32 (λ n. (n < 2 ^ 32) × (n < 1024)) page_at
+unfolding page_at
+field-page = field-passing (λ n. nat_lt n 1024) (λ n. n < 1024) (λ n h. grind (arith, nat_tests)) (λ n h. grind (arith, nat_tests)) field-be32
+
+pub field-length : IsField be32 (λ n. (n < 2 ^ 32) × (n ≤ 1048576)) length_at
+unfolding length_at
+field-length = field-passing (λ n. nat_le n 1048576) (λ n. n ≤ 1048576) (λ n h. grind (arith, nat_tests)) (λ n h. grind (arith, nat_tests)) field-be32
+
+pub field-room : IsField be32 (λ n. (n < 2 ^ 32) × ((1 ≤ n) × (n ≤ 1024))) room_at
+unfolding room_at
+field-room = field-passing (λ n. nat_le 1 n && nat_le n 1024) (λ n. (1 ≤ n) × (n ≤ 1024)) (λ n h. grind (arith, nat_tests, h.0, h.1)) (λ n h. (grind (arith, nat_tests), grind (arith, nat_tests))) field-be32
+
+pub field-count : IsField be64 (λ n. (n < 2 ^ 64) × (1 ≤ n)) count_at
+unfolding count_at
+field-count = field-passing (λ n. nat_le 1 n) (λ n. 1 ≤ n) (λ n h. grind (arith, nat_tests)) (λ n h. grind (arith, nat_tests)) field-be64
+
+-- ---- names
+
+name-number : (n : ℕ) → number_of (name_of n) ≡ n
+name-number n = omega arith
+
+number-name : (u : ObjectName) → IsName u → name_of (number_of u) ≡ u
+number-name u is =
+    let counter : number_of u / 2 ^ 20 ≡ u.counter = omega (arith, is.home_high) in
+    let home : number_of u % 2 ^ 20 ≡ u.home = omega (arith, is.home_high) in
+    ap (λ (c : ℕ). record { counter = c; home = number_of u % 2 ^ 20 }) counter ∙ ap (λ (h : ℕ). record { counter = u.counter; home = h }) home
+
+pub uid-means : (u : ObjectName) → IsName u → (number_of u < 2 ^ 64) × (uid_of (number_of u) ≡ Some u)
+unfolding uid_of
+uid-means u is =
+    let passes : is_name u ≡ true = grind (arith, nat_tests, is.counter_low, is.home_low, is.home_high) in
+    (omega (arith, is.counter_high, is.home_high), ap (λ (v : ObjectName). if is_name v then Some v else None) (number-name u is) ∙ rw passes refl)
+
+pub uid-meant : (n : ℕ) (u : ObjectName) → n < 2 ^ 64 → uid_of n ≡ Some u → (n ≡ number_of u) × IsName u
+unfolding uid_of
+uid-meant n u small e =
+    let g = if_some (is_name (name_of n)) (name_of n) u e in
+    let a = and-true (nat_le 1 (n / 2 ^ 20)) (nat_le 1 (n % 2 ^ 20) && nat_le (n % 2 ^ 20) 8) g.0 in
+    let b = and-true (nat_le 1 (n % 2 ^ 20)) (nat_le (n % 2 ^ 20) 8) a.1 in
+    let is : IsName (name_of n) = record { counter_low = grind (arith, nat_tests, a.0); counter_high = omega arith; home_low = grind (arith, nat_tests, b.0); home_high = grind (arith, nat_tests, b.1) } in
+    subst (λ (v : ObjectName). (n ≡ number_of v) × IsName v) g.1 (sym (name-number n), is)
+
+pub field-uid : IsField uid_bytes IsName uid_at
+field-uid = field-meaning uid_of number_of IsName uid-means uid-meant field-be64
+
+own-means : (home : ℕ) (u : ObjectName) → IsName u × (u.home ≡ home) → (number_of u < 2 ^ 64) × (own_of home (number_of u) ≡ Some u)
+unfolding own_of
+own-means home u is =
+    let m = uid-means u is.0 in
+    let here : (u.home == home) ≡ true = grind (arith, nat_tests, is.1) in
+    (m.0, rw m.1 (rw here refl))
+
+own-meant : (home n : ℕ) (u : ObjectName) → n < 2 ^ 64 → own_of home n ≡ Some u → (n ≡ number_of u) × (IsName u × (u.home ≡ home))
+unfolding own_of
+own-meant home n u small e =
+    let v = bind_some (uid_of n) (λ v. if v.home == home then Some v else None) u e in
+    let g = if_some (v.0.home == home) v.0 u v.2 in
+    let m = uid-meant n v.0 small v.1 in
+    subst (λ (w : ObjectName). (n ≡ number_of w) × (IsName w × (w.home ≡ home))) g.1 (m.0, (m.1, grind (arith, nat_tests, g.0)))
+
+pub field-own : (home : ℕ) → IsField uid_bytes (λ u. IsName u × (u.home ≡ home)) (own_at home)
+field-own home = field-meaning (own_of home) number_of (λ u. IsName u × (u.home ≡ home)) (own-means home) (own-meant home) field-be64
+
+-- ---- processes, modes and flags
+
+pub proc_of-again : (p : ProcName) → IsProc p → proc_of p.node p.number ≡ Some p
+unfolding proc_of
+proc_of-again p is =
+    let node : (nat_le 1 p.node && nat_le p.node 8) ≡ true = grind (arith, nat_tests, is.node.0, is.node.1) in
+    let number : (nat_le 1 p.number && nat_le p.number 4) ≡ true = grind (arith, nat_tests, is.number_low, is.number_high) in
+    rw (node, number) refl
+
+pub proc_of-takes : (node number : ℕ) (p : ProcName) → proc_of node number ≡ Some p → (node ≡ p.node) × (number ≡ p.number) × IsProc p
+unfolding proc_of
+proc_of-takes node number p e =
+    let made : ProcName = record { node = node; number = number } in
+    let g = if_some ((nat_le 1 node && nat_le node 8) && (nat_le 1 number && nat_le number 4)) made p e in
+    let a = and-true (nat_le 1 node && nat_le node 8) (nat_le 1 number && nat_le number 4) g.0 in
+    let b = and-true (nat_le 1 node) (nat_le node 8) a.0 in
+    let c = and-true (nat_le 1 number) (nat_le number 4) a.1 in
+    let is : IsProc made = record { node = (grind (arith, nat_tests, b.0), grind (arith, nat_tests, b.1)); number_low = grind (arith, nat_tests, c.0); number_high = grind (arith, nat_tests, c.1) } in
+    subst (λ (q : ProcName). (node ≡ q.node) × (number ≡ q.number) × IsProc q) g.1 (refl, refl, is)
+
+proc-means : (p : ProcName) → IsProc p → ((p.node < 256) × (p.number < 256)) × (proc_of p.node p.number ≡ Some p)
+proc-means p is = ((omega (arith, is.node.1), omega (arith, is.number_high)), proc_of-again p is)
+
+proc-meant : (x : ℕ × ℕ) (p : ProcName) → (x.0 < 256) × (x.1 < 256) → proc_of x.0 x.1 ≡ Some p → (x ≡ (p.node, p.number)) × IsProc p
+proc-meant x p small e =
+    let t = proc_of-takes x.0 x.1 p e in
+    (ap (λ (n : ℕ). (n, x.1)) t.0 ∙ ap (λ (n : ℕ). (p.node, n)) t.1, t.2)
+
+pub field-proc : IsField proc_bytes IsProc proc_at
+field-proc = field-meaning (λ (x : ℕ × ℕ). proc_of x.0 x.1) (λ p. (p.node, p.number)) IsProc proc-means proc-meant (field-then field-byte field-byte)
+
+mode-small : (m : Mode) → mode_code m < 256
+mode-small m = grind arith
+
+pub field-mode : IsField (λ m. mode_code m ∷ []) (λ m. Unit {0}) mode_at
+field-mode = field-meaning mode_of mode_code (λ m. Unit {0}) (λ m u. (mode-small m, mode_of_code m)) (λ n m small e. (mode_of_back n m e, tt)) field-byte
+
+object-small : (k : ObjKind) → object_code k < 256
+object-small k = grind arith
+
+pub field-object : IsField (λ k. object_code k ∷ []) (λ k. Unit {0}) object_at
+field-object = field-meaning object_of object_code (λ k. Unit {0}) (λ k u. (object-small k, object_of_code k)) (λ n k small e. (object_of_back n k e, tt)) field-byte
+
+flag-again : (b : Bool) → (flag b < 256) × (flag_of (flag b) ≡ Some b)
+unfolding flag_of
+flag-again true = (omega arith, refl)
+flag-again false = (omega arith, refl)
+
+flag-back : (n : ℕ) (b : Bool) → flag_of n ≡ Some b → n ≡ flag b
+unfolding flag_of
+flag-back n true e = grind (arith, nat_tests)
+flag-back n false e = grind (arith, nat_tests)
+
+pub field-flag : IsField (λ b. flag b ∷ []) (λ b. Unit {0}) flag_at
+field-flag = field-meaning flag_of flag (λ b. Unit {0}) (λ b u. flag-again b) (λ n b small e. (flag-back n b e, tt)) field-byte
+
+-- ---- the bytes of a page
+
+All-from_small : (bytes : List ℕ) → IsBytes bytes → All (λ b. b < 256) bytes
+All-from_small bytes small k d below = subst (λ (b : ℕ). b < 256) (get_or_default bytes k 0 d below) (small k)
+
+bytes-again : (bytes rest : List ℕ) → IsPageBytes bytes → bytes_at (bytes ++ rest) ≡ Some (bytes, rest)
+unfolding bytes_at
+bytes-again bytes rest is =
+    let long : nat_lt (length (bytes ++ rest)) 1024 ≡ false = le-ltb _ _ (omega (arith, length-append bytes rest, is.len)) in
+    rw (long, take_at bytes rest 1024 is.len, drop_at bytes rest 1024 is.len) refl
+
+bytes-takes : (bytes : List ℕ) (x : List ℕ × List ℕ) → IsBytes bytes → bytes_at bytes ≡ Some x → (bytes ≡ x.0 ++ x.1) × IsPageBytes x.0
+unfolding bytes_at
+bytes-takes bytes x small e =
+    let read : List ℕ × List ℕ = (take 1024 bytes, drop 1024 bytes) in
+    let g = unless_some (nat_lt (length bytes) 1024) read x e in
+    let long : 1024 ≤ length bytes = ltb-false _ _ g.0 in
+    let is : IsPageBytes (take 1024 bytes) = record {
+      len = omega (arith, length-take 1024 bytes);
+      small = All-from_small (take 1024 bytes) (IsBytes-take 1024 bytes small);
+    } in
+    subst (λ (y : List ℕ × List ℕ). (bytes ≡ y.0 ++ y.1) × IsPageBytes y.0) g.1 (sym (take-append-drop 1024 bytes), is)
+
+pub field-bytes : IsField (λ bytes. bytes) IsPageBytes bytes_at
+field-bytes = record { again = bytes-again; takes = bytes-takes }
+
+-- ---- rows
+
+row-means : (row : LockRow) → IsRow row → ((number_of row.uid < 2 ^ 64) × ((row.proc.node < 256) × ((row.proc.number < 256) × (mode_code row.mode < 256)))) × (row_of (number_of row.uid) row.proc.node row.proc.number (mode_code row.mode) ≡ Some row)
+unfolding row_of
+row-means row is =
+    let u = uid-means row.uid is.uid in
+    let p = proc-means row.proc is.proc in
+    ((u.0, (p.0.0, (p.0.1, mode-small row.mode))), rw u.1 (rw p.1 (rw (mode_of_code row.mode) refl)))
+
+row-meant : (x : ℕ × (ℕ × (ℕ × ℕ))) (row : LockRow) → (x.0 < 2 ^ 64) × ((x.1.0 < 256) × ((x.1.1.0 < 256) × (x.1.1.1 < 256))) → row_of x.0 x.1.0 x.1.1.0 x.1.1.1 ≡ Some row → (x ≡ (number_of row.uid, (row.proc.node, (row.proc.number, mode_code row.mode)))) × IsRow row
+unfolding row_of
+row-meant x row small e =
+    let u = bind_some (uid_of x.0) (λ u. proc_of x.1.0 x.1.1.0 >>= λ p. mode_of x.1.1.1 >>= λ m. Some (record { uid = u; proc = p; mode = m })) row e in
+    let p = bind_some (proc_of x.1.0 x.1.1.0) (λ p. mode_of x.1.1.1 >>= λ m. Some (record { uid = u.0; proc = p; mode = m })) row u.2 in
+    let m = bind_some (mode_of x.1.1.1) (λ m. Some (record { uid = u.0; proc = p.0; mode = m })) row p.2 in
+    let made : LockRow = record { uid = u.0; proc = p.0; mode = m.0 } in
+    let um = uid-meant x.0 u.0 small.0 u.1 in
+    let pm = proc_of-takes x.1.0 x.1.1.0 p.0 p.1 in
+    let mm = mode_of_back x.1.1.1 m.0 m.1 in
+    let parts : x ≡ (number_of u.0, (p.0.node, (p.0.number, mode_code m.0))) = rw (← um.0, ← pm.0, ← pm.1, ← mm) refl in
+    subst (λ (r : LockRow). (x ≡ (number_of r.uid, (r.proc.node, (r.proc.number, mode_code r.mode)))) × IsRow r) (some_is made row m.2) (parts, record { uid = um.1; proc = pm.2 })
+
+pub field-row : IsField row_bytes IsRow row_at
+field-row = field-meaning (λ (x : ℕ × (ℕ × (ℕ × ℕ))). row_of x.0 x.1.0 x.1.1.0 x.1.1.1) (λ row. (number_of row.uid, (row.proc.node, (row.proc.number, mode_code row.mode)))) IsRow row-means row-meant (field-then field-be64 (field-then field-byte (field-then field-byte field-byte)))
+
+pub rows-again : (rows : List LockRow) (rest : List ℕ) → AllByRecursion IsRow rows → rows_at (length rows) (flat_map row_bytes rows ++ rest) ≡ Some (rows, rest)
+unfolding rows_at
+rows-again [] rest is = refl
+rows-again (row ∷ rows) rest is =
+    let regrouped : flat_map row_bytes (row ∷ rows) ++ rest ≡ row_bytes row ++ (flat_map row_bytes rows ++ rest) = ap (λ (x : List ℕ). x ++ rest) (flat_map-cons row_bytes row rows) ∙ append_assoc (row_bytes row) (flat_map row_bytes rows) rest in
+    ap (rows_at (suc (length rows))) regrouped ∙ rw (field-row.again row (flat_map row_bytes rows ++ rest) is.0) (rw (rows-again rows rest is.1) refl)
+
+pub rows-take : (n : ℕ) (bytes : List ℕ) (x : List LockRow × List ℕ) → IsBytes bytes → rows_at n bytes ≡ Some x → (bytes ≡ flat_map row_bytes x.0 ++ x.1) × (length x.0 ≡ n) × AllByRecursion IsRow x.0
+unfolding rows_at
+rows-take zero bytes x small e =
+    let made : List LockRow × List ℕ = ([], bytes) in
+    subst (λ (y : List LockRow × List ℕ). (bytes ≡ flat_map row_bytes y.0 ++ y.1) × (length y.0 ≡ 0) × AllByRecursion IsRow y.0) (some_is made x e) (refl, refl, tt)
+rows-take (suc n) bytes x small e =
+    let a = bind_some (row_at bytes) (λ row. rows_at n row.1 >>= λ others. Some (row.0 ∷ others.0, others.1)) x e in
+    let b = bind_some (rows_at n a.0.1) (λ others. Some (a.0.0 ∷ others.0, others.1)) x a.2 in
+    let first = field-row.takes bytes a.0 small a.1 in
+    let rest-small = IsBytes-rest (row_bytes a.0.0) a.0.1 (subst IsBytes first.0 small) in
+    let second = rows-take n a.0.1 b.0 rest-small b.1 in
+    let made : List LockRow × List ℕ = (a.0.0 ∷ b.0.0, b.0.1) in
+    let parts : bytes ≡ flat_map row_bytes (a.0.0 ∷ b.0.0) ++ b.0.1 =
+    first.0 ∙ ap (λ (r : List ℕ). row_bytes a.0.0 ++ r) second.0 ∙ sym (append_assoc (row_bytes a.0.0) (flat_map row_bytes b.0.0) b.0.1) ∙ ap (λ (r : List ℕ). r ++ b.0.1) (sym (flat_map-cons row_bytes a.0.0 b.0.0)) in
+    subst (λ (y : List LockRow × List ℕ). (bytes ≡ flat_map row_bytes y.0 ++ y.1) × (length y.0 ≡ suc n) × AllByRecursion IsRow y.0) (some_is made x b.2) (parts, ap suc second.1, (first.1, second.2))

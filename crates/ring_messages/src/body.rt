@@ -1,0 +1,195 @@
+//! What a frame carries.
+ghost use Rattle.std.specs.Prelude.{◌≡◌, IfOk, OnErr};
+ghost use Rattle.ring_messages.specs.Bodies.{kind_of, is_request as asks};
+
+use std::alloc::Global;
+use uid_names::{FrameKind, LockRows, Mode, NoMemory, ObjKind, ProcId, Uid};
+
+/// A request to a home, or a reply of one: the first eight are the requests. Rooms are in pages,
+/// lengths in bytes.
+#[derive(Drop, Debug)]
+pub enum Body {
+    PageIn {
+        uid: Uid,
+        page: u32,
+    },
+    PageOut {
+        uid: Uid,
+        page: u32,
+        grant: u64,
+        base: u64,
+        bytes: [u8; 1024],
+    },
+    AttrOut {
+        uid: Uid,
+        length: u32,
+        grant: u64,
+        base: u64,
+    },
+    Lock {
+        uid: Uid,
+        mode: Mode,
+    },
+    Unlock {
+        uid: Uid,
+    },
+    Remove {
+        uid: Uid,
+    },
+    Make {
+        kind: ObjKind,
+        room: u32,
+    },
+    /// The rows behind `after`, or all.
+    List {
+        after: Option<(Uid, ProcId)>,
+    },
+    Page {
+        stamp: u64,
+        bytes: [u8; 1024],
+    },
+    Stored {
+        stamp: u64,
+    },
+    Stale {
+        stamp: u64,
+    },
+    NoGrant,
+    NoObject,
+    Granted {
+        grant: u64,
+        stamp: u64,
+        kind: ObjKind,
+        room: u32,
+        length: u32,
+    },
+    Conflict {
+        proc: ProcId,
+        mode: Mode,
+    },
+    Done,
+    Made {
+        uid: Uid,
+    },
+    NoSpace,
+    Listed {
+        rows: LockRows,
+        more: bool,
+    },
+}
+
+impl Body {
+    /// Its kind.
+    pub fn kind(&self) -> FrameKind
+        ensures { result ≡ kind_of self.now }
+    {
+        match self {
+            Body::PageIn { .. } => FrameKind::PageIn,
+            Body::PageOut { .. } => FrameKind::PageOut,
+            Body::AttrOut { .. } => FrameKind::AttrOut,
+            Body::Lock { .. } => FrameKind::Lock,
+            Body::Unlock { .. } => FrameKind::Unlock,
+            Body::Remove { .. } => FrameKind::Remove,
+            Body::Make { .. } => FrameKind::Make,
+            Body::List { .. } => FrameKind::List,
+            Body::Page { .. } => FrameKind::Page,
+            Body::Stored { .. } => FrameKind::Stored,
+            Body::Stale { .. } => FrameKind::Stale,
+            Body::NoGrant => FrameKind::NoGrant,
+            Body::NoObject => FrameKind::NoObject,
+            Body::Granted { .. } => FrameKind::Granted,
+            Body::Conflict { .. } => FrameKind::Conflict,
+            Body::Done => FrameKind::Done,
+            Body::Made { .. } => FrameKind::Made,
+            Body::NoSpace => FrameKind::NoSpace,
+            Body::Listed { .. } => FrameKind::Listed,
+        }
+    }
+
+    /// Whether it is a request to a home; a reply of a home else.
+    pub fn is_request(&self) -> bool
+        ensures { result ≡ asks self.now }
+    {
+        self.kind().is_request()
+    }
+
+    /// A copy. Only that of a list of locks takes memory.
+    pub fn copy(&self, alloc: Global) -> Result<Body, NoMemory>
+        ensures copy { IfOk result (λ copy. copy ≡ self.now) }
+        ensures memory { OnErr result (kind_of self.now ≡ FrameKind.Listed) }
+    {
+        Ok(match self {
+            Body::PageIn { uid, page } => Body::PageIn {
+                uid: *uid,
+                page: *page,
+            },
+            Body::PageOut {
+                uid,
+                page,
+                grant,
+                base,
+                bytes,
+            } => Body::PageOut {
+                uid: *uid,
+                page: *page,
+                grant: *grant,
+                base: *base,
+                bytes: *bytes,
+            },
+            Body::AttrOut {
+                uid,
+                length,
+                grant,
+                base,
+            } => Body::AttrOut {
+                uid: *uid,
+                length: *length,
+                grant: *grant,
+                base: *base,
+            },
+            Body::Lock { uid, mode } => Body::Lock {
+                uid: *uid,
+                mode: *mode,
+            },
+            Body::Unlock { uid } => Body::Unlock { uid: *uid },
+            Body::Remove { uid } => Body::Remove { uid: *uid },
+            Body::Make { kind, room } => Body::Make {
+                kind: *kind,
+                room: *room,
+            },
+            Body::List { after } => Body::List { after: *after },
+            Body::Page { stamp, bytes } => Body::Page {
+                stamp: *stamp,
+                bytes: *bytes,
+            },
+            Body::Stored { stamp } => Body::Stored { stamp: *stamp },
+            Body::Stale { stamp } => Body::Stale { stamp: *stamp },
+            Body::NoGrant => Body::NoGrant,
+            Body::NoObject => Body::NoObject,
+            Body::Granted {
+                grant,
+                stamp,
+                kind,
+                room,
+                length,
+            } => Body::Granted {
+                grant: *grant,
+                stamp: *stamp,
+                kind: *kind,
+                room: *room,
+                length: *length,
+            },
+            Body::Conflict { proc, mode } => Body::Conflict {
+                proc: *proc,
+                mode: *mode,
+            },
+            Body::Done => Body::Done,
+            Body::Made { uid } => Body::Made { uid: *uid },
+            Body::NoSpace => Body::NoSpace,
+            Body::Listed { rows, more } => Body::Listed {
+                rows: rows.copy(alloc)?,
+                more: *more,
+            },
+        })
+    }
+}

@@ -1,0 +1,15 @@
+//! The frames that nodes send each other, as values and as bytes.
+#![tactic(auto)]
+
+pub mod body;
+pub mod frame;
+pub mod laws;
+mod reading;
+#[cfg(test)]
+mod tests;
+mod writing;
+
+pub use body::Body;
+pub use frame::{Frame, FrameFault, Head};
+pub use reading::{head, read};
+pub use writing::write;

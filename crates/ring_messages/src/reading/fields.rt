@@ -1,0 +1,180 @@
+//! Fields of a frame. One that is read from the front of bytes answers its value and the bytes
+//! behind it.
+ghost use Rattle.std.specs.Prelude.{◌≡◌, ◌≤◌};
+ghost use Rattle.ring_messages.specs.Reading.{Gives, end_at, byte_at, be32_at, be64_at, bytes_at, page_at, length_at, room_at, count_at, uid_of, own_of, proc_of, mode_of, object_of, flag_of};
+
+use crate::frame::FrameFault;
+use byteorder::{BigEndian, ByteOrder};
+use uid_names::{MAX_ROOM, Mode, NodeId, ObjKind, ProcId, Uid};
+
+/// Nothing is left.
+#[tactic(auto, unfolding(crate::specs::Reading::end_at))]
+pub(super) fn end(bytes: &[u8]) -> Result<(), FrameFault>
+    ensures { Gives (λ x. x) result (end_at bytes.now) }
+{
+    if bytes.is_empty() {
+        Ok(())
+    } else {
+        Err(FrameFault::BadFrame)
+    }
+}
+
+#[tactic(auto, unfolding(crate::specs::Reading::byte_at))]
+pub(super) fn byte(bytes: &[u8]) -> Result<(u8, &[u8]), FrameFault>
+    ensures { Gives (λ x. (x.0, x.1.now)) result (byte_at bytes.now) }
+{
+    match bytes {
+        [] => Err(FrameFault::BadFrame),
+        [byte, rest @ ..] => Ok((*byte, rest)),
+    }
+}
+
+#[tactic(auto, unfolding(crate::specs::Reading::be32_at))]
+fn number32(bytes: &[u8]) -> Result<(u32, &[u8]), FrameFault>
+    ensures { Gives (λ x. (x.0, x.1.now)) result (be32_at bytes.now) }
+{
+    if bytes.len() < 4 {
+        return Err(FrameFault::BadFrame);
+    }
+    Ok((BigEndian::read_u32(bytes), &bytes[4..]))
+}
+
+#[tactic(auto, unfolding(crate::specs::Reading::be64_at))]
+pub(super) fn number64(bytes: &[u8]) -> Result<(u64, &[u8]), FrameFault>
+    ensures { Gives (λ x. (x.0, x.1.now)) result (be64_at bytes.now) }
+{
+    if bytes.len() < 8 {
+        return Err(FrameFault::BadFrame);
+    }
+    Ok((BigEndian::read_u64(bytes), &bytes[8..]))
+}
+
+/// The bytes of a page.
+#[tactic(auto, unfolding(crate::specs::Reading::bytes_at))]
+pub(super) fn page_bytes(bytes: &[u8]) -> Result<([u8; 1024], &[u8]), FrameFault>
+    ensures { Gives (λ x. (x.0, x.1.now)) result (bytes_at bytes.now) }
+{
+    if bytes.len() < 1024 {
+        return Err(FrameFault::BadFrame);
+    }
+    let (front, rest) = bytes.split_at(1024);
+    let mut page = [0; 1024];
+    page.copy_from_slice(front);
+    Ok((page, rest))
+}
+
+/// The number of a page in its object.
+#[tactic(auto, unfolding(crate::specs::Reading::page_at))]
+pub(super) fn page(bytes: &[u8]) -> Result<(u32, &[u8]), FrameFault>
+    ensures { Gives (λ x. (x.0, x.1.now)) result (page_at bytes.now) }
+{
+    let (page, rest) = number32(bytes)?;
+    if page < 1024 {
+        Ok((page, rest))
+    } else {
+        Err(FrameFault::BadFrame)
+    }
+}
+
+/// A length in bytes.
+#[tactic(auto, unfolding(crate::specs::Reading::length_at))]
+pub(super) fn length(bytes: &[u8]) -> Result<(u32, &[u8]), FrameFault>
+    ensures { Gives (λ x. (x.0, x.1.now)) result (length_at bytes.now) }
+{
+    let (length, rest) = number32(bytes)?;
+    if length <= 1_048_576 {
+        Ok((length, rest))
+    } else {
+        Err(FrameFault::BadFrame)
+    }
+}
+
+/// A room in pages.
+#[tactic(auto, unfolding(crate::specs::Reading::room_at))]
+pub(super) fn room(bytes: &[u8]) -> Result<(u32, &[u8]), FrameFault>
+    ensures { Gives (λ x. (x.0, x.1.now)) result (room_at bytes.now) }
+{
+    let (room, rest) = number32(bytes)?;
+    if 1 <= room && room <= MAX_ROOM {
+        Ok((room, rest))
+    } else {
+        Err(FrameFault::BadFrame)
+    }
+}
+
+/// A grant, a base or a stamp, from 1.
+#[tactic(auto, unfolding(crate::specs::Reading::count_at))]
+pub(super) fn count(bytes: &[u8]) -> Result<(u64, &[u8]), FrameFault>
+    ensures { Gives (λ x. (x.0, x.1.now)) result (count_at bytes.now) }
+{
+    let (count, rest) = number64(bytes)?;
+    if 1 <= count {
+        Ok((count, rest))
+    } else {
+        Err(FrameFault::BadFrame)
+    }
+}
+
+/// The object of this number.
+#[tactic(auto, unfolding(crate::specs::Reading::uid_of))]
+pub(super) fn uid(number: u64) -> Result<Uid, FrameFault>
+    ensures { Gives (λ u. u) result (uid_of number) }
+{
+    match Uid::from_number(number) {
+        Ok(uid) => {
+            let _number = uid.number();
+            Ok(uid)
+        }
+        Err(_) => Err(FrameFault::BadFrame),
+    }
+}
+
+/// The object of this number, of this home.
+#[tactic(auto, unfolding(crate::specs::Reading::own_of))]
+pub(super) fn own(home: NodeId, number: u64) -> Result<Uid, FrameFault>
+    ensures { Gives (λ u. u) result (own_of home number) }
+{
+    let uid = uid(number)?;
+    if uid.home().number() == home.number() {
+        Ok(uid)
+    } else {
+        Err(FrameFault::BadFrame)
+    }
+}
+
+#[tactic(auto, unfolding(crate::specs::Reading::proc_of))]
+pub(super) fn proc(node: u8, number: u8) -> Result<ProcId, FrameFault>
+    ensures { Gives (λ p. p) result (proc_of node number) }
+{
+    let node = NodeId::new(node).ok_or(FrameFault::BadFrame)?;
+    ProcId::new(node, number).ok_or(FrameFault::BadFrame)
+}
+
+pub(super) fn mode(code: u8) -> Result<Mode, FrameFault>
+    ensures { Gives (λ m. m) result (mode_of code) }
+{
+    match Mode::from_code(code) {
+        Some(mode) => Ok(mode),
+        None => Err(FrameFault::BadFrame),
+    }
+}
+
+pub(super) fn object(code: u8) -> Result<ObjKind, FrameFault>
+    ensures { Gives (λ k. k) result (object_of code) }
+{
+    match ObjKind::from_code(code) {
+        Some(kind) => Ok(kind),
+        None => Err(FrameFault::BadFrame),
+    }
+}
+
+#[tactic(auto, unfolding(crate::specs::Reading::flag_of))]
+pub(super) fn flag(code: u8) -> Result<bool, FrameFault>
+    ensures { Gives (λ b. b) result (flag_of code) }
+{
+    match code {
+        0 => Ok(false),
+        1 => Ok(true),
+        _ => Err(FrameFault::BadFrame),
+    }
+}

@@ -1,0 +1,235 @@
+//! Writing frames.
+ghost use Rattle.std.specs.Prelude.{◌≡◌, ◌+◌, ◌++◌, List, [], ◌∷◌, length, All, IsTrue, IsFalse, IfOk, OnOk};
+ghost use Rattle.std.specs.List.{flat_map};
+ghost use Rattle.uid_names.specs.Names.{IsName};
+ghost use Rattle.ring_messages.specs.Bodies.{is_request};
+ghost use Rattle.ring_messages.specs.Frames.{IsInRange};
+ghost use Rattle.ring_messages.specs.Ranges.{IsBody};
+ghost use Rattle.ring_messages.specs.Spelling.{be32, be64, uid_bytes, proc_bytes, row_bytes, after_bytes, body_bytes, header, head_of, spelling};
+ghost use Rattle.ring_messages.specs.Spelled.{IsProc, IsRow, IsPageBytes, IsAfter, IsTypedBody, IsHead, Spells};
+ghost use Rattle.ring_messages.specs.Sizes.{body_size};
+
+use crate::body::Body;
+use crate::frame::Frame;
+use byteorder::{BigEndian, ByteOrder};
+use std::alloc::Global;
+use uid_names::{ByteList, LockRow, Mode, NoMemory, ProcId, Uid};
+
+#[tactic(auto, unfolding(crate::specs::Spelling::be32))]
+fn put_u32(out: &mut ByteList, n: u32) -> Result<(), NoMemory>
+    ensures { OnOk result (out.new ≡ out.old ++ be32 n) }
+{
+    let mut bytes = [0; 4];
+    BigEndian::write_u32(&mut bytes, n);
+    out.extend(&bytes)
+}
+
+#[tactic(auto, unfolding(crate::specs::Spelling::be64))]
+fn put_u64(out: &mut ByteList, n: u64) -> Result<(), NoMemory>
+    ensures { OnOk result (out.new ≡ out.old ++ be64 n) }
+{
+    let mut bytes = [0; 8];
+    BigEndian::write_u64(&mut bytes, n);
+    out.extend(&bytes)
+}
+
+fn put_uid(out: &mut ByteList, uid: Uid) -> Result<(), NoMemory>
+    ensures text { OnOk result (out.new ≡ out.old ++ uid_bytes uid) }
+    ensures name { OnOk result (IsName uid) }
+{
+    put_u64(out, uid.number())
+}
+
+fn put_proc(out: &mut ByteList, proc: ProcId) -> Result<(), NoMemory>
+    ensures text { OnOk result (out.new ≡ out.old ++ proc_bytes proc) }
+    ensures is_proc { OnOk result (IsProc proc) }
+{
+    out.extend(&[proc.node().number(), proc.number()])
+}
+
+fn put_row(out: &mut ByteList, row: &LockRow) -> Result<(), NoMemory>
+    ensures text { OnOk result (out.new ≡ out.old ++ row_bytes row.now) }
+    ensures is_row { OnOk result (IsRow row.now) }
+{
+    put_uid(out, row.uid)?;
+    put_proc(out, row.proc)?;
+    out.push(row.mode.code())
+}
+
+fn put_rows(out: &mut ByteList, rows: &[LockRow]) -> Result<(), NoMemory>
+    ensures text { OnOk result (out.new ≡ out.old ++ flat_map row_bytes rows.now) }
+    ensures are_rows { OnOk result (All IsRow rows.now) }
+{
+    for row in rows {
+        put_row(out, row)?;
+    }
+    Ok(())
+}
+
+fn put_page(out: &mut ByteList, bytes: &[u8; 1024]) -> Result<(), NoMemory>
+    ensures text { OnOk result (out.new ≡ out.old ++ bytes.now) }
+    ensures is_page { OnOk result (IsPageBytes bytes.now) }
+{
+    out.extend(bytes)
+}
+
+fn put_after(out: &mut ByteList, after: Option<(Uid, ProcId)>) -> Result<(), NoMemory>
+    ensures text { OnOk result (out.new ≡ out.old ++ after_bytes after) }
+    ensures is_after { OnOk result (IsAfter after) }
+{
+    match after {
+        None => out.extend(&[0; 11]),
+        Some((uid, proc)) => {
+            out.push(1)?;
+            put_uid(out, uid)?;
+            put_proc(out, proc)
+        }
+    }
+}
+
+/// The bytes behind the header of a request.
+fn put_request(out: &mut ByteList, body: &Body) -> Result<(), NoMemory>
+    requires { IsTrue (is_request body.now) }
+    ensures text { OnOk result (out.new ≡ out.old ++ body_bytes body.now) }
+    ensures typed { OnOk result (IsTypedBody body.now) }
+{
+    match body {
+        Body::PageIn { uid, page } => {
+            put_uid(out, *uid)?;
+            put_u32(out, *page)
+        }
+        Body::PageOut {
+            uid,
+            page,
+            grant,
+            base,
+            bytes,
+        } => {
+            put_uid(out, *uid)?;
+            put_u32(out, *page)?;
+            put_u64(out, *grant)?;
+            put_u64(out, *base)?;
+            put_page(out, bytes)
+        }
+        Body::AttrOut {
+            uid,
+            length,
+            grant,
+            base,
+        } => {
+            put_uid(out, *uid)?;
+            put_u32(out, *length)?;
+            put_u64(out, *grant)?;
+            put_u64(out, *base)
+        }
+        Body::Lock { uid, mode } => {
+            put_uid(out, *uid)?;
+            out.push(mode.code())
+        }
+        Body::Unlock { uid } | Body::Remove { uid } => put_uid(out, *uid),
+        Body::Make { kind, room } => {
+            out.push(kind.code())?;
+            put_u32(out, *room)
+        }
+        Body::List { after } => put_after(out, *after),
+        _ => unreachable!(),
+    }
+}
+
+/// The bytes behind the header of a reply.
+fn put_reply(out: &mut ByteList, body: &Body) -> Result<(), NoMemory>
+    requires few { IsBody 0 body.now }
+    requires reply { IsFalse (is_request body.now) }
+    ensures text { OnOk result (out.new ≡ out.old ++ body_bytes body.now) }
+    ensures typed { OnOk result (IsTypedBody body.now) }
+{
+    match body {
+        Body::Page { stamp, bytes } => {
+            put_u64(out, *stamp)?;
+            put_page(out, bytes)
+        }
+        Body::Stored { stamp } | Body::Stale { stamp } => put_u64(out, *stamp),
+        Body::Granted {
+            grant,
+            stamp,
+            kind,
+            room,
+            length,
+        } => {
+            put_u64(out, *grant)?;
+            put_u64(out, *stamp)?;
+            out.push(kind.code())?;
+            put_u32(out, *room)?;
+            put_u32(out, *length)
+        }
+        Body::Conflict { proc, mode } => {
+            put_proc(out, *proc)?;
+            out.push(mode.code())
+        }
+        Body::Made { uid } => put_uid(out, *uid),
+        Body::Listed { rows, more } => {
+            let rows = rows.items();
+            out.extend(&[rows.len() as u8, u8::from(*more)])?;
+            put_rows(out, rows)
+        }
+        Body::NoGrant | Body::NoObject | Body::Done | Body::NoSpace => Ok(()),
+        _ => unreachable!(),
+    }
+}
+
+fn put_body(out: &mut ByteList, frame: &Frame) -> Result<(), NoMemory>
+    ensures text { OnOk result (out.new ≡ out.old ++ body_bytes frame.now.body) }
+    ensures typed { OnOk result (IsTypedBody frame.now.body) }
+{
+    let body = frame.body();
+    if body.is_request() {
+        put_request(out, body)
+    } else {
+        put_reply(out, body)
+    }
+}
+
+/// Version, kind, the two nodes, the process, three zeros, the number of the call, the tick.
+fn put_header(out: &mut ByteList, frame: &Frame) -> Result<(), NoMemory>
+    ensures text { OnOk result (out.new ≡ out.old ++ header (head_of frame.now)) }
+    ensures head { OnOk result (IsHead (head_of frame.now)) }
+    ensures ranges { OnOk result (IsInRange frame.now) }
+{
+    let kind = frame.body().kind().number();
+    let (from, to) = (frame.from().number(), frame.to().number());
+    out.extend(&[1, kind, from, to, frame.proc(), 0, 0, 0])?;
+    put_u64(out, frame.number())?;
+    put_u64(out, frame.tick())
+}
+
+/// How many bytes it has.
+fn size_of(frame: &Frame) -> usize
+    ensures { result ≡ 24 + body_size frame.now.body }
+{
+    let behind = match frame.body() {
+        Body::PageIn { .. } => 12,
+        Body::PageOut { .. } => 1052,
+        Body::AttrOut { .. } => 28,
+        Body::Lock { .. } => 9,
+        Body::Unlock { .. } | Body::Remove { .. } | Body::Made { .. } => 8,
+        Body::Make { .. } => 5,
+        Body::List { .. } => 11,
+        Body::Page { .. } => 1032,
+        Body::Stored { .. } | Body::Stale { .. } => 8,
+        Body::NoGrant | Body::NoObject | Body::Done | Body::NoSpace => 0,
+        Body::Granted { .. } => 25,
+        Body::Conflict { .. } => 3,
+        Body::Listed { rows, .. } => 2 + 11 * rows.items().len(),
+    };
+    24 + behind
+}
+
+/// The bytes that spell a frame.
+pub fn write(alloc: Global, frame: &Frame) -> Result<ByteList, NoMemory>
+    ensures spelled { IfOk result (Spells frame.now) }
+{
+    let mut out = ByteList::with_capacity(alloc, size_of(frame))?;
+    put_header(&mut out, frame)?;
+    put_body(&mut out, frame)?;
+    Ok(out)
+}
