@@ -1,0 +1,9 @@
+pub mod Listing
+pub mod Refusals
+pub mod Stamps
+pub mod Bounds
+pub mod Unchanged
+pub mod Rising
+pub mod Given
+pub mod Again
+pub mod Begun

@@ -1,0 +1,5 @@
+pub mod Answers
+pub mod Decisions
+pub mod Serving
+pub mod ServerStates
+pub mod Outcomes

@@ -1,0 +1,56 @@
+-- What contracts see of a page server, and what each keeps.
+use Rattle.std.specs.Prelude.{ℕ, ◌+◌, ◌≤◌, List, [], ◌∷◌, refl}
+use Rattle.std.specs.Coded.{Coded, code_by, coded×, coded_list, coded_ℕ}
+use Rattle.uid_names.specs.Names.{ProcName}
+use Rattle.uid_names.specs.contracts.ids.ProcId as proc_id
+use Rattle.object_store.specs.declared.attributes.ObjectRow.{ObjectRow}
+use Rattle.uid_names.specs.declared.opening.TheConstants.{VOLUME_ROOM}
+use Rattle.object_store.specs.HomeStates.{HomeState, home_code}
+use Rattle.lock_manager.specs.declared.grants.Grant.{Grant}
+use Rattle.lock_manager.specs.contracts.grants.Grant as granted
+use Rattle.lock_manager.specs.Tables.{Table, IsTable}
+use Rattle.call_once.specs.Calls.{Call}
+use Rattle.ring_messages.specs.Bodies.{Answer}
+use Rattle.page_server.specs.Answers.{answer_code}
+use Rattle.page_server.specs.Serving.{HomeSide, first_side}
+
+-- a page server: the home side of its node, and the tick of the last event at which it served
+pub record ServerState : Type 0 where
+  pub side : HomeSide
+  pub tick : ℕ
+
+-- how it is stored
+abbrev table_code : Coded Table
+table_code = code_by (List Grant × ℕ) (coded× (coded_list granted.the_row.coded) coded_ℕ) (λ t. (t.grants, t.last)) (λ p. record { grants = p.0; last = p.1 }) (λ _. refl)
+
+abbrev call_code : Coded (Call Answer)
+call_code =
+    code_by (ProcName × (ℕ × Answer)) (coded× proc_id.the_row.coded (coded× coded_ℕ answer_code))
+    (λ call. (call.proc, (call.number, call.body))) (λ p. record { proc = p.0; number = p.1.0; body = p.1.1 }) (λ _. refl)
+
+abbrev pub server_code : Coded ServerState
+server_code =
+    code_by (HomeState × (Table × (List (Call Answer) × ℕ))) (coded× home_code (coded× table_code (coded× (coded_list call_code) coded_ℕ)))
+    (λ s. (s.side.home, (s.side.locks, (s.side.served, s.tick))))
+    (λ p. record { side = record { home = p.0; locks = p.1.0; served = p.1.1.0 }; tick = p.1.1.1 }) (λ _. refl)
+
+-- no stamp is above this one
+abbrev pub AreStampedTo : ℕ → List ObjectRow → Type 0
+AreStampedTo high [] = Unit {0}
+AreStampedTo high (row ∷ rest) = (row.attr.stamp ≤ high) × AreStampedTo high rest
+
+-- what a home is like that no request has reached
+pub record IsBegun (home : HomeState) : Type 0 where
+  pub counters : home.greatest ≤ VOLUME_ROOM
+  pub stamps : AreStampedTo 1 home.objects
+
+-- a page server at the start
+abbrev pub first_server : HomeState → ServerState
+first_server home = record { side = first_side home; tick = 0 }
+
+-- what each page server keeps: at each tick at most one number was given, of grants, of counters and of each stamp
+pub record IsServer (server : ServerState) : Type 0 where
+  pub table : IsTable server.side.locks
+  pub grants : server.side.locks.last ≤ server.tick
+  pub counters : server.side.home.greatest ≤ VOLUME_ROOM + server.tick
+  pub stamps : AreStampedTo (1 + server.tick) server.side.home.objects
