@@ -1,16 +1,11 @@
 -- From what a script declares a store can begin.
-use Rattle.std.proofs.Common.{◌≡◌, ◌≢◌, ◌≤◌, ◌<◌, ◌+◌, ℕ, zero, suc, Bool, true, false, List, [], ◌∷◌, ◌++◌, length, get_or, min, take, All, AllPairs, refl, ap, sym, subst, ◌∙◌, append-nil, arith, rules}
-use Rattle.std.specs.Prelude.{◌==◌, not, filter, if◌then◌else◌, sum_by}
-use Rattle.std.proofs.lemmas.Bool.{ne_eqb, eqb-true}
+use Rattle.std.proofs.Common.{◌≡◌, ◌<◌, ℕ, List, length, get_or, min, take, ap, ◌∙◌, arith}
 use Rattle.std.proofs.lemmas.List.{get_or-take, get_or_default, length-take}
-use Rattle.std.proofs.lemmas.List.Elements.{filter-append}
-use Rattle.std.proofs.lemmas.List.Sums.{sum_by-append}
 use Rattle.uid_names.specs.Names.{same_uid}
-use Rattle.uid_names.specs.Openings.{IsUnnamed, Start}
+use Rattle.uid_names.specs.Openings.{IsUnnamed}
 use Rattle.uid_names.specs.declared.opening.Object.{Object}
 use Rattle.uid_names.specs.declared.mode.TheConstants.{MAX_ROOM}
 use Rattle.uid_names.specs.Beginnings.{CanBegin}
-use Rattle.script_reader.specs.Judging.{pages_at}
 use Rattle.script_reader.specs.Starts.{AreStarts}
 
 pub can_begin : (nodes : ℕ) (starts : List Object) → AreStarts nodes starts → CanBegin (record { nodes = nodes; greatest = MAX_ROOM; objects = starts })

@@ -1,14 +1,14 @@
 -- Tests of words, and the facts that they decide.
-use Rattle.std.proofs.Common.{◌≡◌, ◌≢◌, ◌≤◌, ◌<◌, ◌↔◌, ℕ, Bool, true, false, IsTrue, All, List, [], ◌∷◌, ◌++◌, length, Option, Some, None, refl, ap, sym, ◌∙◌, arith, rules}
-use Rattle.std.specs.Prelude.{◌&&◌, ◌==◌, nat_le, if◌then◌else◌, find}
+use Rattle.std.proofs.Common.{◌≡◌, ◌≢◌, ◌↔◌, ℕ, Bool, true, false, IsTrue, All, List, [], ◌∷◌, ◌++◌, Some, None, refl, ap, sym}
+use Rattle.std.specs.Prelude.{◌&&◌, if◌then◌else◌}
 use Rattle.std.specs.List.{list_all}
-use Rattle.std.proofs.lemmas.Bool.{false≢true, eq-eqb, ne_eqb}
+use Rattle.std.proofs.lemmas.Bool.{ne_eqb}
 use Rattle.std.proofs.lemmas.Slice.Eq.{bytes_eq-Decides}
 use Rattle.std.proofs.lemmas.List.Elements.{All-head, All-tail}
 use Rattle.std.proofs.lemmas.List.Sums.{AllPass-from_list_all, list_all-from_AllPass}
 use Rattle.script_reader.specs.Cuts.{Lacks, IsCutAt}
 use Rattle.script_reader.specs.Scripts.{same_text}
-use Rattle.script_reader.specs.Words.{ProcessWord, after_dot, before_dot, is_name, are_digits, is_process_word, process_parts, process_word}
+use Rattle.script_reader.specs.Words.{after_dot, before_dot, is_name, are_digits, is_process_word, process_parts, process_word}
 
 -- a test that decides that all bytes pass is the test of all bytes
 pub passes_all : (p : ℕ → Bool) (xs : List ℕ) (r : Bool) → (IsTrue r ↔ All (λ b. IsTrue (p b)) xs) → r ≡ list_all p xs

@@ -1,7 +1,6 @@
 -- A draft's fields after each kind of line: what they hold, and the content that they come to.
-use Rattle.std.proofs.Common.{◌≡◌, ◌≢◌, ◌≤◌, ◌<◌, ◌+◌, ◌-◌, ℕ, Bool, true, false, List, [], ◌∷◌, ◌++◌, length, length-append, get_or, set, refl, ap, sym, subst, ◌∙◌, arith, rules}
+use Rattle.std.proofs.Common.{◌≡◌, ◌≤◌, ◌<◌, ◌+◌, ◌-◌, ℕ, true, false, List, [], ◌∷◌, ◌++◌, length, length-append, get_or, set, ap, sym, subst, ◌∙◌, arith}
 use Rattle.std.specs.Global.{Vec}
-use Rattle.std.specs.Prelude.{OnOk}
 use Rattle.uid_names.specs.Names.{ObjectName, ProcName}
 use Rattle.uid_names.specs.declared.mode.TheConstants.{MAX_ROOM}
 use Rattle.uid_names.specs.declared.mode.ObjKind.TheVariants.{File}
@@ -9,12 +8,13 @@ use Rattle.uid_names.specs.declared.opening.Object.{Object}
 use Rattle.uid_names.specs.Beginnings.{at_home}
 use Rattle.dom_history.specs.Plans.{IsPlan}
 use Rattle.dom_history.specs.declared.plan.FateRow.{FateRow}
-use Rattle.script_reader.specs.Drafts.{content_of, HoldsDraft, HoldsTallies}
-use Rattle.script_reader.specs.Starts.{AreStarts}
-use Rattle.script_reader.specs.Named.{HoldsNamed, IsProc}
-use Rattle.script_reader.specs.Index.{HasAlso, slot_of}
-use Rattle.script_reader.specs.Judging.{declared_at, is_node_name, next_uid, pages_at, with_command, with_declared, with_fate, with_node, with_nodes}
-use Rattle.script_reader.specs.Scripts.{Content, IsCommand, IsDraft, IsFateRow, IsSpoken, is_declared}
+use Rattle.script_reader.specs.Drafts.{content_of, HoldsDraft}
+use Rattle.script_reader.specs.Named.{HoldsNamed}
+use Rattle.script_reader.specs.Index.{HasAlso}
+use Rattle.script_reader.specs.NodeNames.{is_node_name}
+use Rattle.script_reader.specs.Limits.{pages_at}
+use Rattle.script_reader.specs.After.{declared_at, next_uid, with_node, with_nodes}
+use Rattle.script_reader.specs.Scripts.{IsCommand, IsDraft, IsFateRow, IsSpoken, is_declared}
 use Rattle.script_reader.specs.Words.{is_name}
 use Rattle.script_reader.specs.declared.command.Command.{Command}
 use Rattle.script_reader.specs.declared.draft.Draft.TheInside.{Inside}

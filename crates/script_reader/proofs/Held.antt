@@ -1,8 +1,7 @@
 -- What a draft holds beside its content, after one more object or command.
-use Rattle.std.proofs.Common.{◌≡◌, ◌≢◌, ◌≤◌, ◌<◌, ◌+◌, ◌-◌, ◌*◌, ◌↔◌, ◌⊎◌, inl, inr, ⊎_elim, ℕ, zero, suc, Bool, true, false, IsTrue, All, AllPairs, Contains, List, [], ◌∷◌, ◌++◌, length, get_or, set, map, refl, ap, sym, subst, ◌∙◌, append-nil, append_assoc, length-append, arith, rules}
-use Rattle.std.specs.Prelude.{◌&&◌, ◌||◌, ◌==◌, nat_le, nat_lt, not, if◌then◌else◌, sum_by}
-use Rattle.std.specs.List.{list_any}
-use Rattle.std.proofs.lemmas.Bool.{false≢true, eqb-true, eqb-false, ne_eqb, eq-eqb}
+use Rattle.std.proofs.Common.{◌≡◌, ◌≢◌, ◌≤◌, ◌<◌, ◌+◌, ◌-◌, ◌↔◌, ◌⊎◌, inl, inr, ⊎_elim, ℕ, zero, suc, Bool, true, false, IsTrue, All, Contains, List, [], ◌∷◌, ◌++◌, length, get_or, set, refl, ap, sym, subst, ◌∙◌, append-nil, length-append, arith}
+use Rattle.std.specs.Prelude.{◌&&◌, ◌||◌, ◌==◌, if◌then◌else◌, sum_by}
+use Rattle.std.proofs.lemmas.Bool.{false≢true, eqb-true, eqb-false, ne_eqb}
 use Rattle.std.proofs.lemmas.Bool.Decides.{nat_tests}
 use Rattle.std.proofs.lemmas.List.{get_or-set_other, length-set}
 use Rattle.std.proofs.lemmas.Grind.{get_or-set_at}
@@ -21,9 +20,9 @@ use Rattle.script_reader.specs.Drafts.{HoldsDeclared, HoldsTallies}
 use Rattle.script_reader.specs.Starts.{AreStarts}
 use Rattle.script_reader.specs.Named.{HoldsNamed, IsProc}
 use Rattle.script_reader.specs.Index.{HasAlso, slot_of}
-use Rattle.script_reader.specs.Judging.{next_uid, pages_at}
+use Rattle.script_reader.specs.Limits.{pages_at}
+use Rattle.script_reader.specs.After.{next_uid}
 use Rattle.script_reader.specs.Scripts.{is_declared, is_named, makes, same_text}
-use Rattle.script_reader.specs.declared.command.Command.{Command}
 use Rattle.script_reader.specs.declared.script.VarRow.{VarRow}
 use Rattle.script_reader.specs.declared.script.CommandRow.{CommandRow}
 use Rattle.script_reader.proofs.Decisions.{same_text-refl, same_text-true}

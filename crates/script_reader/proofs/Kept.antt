@@ -1,25 +1,19 @@
 -- Each kind of line leaves a draft.
-use Rattle.std.proofs.Common.{◌≡◌, ◌≢◌, ◌≤◌, ◌<◌, ◌+◌, ◌-◌, ◌↔◌, ◌⊎◌, inl, inr, ⊎_elim, ℕ, zero, suc, Bool, true, false, IsTrue, All, AllPairs, Contains, List, [], ◌∷◌, ◌++◌, length, get_or, map, Option, Some, None, refl, ap, sym, subst, ◌∙◌, append-nil, append_assoc, length-append, arith, rules}
-use Rattle.std.specs.Prelude.{◌&&◌, ◌||◌, ◌==◌, nat_le, nat_lt, not, is_some, if◌then◌else◌, IfSome, position, sum_by}
+use Rattle.std.proofs.Common.{◌≡◌, ◌≢◌, ◌≤◌, ◌<◌, ◌+◌, ℕ, zero, suc, Bool, true, false, List, [], ◌∷◌, ◌++◌, length, get_or, Some, None, refl, ap, sym, subst, ◌∙◌, append-nil, append_assoc, length-append, arith, rules}
+use Rattle.std.specs.Prelude.{nat_le, nat_lt, is_some, if◌then◌else◌}
 use Rattle.std.specs.List.{list_all, list_any, position_or_len}
-use Rattle.std.proofs.lemmas.Bool.{false≢true, eqb-true, eqb-false, ne_eqb, eq-eqb}
+use Rattle.std.proofs.lemmas.Bool.{false≢true}
 use Rattle.std.proofs.lemmas.List.{map-append}
-use Rattle.std.proofs.lemmas.List.Elements.{All-push, All-weaker, filter-append}
-use Rattle.std.proofs.lemmas.List.Folds.{list_any-append}
+use Rattle.std.proofs.lemmas.List.Elements.{All-push, All-weaker}
 use Rattle.std.proofs.lemmas.List.Quantifiers.{all_pairs_push}
-use Rattle.std.proofs.lemmas.List.Sums.{AllPass-from_list_all, sum_by-append}
-use Rattle.uid_names.specs.Names.{ProcName, ObjectName, same_proc, same_uid}
+use Rattle.std.proofs.lemmas.List.Sums.{AllPass-from_list_all}
+use Rattle.uid_names.specs.Names.{ProcName}
 use Rattle.uid_names.specs.NameTexts.{IsNameText, is_name_byte}
-use Rattle.uid_names.specs.Openings.{IsDeclarable}
-use Rattle.uid_names.specs.declared.opening.Object.{Object}
-use Rattle.uid_names.specs.declared.mode.TheConstants.{MAX_ROOM}
-use Rattle.uid_names.specs.Beginnings.{at_home}
-use Rattle.uid_names.specs.Beginnings.{AreNumbered}
-use Rattle.dom_history.specs.Plans.{IsPlan, is_of_frame, is_set}
-use Rattle.dom_history.specs.declared.plan.Fate.{Fate}
+use Rattle.dom_history.specs.Plans.{IsPlan}
 use Rattle.dom_history.specs.declared.plan.FateRow.{FateRow}
-use Rattle.script_reader.specs.Scripts.{Content, IsDraft, IsNode, IsObject, IsFateRow, IsGivenFate, IsCommandRow, IsCommand, IsHome, IsSpoken, AreSpoken, is_declared, is_named, knows, makes, same_text}
-use Rattle.script_reader.specs.Judging.{after, declared_at, is_node_name, next_uid, pages_at, place_of, with_command, with_declared, with_fate, with_node}
+use Rattle.script_reader.specs.Scripts.{Content, IsDraft, IsNode, IsObject, IsFateRow, IsCommandRow, IsCommand, IsSpoken, AreSpoken, is_declared, same_text}
+use Rattle.script_reader.specs.NodeNames.{is_node_name}
+use Rattle.script_reader.specs.After.{declared_at, with_command, with_declared, with_fate, with_node}
 use Rattle.script_reader.specs.Words.{is_name}
 use Rattle.script_reader.specs.declared.command.Command.{Command}
 use Rattle.script_reader.specs.declared.command.Command.TheVariants.{New, Lock, Unlock, Delete, Load, Store, Length, Map, Unmap, Loadat, Storeat}

@@ -1,13 +1,16 @@
 -- What the tests of a line leave.
-use Rattle.std.proofs.Common.{◌≡◌, ◌≢◌, ◌≤◌, ◌<◌, ◌+◌, ℕ, zero, suc, Bool, true, false, List, [], ◌∷◌, length, get_or, Option, Some, None, refl, ap, sym, subst, ◌∙◌, arith, rules}
-use Rattle.std.specs.Prelude.{◌&&◌, cond, nat_le, nat_lt, not, is_some, unwrap_or, if◌then◌else◌, position}
+use Rattle.std.proofs.Common.{◌≡◌, ◌≢◌, ◌≤◌, ◌+◌, ℕ, suc, Bool, true, false, List, [], ◌∷◌, length, get_or, Option, Some, None, refl, ap, sym, ◌∙◌, arith, rules}
+use Rattle.std.specs.Prelude.{◌&&◌, cond, nat_le, nat_lt, not, is_some, unwrap_or, if◌then◌else◌}
 use Rattle.std.specs.List.{position_or_len}
 use Rattle.std.proofs.lemmas.Bool.{false≢true}
 use Rattle.dom_text.specs.Numbers.{hex8_of, number_of}
-use Rattle.script_reader.specs.Judging.{address_in, command_with, fate_said, has_numbers, home_number, home_of, in_range, is_address, is_count, is_fate, is_name_or_none, is_node_name, is_node_or_none, is_number, is_offset, is_room, is_text, node_number, number_in, place_of, var_of}
+use Rattle.script_reader.specs.Numbers.{address_in, has_numbers, in_range, is_address, is_count, is_fate, is_number, is_offset, is_text, number_in}
+use Rattle.script_reader.specs.NamesAsked.{is_name_or_none, var_of}
+use Rattle.script_reader.specs.NodeNames.{is_node_name, node_number, place_of}
+use Rattle.script_reader.specs.SaidCommands.{command_with}
+use Rattle.script_reader.specs.After.{fate_said}
 use Rattle.script_reader.specs.Sayings.{FateWords, Lose, Twice, Late, Spoken, New, Lock, Unlock, Delete, Load, Store, Length, Map, Unmap, Loadat, Storeat}
 use Rattle.script_reader.specs.Scripts.{IsCommand, IsCount, IsGivenFate, IsHome, same_text}
-use Rattle.script_reader.specs.Words.{is_name}
 use Rattle.script_reader.specs.declared.script.NodeRow.{NodeRow}
 use Rattle.script_reader.proofs.Kept.{name_text}
 use Rattle.script_reader.proofs.Decisions.{same_text-refl, same_text-true}

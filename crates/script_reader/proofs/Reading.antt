@@ -1,14 +1,15 @@
 -- Lines that are read one by one.
-use Rattle.std.proofs.Common.{◌≡◌, ◌≢◌, ◌≤◌, ◌<◌, ◌+◌, ◌-◌, take, drop, ℕ, Bool, true, false, All, List, [], ◌∷◌, ◌++◌, length, Option, Some, None, Result, Ok, Err, MatchOption, refl, ap, sym, subst, ◌∙◌, arith, rules}
-use Rattle.std.specs.Prelude.{◌==◌, ◌||◌, if◌then◌else◌, find, MatchResult, nat_lt}
+use Rattle.std.proofs.Common.{◌≡◌, ◌≢◌, ◌<◌, ◌+◌, ◌-◌, take, drop, ℕ, Bool, true, false, List, [], ◌∷◌, ◌++◌, length, Option, Some, None, Ok, Err, MatchOption, refl, ap, sym, arith}
+use Rattle.std.specs.Prelude.{◌==◌, ◌||◌, if◌then◌else◌, find, nat_lt}
 use Rattle.std.proofs.lemmas.List.{length-take, nil_from_length}
 use Rattle.std.proofs.lemmas.Bool.{false≢true, eqb-true, ne_eqb}
 use Rattle.std.proofs.lemmas.List.Elements.{All-head, All-tail}
 use Rattle.dom_text.specs.declared.token.Token.{Token}
 use Rattle.dom_text.specs.declared.token.Token.TheVariants.{Word as WordToken, Text as TextToken}
-use Rattle.script_reader.specs.Cuts.{Lacks, IsCutAt}
+use Rattle.script_reader.specs.Cuts.{Lacks}
 use Rattle.script_reader.specs.Grammar.{AreGood, IsFirstBad, before_lines, raw_lines, without_cr}
-use Rattle.script_reader.specs.Judging.{IsFormed, has_begun, judged, judged_tokens}
+use Rattle.script_reader.specs.Formed.{IsFormed}
+use Rattle.script_reader.specs.Judging.{has_begun, judged, judged_tokens}
 use Rattle.script_reader.specs.Sayings.{Saying, Node, Object, Fault, Phase, Does}
 use Rattle.script_reader.specs.Scripts.{Content, same_text}
 use Rattle.script_reader.specs.Seen.{BeginsWithNoWord, JoinsTwo, seen, seen_line}

@@ -1,7 +1,7 @@
 -- Bytes have one reading: a script of one content, or one first bad line.
-use Rattle.std.proofs.Common.{◌≡◌, ◌≤◌, ◌<◌, ◌+◌, ◌⊎◌, inl, inr, ℕ, List, [], ◌∷◌, length, Result, Ok, Err, refl, ap, sym, subst, ◌∙◌, arith, rules, Bool, true, false}
+use Rattle.std.proofs.Common.{◌≡◌, ◌≤◌, ◌+◌, ◌⊎◌, inl, inr, ℕ, List, [], ◌∷◌, length, Ok, Err, refl, ap, sym, ◌∙◌, arith, rules, Bool, true, false}
 use Rattle.std.specs.Prelude.{MatchResult, nat_le}
-use Rattle.script_reader.specs.Grammar.{AreGood, HasBadLine, IsBad, IsFirstBad, IsScript, IsTooLong, LacksNodes, nothing, raw_lines, without_cr}
+use Rattle.script_reader.specs.Grammar.{AreGood, IsBad, IsFirstBad, IsScript, nothing, raw_lines, without_cr}
 use Rattle.script_reader.specs.Judging.{judged}
 use Rattle.script_reader.specs.Scripts.{Content}
 use Rattle.script_reader.specs.declared.script.NodeRow.{NodeRow}

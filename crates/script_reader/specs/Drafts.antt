@@ -1,11 +1,11 @@
 -- What a draft holds beside its content, so that no test goes over all rows.
-use Rattle.std.specs.Prelude.{ℕ, ◌≡◌, ◌+◌, ◌-◌, ◌≤◌, ◌↔◌, List, length, slice_index, Contains, IsTrue}
+use Rattle.std.specs.Prelude.{ℕ, ◌≡◌, ◌-◌, ◌≤◌, ◌↔◌, List, length, slice_index, Contains, IsTrue}
 use Rattle.uid_names.specs.declared.mode.TheConstants.{MAX_ROOM}
 use Rattle.uid_names.specs.declared.opening.Object.{Object}
 use Rattle.uid_names.specs.Beginnings.{at_home}
 use Rattle.script_reader.specs.Named.{HoldsNamed}
 use Rattle.script_reader.specs.Starts.{AreStarts}
-use Rattle.script_reader.specs.Judging.{pages_at}
+use Rattle.script_reader.specs.Limits.{pages_at}
 use Rattle.script_reader.specs.Scripts.{Content, IsDraft, is_declared}
 use Rattle.script_reader.specs.declared.script.VarRow.{VarRow}
 use Rattle.script_reader.specs.declared.draft.Draft.TheInside.{Inside}

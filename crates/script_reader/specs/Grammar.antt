@@ -1,5 +1,5 @@
 -- Which bytes are a script, and which line is the first bad one.
-use Rattle.std.specs.Prelude.{ℕ, ◌≡◌, ◌+◌, ◌<◌, ◌≤◌, ◌==◌, Bool, ◌⊎◌, if◌then◌else◌, Option, Result, MatchResult, List, [], ◌∷◌, length}
+use Rattle.std.specs.Prelude.{ℕ, ◌≡◌, ◌+◌, ◌<◌, ◌≤◌, ◌==◌, ◌⊎◌, if◌then◌else◌, MatchResult, List, [], ◌∷◌, length}
 use Rattle.uid_names.specs.declared.mode.TheConstants.{MAX_ROOM}
 use Rattle.script_reader.specs.Scripts.{Content}
 use Rattle.script_reader.specs.Judging.{judged}

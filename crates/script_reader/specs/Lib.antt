@@ -2,6 +2,15 @@ pub mod Scripts
 pub mod Causes
 pub mod Words
 pub mod Sayings
+pub mod Numbers
+pub mod NamesAsked
+pub mod NodeNames
+pub mod UnknownNames
+pub mod Repeats
+pub mod Limits
+pub mod SaidCommands
+pub mod After
+pub mod Formed
 pub mod Judging
 pub mod Grammar
 pub mod Results

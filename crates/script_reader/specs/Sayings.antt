@@ -1,6 +1,6 @@
 -- The forms of lines: how many tokens they have, which are words, texts or fixed words. What the words
 -- spell is not judged here.
-use Rattle.std.specs.Prelude.{ℕ, Bool, if◌then◌else◌, Option, Some, None, List, [], ◌∷◌, codes}
+use Rattle.std.specs.Prelude.{ℕ, if◌then◌else◌, Option, Some, None, List, [], ◌∷◌, codes}
 use Rattle.uid_names.specs.declared.mode.Mode.{Mode}
 use Rattle.uid_names.specs.declared.mode.Mode.TheVariants.{Read, Write}
 use Rattle.dom_text.specs.declared.token.Token.{Token}

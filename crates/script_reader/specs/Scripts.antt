@@ -1,5 +1,5 @@
 -- What a script says, and what each script keeps.
-use Rattle.std.specs.Prelude.{ℕ, ◌≡◌, ◌≢◌, ◌≤◌, ◌==◌, nat_eq, Bool, false, true, ◌&&◌, ◌||◌, Option, List, [], ◌∷◌, ◌++◌, length, map, All, AllPairs, IfSome, IsTrue}
+use Rattle.std.specs.Prelude.{ℕ, ◌≡◌, ◌≢◌, ◌≤◌, nat_eq, Bool, false, ◌&&◌, ◌||◌, Option, List, [], ◌∷◌, ◌++◌, length, map, All, AllPairs, IfSome, IsTrue}
 use Rattle.std.specs.List.{list_any}
 use Rattle.std.specs.Cmp.Lexicographic.{pointwise}
 use Rattle.uid_names.specs.Names.{ProcName, same_proc}

@@ -7,7 +7,7 @@ use Rattle.uid_names.specs.declared.opening.Object.{Object}
 use Rattle.uid_names.specs.declared.opening.TheConstants.{VOLUME_ROOM}
 use Rattle.uid_names.specs.Beginnings.{at_home}
 use Rattle.uid_names.specs.Beginnings.{AreNumbered}
-use Rattle.script_reader.specs.Judging.{pages_at}
+use Rattle.script_reader.specs.Limits.{pages_at}
 
 -- the declared objects: each has a name of its own, and they fit the volumes of the nodes
 pub record AreStarts (nodes : ℕ) (starts : List Object) : Type 0 where

@@ -7,7 +7,17 @@ ghost use Rattle.script_reader.specs.Starts.{AreStarts};
 ghost use Rattle.script_reader.specs.Grammar.{nothing};
 ghost use Rattle.script_reader.specs.Results.{Follows};
 ghost use Rattle.script_reader.specs.Scripts.{Content, IsContent, IsCommand, IsGivenFate, IsHome, IsSpoken, is_declared, knows};
-ghost use Rattle.script_reader.specs.Judging.{after, declared_at, fate_said, has_begun, has_numbers, home_of, home_number, command_with, is_fate, is_node_name, is_node_or_none, is_no_name, is_no_number, is_number, is_past_limit, is_repeated, is_unknown, is_var_known, IsFormed, are_frames, frames_of, judged_saying, node_number, number_in, pages_at, place_of, with_command, with_declared, with_fate, with_node};
+ghost use Rattle.script_reader.specs.Numbers.{has_numbers, is_fate, is_no_number, is_number, are_frames, number_in, is_offset, is_count, is_address, address_in};
+ghost use Rattle.script_reader.specs.declared.command.Command.TheVariants.{Load as LoadCommand, Store as StoreCommand, Loadat as LoadatCommand, Storeat as StoreatCommand};
+ghost use Rattle.script_reader.specs.NamesAsked.{home_of, is_no_name};
+ghost use Rattle.script_reader.specs.NodeNames.{is_node_name, node_number, place_of};
+ghost use Rattle.script_reader.specs.UnknownNames.{is_node_or_none, is_unknown, is_var_known};
+ghost use Rattle.script_reader.specs.Repeats.{is_repeated};
+ghost use Rattle.script_reader.specs.Limits.{is_past_limit, pages_at};
+ghost use Rattle.script_reader.specs.SaidCommands.{home_number, command_with};
+ghost use Rattle.script_reader.specs.After.{after, declared_at, fate_said, frames_of, with_command, with_declared, with_fate, with_node};
+ghost use Rattle.script_reader.specs.Formed.{IsFormed};
+ghost use Rattle.script_reader.specs.Judging.{has_begun, judged_saying};
 ghost use Rattle.script_reader.specs.Seen.{seen, seen_command, seen_fate, seen_option};
 ghost use Rattle.script_reader.specs.Words.{is_name};
 
@@ -544,16 +554,8 @@ fn command_of(
         CommandWords::Delete { var } => Command::Delete {
             var: ByteList::from_slice(alloc, var)?,
         },
-        CommandWords::Load { var, offset, count } => Command::Load {
-            var: ByteList::from_slice(alloc, var)?,
-            offset: number(offset, 0, MAX_OFFSET),
-            count: number(count, 1, MAX_COUNT),
-        },
-        CommandWords::Store { var, offset, text } => Command::Store {
-            var: ByteList::from_slice(alloc, var)?,
-            offset: number(offset, 0, MAX_OFFSET),
-            text: ByteList::from_slice(alloc, text)?,
-        },
+        CommandWords::Load { var, offset, count } => load_of(alloc, var, offset, count)?,
+        CommandWords::Store { var, offset, text } => store_of(alloc, var, offset, text)?,
         CommandWords::Length { var } => Command::Length {
             var: ByteList::from_slice(alloc, var)?,
         },
@@ -563,19 +565,55 @@ fn command_of(
         CommandWords::Unmap { var } => Command::Unmap {
             var: ByteList::from_slice(alloc, var)?,
         },
-        CommandWords::Loadat {
-            address: word,
-            count,
-        } => Command::Loadat {
-            address: address(word),
-            count: number(count, 1, MAX_COUNT),
-        },
-        CommandWords::Storeat {
-            address: word,
-            text,
-        } => Command::Storeat {
-            address: address(word),
-            text: ByteList::from_slice(alloc, text)?,
-        },
+        CommandWords::Loadat { address, count } => loadat_of(address, count),
+        CommandWords::Storeat { address, text } => storeat_of(alloc, address, text)?,
+    })
+}
+
+/// A load of a variable's bytes.
+fn load_of(alloc: Global, var: &[u8], offset: &[u8], count: &[u8]) -> Result<Command, NoMemory>
+    requires offset { is_offset offset.now ≡ true }
+    requires count { is_count count.now ≡ true }
+    ensures { IfOk result (λ command. command ≡ LoadCommand var.now (number_in offset.now) (number_in count.now)) }
+{
+    Ok(Command::Load {
+        var: ByteList::from_slice(alloc, var)?,
+        offset: number(offset, 0, MAX_OFFSET),
+        count: number(count, 1, MAX_COUNT),
+    })
+}
+
+/// A store of a text in a variable's bytes.
+fn store_of(alloc: Global, var: &[u8], offset: &[u8], text: &[u8]) -> Result<Command, NoMemory>
+    requires { is_offset offset.now ≡ true }
+    ensures { IfOk result (λ command. command ≡ StoreCommand var.now (number_in offset.now) text.now) }
+{
+    Ok(Command::Store {
+        var: ByteList::from_slice(alloc, var)?,
+        offset: number(offset, 0, MAX_OFFSET),
+        text: ByteList::from_slice(alloc, text)?,
+    })
+}
+
+/// A load by address.
+fn loadat_of(word: &[u8], count: &[u8]) -> Command
+    requires address { is_address word.now ≡ true }
+    requires count { is_count count.now ≡ true }
+    ensures { result ≡ LoadatCommand (address_in word.now) (number_in count.now) }
+{
+    Command::Loadat {
+        address: address(word),
+        count: number(count, 1, MAX_COUNT),
+    }
+}
+
+/// A store by address.
+fn storeat_of(alloc: Global, word: &[u8], text: &[u8]) -> Result<Command, NoMemory>
+    requires { is_address word.now ≡ true }
+    ensures { IfOk result (λ command. command ≡ StoreatCommand (address_in word.now) text.now) }
+{
+    Ok(Command::Storeat {
+        address: address(word),
+        text: ByteList::from_slice(alloc, text)?,
     })
 }

@@ -1,6 +1,7 @@
 //! The words of a line that has its form, and the tests of them that ask for nothing else.
 ghost use Rattle.std.specs.Prelude.{◌≡◌, ◌&&◌};
-ghost use Rattle.script_reader.specs.Judging.{are_frames as are_frames_in, is_fate as is_fate_word, is_room as is_room_word, is_offset as is_offset_word, is_count as is_count_word, is_text as is_text_word, is_name_or_none, var_of, home_of, has_numbers as has_numbers_in, is_no_number as is_no_number_in, is_no_name as is_no_name_in};
+ghost use Rattle.script_reader.specs.Numbers.{are_frames as are_frames_in, is_fate as is_fate_word, is_room as is_room_word, is_offset as is_offset_word, is_count as is_count_word, is_text as is_text_word, has_numbers as has_numbers_in, is_no_number as is_no_number_in};
+ghost use Rattle.script_reader.specs.NamesAsked.{is_name_or_none, var_of, home_of, is_no_name as is_no_name_in};
 ghost use Rattle.script_reader.specs.Seen.{seen, seen_command, seen_fate, seen_option};
 
 use crate::numbers::{is_address, is_number};

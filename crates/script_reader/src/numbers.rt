@@ -1,6 +1,6 @@
 //! The numbers of a line: their ranges, and what words of these ranges spell. No function takes memory.
 ghost use Rattle.std.specs.Prelude.{◌≡◌, ◌≤◌, true};
-ghost use Rattle.script_reader.specs.Judging.{is_number as is_number_word, number_in, is_address as is_address_word, address_in};
+ghost use Rattle.script_reader.specs.Numbers.{is_number as is_number_word, number_in, is_address as is_address_word, address_in};
 
 use dom_text::{decimal, hex8};
 

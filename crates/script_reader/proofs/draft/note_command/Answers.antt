@@ -1,8 +1,6 @@
-use Rattle.std.proofs.Common.{◌≡◌, ◌++◌, ◌∷◌, [], ℕ, List, refl, ap, sym, subst, ◌∙◌}
+use Rattle.std.proofs.Common.{ap, sym}
 use Rattle.std.proofs.lemmas.Result.{on_ok_weaker}
-use Rattle.script_reader.specs.Index.{HasAlso, slot_of}
-use Rattle.script_reader.specs.Notes.{NotesCommand}
-use Rattle.script_reader.specs.Scripts.{makes, same_text}
+use Rattle.script_reader.specs.Scripts.{same_text}
 use Rattle.script_reader.specs.declared.command.Command.TheVariants.{New}
 use Rattle.script_reader.proofs.Held.{named-new}
 use Rattle.script_reader.proofs.draft.note_command.Goals as goal

@@ -1,4 +1,4 @@
-use Rattle.std.proofs.Common.{◌≡◌, ◌<◌, length, take, slice_index_or, ap, sym, subst, arith}
+use Rattle.std.proofs.Common.{take, sym, subst}
 use Rattle.uid_names.specs.Openings.{IsUnnamed}
 use Rattle.script_reader.proofs.Begun.{unnamed}
 use Rattle.script_reader.proofs.draft.opening_of.Goals as goal

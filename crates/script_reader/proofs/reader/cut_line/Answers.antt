@@ -1,4 +1,4 @@
-use Rattle.std.proofs.Common.{◌≡◌, ◌∷◌, sym, ap, ◌∙◌}
+use Rattle.std.proofs.Common.{◌∷◌, sym, ap, ◌∙◌}
 use Rattle.script_reader.specs.Grammar.{raw_lines}
 use Rattle.script_reader.proofs.Reading.{behind_the_end, lines-alone, lines-cut}
 use Rattle.script_reader.proofs.reader.cut_line.Goals as goal

@@ -1,4 +1,4 @@
-use Rattle.std.proofs.Common.{rules, ◌≡◌, true, false, Some, None, ◌∙◌, refl}
+use Rattle.std.proofs.Common.{rules, ◌≡◌, true, false, ◌∙◌, refl}
 use Rattle.script_reader.specs.Words.{are_digits, is_name}
 use Rattle.script_reader.proofs.Decisions.{no_dot, process_word-cut}
 use Rattle.script_reader.proofs.words.process_word.Goals as goal

@@ -1,7 +1,10 @@
-use Rattle.std.proofs.Common.{rules, ◌≡◌, ◌≤◌, true, false, length, ap, sym, subst, ◌∙◌}
-use Rattle.std.specs.Prelude.{◌&&◌, OnOk}
-use Rattle.script_reader.specs.Judging.{IsFormed, after, declared_at, has_numbers, home_of, is_fate, is_name_or_none, is_no_name, is_no_number, is_node_name, is_number, is_unknown, node_number, number_in, proc_of, var_of, with_declared}
-use Rattle.script_reader.specs.Scripts.{IsCommand, IsGivenFate}
+use Rattle.std.proofs.Common.{◌≡◌, false, length, sym, subst}
+use Rattle.script_reader.specs.Numbers.{has_numbers, is_fate, is_no_number, is_number}
+use Rattle.script_reader.specs.NamesAsked.{home_of, is_name_or_none, is_no_name, var_of}
+use Rattle.script_reader.specs.NodeNames.{is_node_name}
+use Rattle.script_reader.specs.UnknownNames.{is_unknown}
+use Rattle.script_reader.specs.Formed.{IsFormed}
+use Rattle.script_reader.specs.Scripts.{IsCommand}
 use Rattle.script_reader.specs.Seen.{seen, seen_command, seen_fate}
 use Rattle.script_reader.proofs.Ranges.{both_true, command_is, fate_is, nodes_apart}
 use Rattle.script_reader.proofs.draft.Draft.add.Goals as goal

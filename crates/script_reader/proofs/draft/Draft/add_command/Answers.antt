@@ -1,4 +1,4 @@
-use Rattle.std.proofs.Common.{rules, ◌≡◌, ◌≤◌, ◌<◌, ◌++◌, ◌∷◌, [], length, ap, sym, subst, ◌∙◌}
+use Rattle.std.proofs.Common.{rules, ◌≡◌, ◌≤◌, ◌<◌, ◌++◌, ◌∷◌, [], length, sym, subst}
 use Rattle.script_reader.specs.Scripts.{IsCommand, IsSpoken}
 use Rattle.script_reader.proofs.Drafting.{held-command}
 use Rattle.script_reader.proofs.draft.Draft.add_command.Goals as goal

@@ -1,5 +1,5 @@
 use Rattle.std.proofs.Common.{◌≡◌, ◌<◌, false, true, length, ap, sym, subst, ◌∙◌}
-use Rattle.script_reader.specs.Judging.{is_node_name}
+use Rattle.script_reader.specs.NodeNames.{is_node_name}
 use Rattle.script_reader.specs.Words.{is_name}
 use Rattle.script_reader.proofs.Drafting.{held-node}
 use Rattle.script_reader.proofs.draft.Draft.add_node.Goals as goal

@@ -1,7 +1,8 @@
-use Rattle.std.proofs.Common.{rules, ◌≡◌, ◌≤◌, ◌<◌, ◌+◌, ◌++◌, ◌∷◌, [], false, true, length, ap, sym, subst, ◌∙◌, arith}
+use Rattle.std.proofs.Common.{rules, ◌≡◌, ◌≤◌, ◌+◌, ◌++◌, ◌∷◌, [], false, true, length, ap, sym, subst, ◌∙◌, arith}
 use Rattle.uid_names.specs.declared.mode.ObjKind.TheVariants.{File}
 use Rattle.script_reader.specs.Index.{HasAlso}
-use Rattle.script_reader.specs.Judging.{next_uid, pages_at}
+use Rattle.script_reader.specs.Limits.{pages_at}
+use Rattle.script_reader.specs.After.{next_uid}
 use Rattle.script_reader.specs.Scripts.{is_declared}
 use Rattle.script_reader.specs.Words.{is_name}
 use Rattle.script_reader.proofs.Drafting.{count_is, count_small, held-object}

@@ -1,6 +1,6 @@
-use Rattle.std.proofs.Common.{rules, ◌≡◌, ◌≤◌, length, ap, sym, subst, ◌∙◌}
+use Rattle.std.proofs.Common.{rules, ◌≡◌, ◌≤◌, length, sym, subst}
 use Rattle.script_reader.specs.Drafts.{content_of}
-use Rattle.script_reader.specs.Scripts.{Content, IsContent}
+use Rattle.script_reader.specs.Scripts.{IsContent}
 use Rattle.script_reader.proofs.Begun.{can_begin}
 use Rattle.script_reader.proofs.draft.Draft.finish.Goals as goal
 

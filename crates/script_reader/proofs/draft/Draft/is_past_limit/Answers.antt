@@ -1,7 +1,8 @@
-use Rattle.std.proofs.Common.{◌≡◌, ◌≤◌, ◌+◌, ℕ, length, slice_index_or, ap, sym, ◌∙◌, arith}
+use Rattle.std.proofs.Common.{◌≡◌, ◌+◌, slice_index_or, ap, ◌∙◌}
 use Rattle.std.specs.Prelude.{nat_lt}
-use Rattle.script_reader.specs.Judging.{is_past_limit, node_number, number_in, pages_at}
-use Rattle.script_reader.specs.Seen.{seen}
+use Rattle.script_reader.specs.Numbers.{number_in}
+use Rattle.script_reader.specs.NodeNames.{node_number}
+use Rattle.script_reader.specs.Limits.{pages_at}
 use Rattle.script_reader.proofs.Drafting.{pages_is}
 use Rattle.script_reader.proofs.draft.Draft.is_past_limit.Goals as goal
 

@@ -1,6 +1,7 @@
-use Rattle.std.proofs.Common.{◌≡◌, ap, ◌∙◌, refl}
+use Rattle.std.proofs.Common.{ap}
 use Rattle.dom_history.specs.Plans.{is_set}
-use Rattle.script_reader.specs.Judging.{is_repeated, node_number, number_in}
+use Rattle.script_reader.specs.Numbers.{number_in}
+use Rattle.script_reader.specs.NodeNames.{node_number}
 use Rattle.script_reader.proofs.draft.Draft.is_repeated.Goals as goal
 
 pub returns-in-Fault : goal.returns-in-Fault

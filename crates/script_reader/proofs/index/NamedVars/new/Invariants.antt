@@ -1,4 +1,4 @@
-use Rattle.std.proofs.Common.{◌≡◌, ◌≤◌, ◌-◌, ℕ, [], length, slice_index_or, vec_len}
+use Rattle.std.proofs.Common.{◌≡◌, ◌≤◌, ◌-◌, ℕ, [], length, slice_index_or}
 use Rattle.script_reader.proofs.index.NamedVars.new.Given as goal
 
 abbrev pub invariant-loop-alloc : goal.invariant-loop-alloc
