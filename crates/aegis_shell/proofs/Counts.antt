@@ -1,6 +1,5 @@
 -- A command makes one operation or two.
-use Rattle.std.proofs.Common.{◌≡◌, ℕ, Bool, true, false, Option, Some, None, List, [], ◌∷◌, refl, ap, ◌∙◌, sym, subst}
-use Rattle.std.specs.Prelude.{nat_le, length}
+use Rattle.std.proofs.Common.{ℕ, Bool, true, false, Option, Some, None, List, [], ◌∷◌}
 use Rattle.uid_names.specs.Names.{ObjectName}
 use Rattle.dom_history.specs.declared.op.Spot.{Spot}
 use Rattle.dom_history.specs.declared.op.Spot.TheVariants.{Of, Addr}
@@ -8,7 +7,7 @@ use Rattle.dom_history.specs.declared.op.Op.{Op}
 use Rattle.dom_history.specs.declared.op.Op.TheVariants as ops
 use Rattle.script_reader.specs.declared.command.Command.{Command}
 use Rattle.script_reader.specs.declared.command.Command.TheVariants.{New, Lock, Unlock, Delete, Load, Store, Length, Map, Unmap, Loadat, Storeat}
-use Rattle.aegis_shell.specs.Operations.{page_rest, loads, loads_if, stores, stores_if, on_object, ops_of, first_of, second_of, rest_of, head_of}
+use Rattle.aegis_shell.specs.Operations.{loads, loads_if, stores, stores_if, on_object, ops_of}
 
 -- a list of one element or of two
 pub data IsShort : List Op → Type 0 where

@@ -1,16 +1,15 @@
 -- The courses of processes: more that is told only adds answers, each command has one, and all come to their end.
 use Prim.Native.Nat.{zero}
 use Rattle.std.proofs.Common.{◌≡◌, ℕ, suc, ◌+◌, ◌-◌, ◌*◌, ◌≤◌, Bool, true, false, Option, Some, None, List, [], ◌∷◌, ◌++◌, length, reverse, refl, ap, ◌∙◌, sym, subst, arith}
-use Rattle.std.specs.Prelude.{max, All}
-use Rattle.std.proofs.lemmas.List.{length-reverse, length-map}
+use Rattle.std.specs.Prelude.{max}
+use Rattle.std.proofs.lemmas.List.{length-reverse}
 use Rattle.std.proofs.lemmas.Grind.{reverse_onto}
 use Rattle.std.proofs.lemmas.List.Elements.{All-head, All-tail}
 use Rattle.uid_names.specs.Names.{ProcName}
 use Rattle.dom_history.specs.declared.op.Op.{Op}
 use Rattle.dom_history.specs.declared.op.Reply.{Reply}
 use Rattle.dom_history.specs.declared.op.Reply.TheVariants.{Fine}
-use Rattle.dom_history.specs.declared.op.Want.{Want}
-use Rattle.dom_history.specs.declared.op.Want.TheVariants.{Do, Phase, Done}
+use Rattle.dom_history.specs.declared.op.Want.TheVariants.{Done}
 use Rattle.dom_history.specs.Follows.{Heard}
 use Rattle.script_reader.specs.declared.command.Command.{Command}
 use Rattle.script_reader.specs.Scripts.{Content, IsContent}
@@ -19,9 +18,9 @@ use Rattle.aegis_shell.specs.Bound.{Bound, unbound, declare}
 use Rattle.aegis_shell.specs.Work.{Part, part_of, jobs_of, object_of}
 use Rattle.aegis_shell.specs.Ranges.{IsJob, AreJobs}
 use Rattle.aegis_shell.specs.Operations.{ops_of}
-use Rattle.aegis_shell.specs.AnswerTexts.{is_done, together, answer_text, not_bound}
-use Rattle.aegis_shell.specs.Asking.{Told, Reached, waits, answered, behind_phases, Course, Asks, Ends, on_reply, carry_out, on_course, on_operations, on_phases, bound_after, reach, reached, ask, answers}
-use Rattle.aegis_shell.proofs.Counts.{IsShort, one, two, AreShort, ops_short}
+use Rattle.aegis_shell.specs.AnswerTexts.{is_done, together}
+use Rattle.aegis_shell.specs.Asking.{Told, Reached, behind_phases, Course, Asks, Ends, on_reply, carry_out, on_course, on_operations, on_phases, bound_after, reach, reached, ask, answers}
+use Rattle.aegis_shell.proofs.Counts.{IsShort, AreShort, ops_short}
 use Rattle.aegis_shell.proofs.Parts.{jobs_ranged}
 
 -- phases that were passed stay passed when more is told

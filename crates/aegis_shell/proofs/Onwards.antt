@@ -1,18 +1,17 @@
 -- What a shell keeps from one step to the next.
-use Rattle.std.proofs.Common.{◌≡◌, ℕ, suc, ◌+◌, ◌-◌, ◌≤◌, ◌<◌, Bool, true, false, Option, Some, None, List, [], ◌∷◌, ◌++◌, length, take, drop, refl, ap, ◌∙◌, sym, subst, arith, add-one, append_assoc, append-nil, length-append, length-drop, drop-cons, slice_index_or}
+use Rattle.std.proofs.Common.{◌≡◌, ℕ, suc, ◌+◌, ◌-◌, ◌≤◌, ◌<◌, Option, Some, None, List, [], ◌∷◌, ◌++◌, length, take, drop, refl, ap, ◌∙◌, sym, subst, arith, add-one, append_assoc, append-nil, length-append, length-drop, drop-cons, slice_index_or}
 use Rattle.std.proofs.lemmas.List.{drop_all, take_all, get_or-drop}
-use Rattle.std.specs.Prelude.{IsSome}
 use Rattle.dom_history.specs.declared.op.Op.{Op}
 use Rattle.dom_history.specs.declared.op.Reply.{Reply}
 use Rattle.dom_history.specs.declared.op.Want.{Want}
-use Rattle.dom_history.specs.declared.op.Want.TheVariants.{Do, Phase, Done}
+use Rattle.dom_history.specs.declared.op.Want.TheVariants.{Do, Done}
 use Rattle.aegis_shell.specs.declared.work.Job.{Job}
 use Rattle.aegis_shell.specs.declared.progress.Progress.{Progress}
 use Rattle.aegis_shell.specs.Bound.{Bound}
 use Rattle.aegis_shell.specs.Bindings.{object_at}
 use Rattle.aegis_shell.specs.Work.{Part, object_of}
 use Rattle.aegis_shell.specs.Ranges.{IsJob, AreJobs}
-use Rattle.aegis_shell.specs.Operations.{ops_of, first_of, second_of}
+use Rattle.aegis_shell.specs.Operations.{ops_of, second_of}
 use Rattle.aegis_shell.specs.AnswerTexts.{is_done, together, so_far, answer_text, not_bound}
 use Rattle.aegis_shell.specs.Asking.{Told, Reached, waits, answered, bound_after}
 use Rattle.aegis_shell.specs.Playing.{Continues, IsOpen, IsTold, resume, resume_from, behind_answers, goes_on, want_at}

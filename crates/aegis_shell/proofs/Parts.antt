@@ -1,11 +1,11 @@
 -- A process's part of a script.
-use Rattle.std.proofs.Common.{◌≡◌, ℕ, ◌+◌, ◌≤◌, ◌<◌, ◌^◌, Bool, Option, Some, None, List, [], ◌∷◌, ◌++◌, length, take, map, refl, ap, ◌∙◌, sym, subst, arith, add-one, slice_index_or}
-use Rattle.std.specs.Prelude.{◌≢◌, filter, not, All, AllPairs}
+use Rattle.std.proofs.Common.{◌≡◌, ℕ, ◌+◌, ◌≤◌, ◌<◌, Bool, List, [], ◌∷◌, ◌++◌, length, take, map, refl, ap, ◌∙◌, sym, subst, arith, add-one, slice_index_or}
+use Rattle.std.specs.Prelude.{filter, not}
 use Rattle.std.proofs.Math.Seq.{take-suc}
 use Rattle.std.proofs.lemmas.List.{length-map, get_or-map}
 use Rattle.std.proofs.lemmas.List.Elements.{All-map, All-filter, All-weaker}
 use Rattle.std.proofs.lemmas.List.Filters.{length-filter_both}
-use Rattle.uid_names.specs.Names.{ProcName, ObjectName, same_proc}
+use Rattle.uid_names.specs.Names.{ProcName, same_proc}
 use Rattle.uid_names.specs.NameTexts.{IsNameText}
 use Rattle.dom_history.specs.NodeTexts.{AreNodeNames}
 use Rattle.script_reader.specs.declared.command.Command.{Command}
@@ -14,9 +14,8 @@ use Rattle.script_reader.specs.declared.script.NodeRow.{NodeRow}
 use Rattle.script_reader.specs.declared.script.VarRow.{VarRow}
 use Rattle.script_reader.specs.declared.script.CommandRow.{CommandRow}
 use Rattle.script_reader.specs.Scripts.{Content, IsContent, IsNode, IsCommand, IsCommandRow}
-use Rattle.aegis_shell.specs.declared.work.Job.{Job}
-use Rattle.aegis_shell.specs.Bound.{Bound, unbound, bind, declare}
-use Rattle.aegis_shell.specs.Work.{job_of, jobs_of}
+use Rattle.aegis_shell.specs.Bound.{Bound, bind, declare}
+use Rattle.aegis_shell.specs.Work.{job_of}
 use Rattle.aegis_shell.specs.Ranges.{IsRanged, IsJob, AreJobs}
 
 declare-push : (rows : List VarRow) (row : VarRow) (bound : Bound) → declare (rows ++ row ∷ []) bound ≡ bind row.var row.uid (declare rows bound)

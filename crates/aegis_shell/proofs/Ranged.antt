@@ -1,6 +1,6 @@
 -- What a process asks is in the ranges of operations.
-use Rattle.std.proofs.Common.{◌≡◌, ℕ, ◌+◌, ◌-◌, ◌≤◌, ◌<◌, ◌%◌, Bool, true, false, Option, Some, None, List, [], ◌∷◌, length, take, drop, reverse, refl, ap, ◌∙◌, sym, subst, arith, length-take, length-drop}
-use Rattle.std.specs.Prelude.{max, nat_le, All}
+use Rattle.std.proofs.Common.{◌≡◌, ℕ, ◌-◌, ◌≤◌, ◌<◌, Bool, true, false, Option, Some, None, List, [], ◌∷◌, length, take, drop, reverse, refl, arith, length-take, length-drop}
+use Rattle.std.specs.Prelude.{max, nat_le}
 use Rattle.std.proofs.lemmas.Bool.Decides.{nat_tests}
 use Rattle.std.proofs.lemmas.List.Elements.{All-head, All-tail}
 use Rattle.uid_names.specs.Names.{ProcName, ObjectName}
@@ -10,7 +10,6 @@ use Rattle.dom_history.specs.declared.op.Op.{Op}
 use Rattle.dom_history.specs.declared.op.Op.TheVariants as ops
 use Rattle.dom_history.specs.declared.op.Reply.{Reply}
 use Rattle.dom_history.specs.declared.op.Reply.TheVariants.{Fine}
-use Rattle.dom_history.specs.declared.op.Want.{Want}
 use Rattle.dom_history.specs.Ranges.{IsOp, IsWant, offset_in_page}
 use Rattle.dom_history.specs.Follows.{Heard}
 use Rattle.script_reader.specs.declared.command.Command.{Command}

@@ -1,13 +1,13 @@
 -- One step of a process: what it reaches from where it stands.
-use Rattle.std.proofs.Common.{◌≡◌, ℕ, suc, ◌+◌, ◌-◌, ◌≤◌, ◌<◌, Bool, true, false, Option, Some, None, List, [], ◌∷◌, ◌++◌, refl, ap, ◌∙◌, sym, subst, arith}
+use Rattle.std.proofs.Common.{◌≡◌, ℕ, suc, ◌+◌, ◌-◌, ◌≤◌, ◌<◌, Bool, true, false, Option, Some, None, List, [], ◌∷◌, ◌++◌, refl, ap, ◌∙◌, sym, arith}
 use Rattle.std.specs.Prelude.{max, IsSome, nat_lt}
 use Rattle.std.proofs.Math.Nat.{max-eq_left, max-eq_right}
 use Rattle.std.proofs.lemmas.Bool.Decides.{nat_tests}
 use Rattle.dom_history.specs.declared.op.Op.{Op}
 use Rattle.dom_history.specs.declared.op.Reply.{Reply}
-use Rattle.dom_history.specs.declared.op.Reply.TheVariants.{Made, Fine, Bytes, Size, At, Locks, Conflict, NoObject, AlreadyHeld, NotHeld, Unsettled, TooMany, NoLock, WrongMode, PastRoom, PastEnd, NoSpace, Kept, Doubt, LinkFault, TooManyMaps, NoSegment, NotMapped}
+use Rattle.dom_history.specs.declared.op.Reply.TheVariants.{Fine, Bytes}
 use Rattle.dom_history.specs.declared.op.Want.{Want}
-use Rattle.dom_history.specs.declared.op.Want.TheVariants.{Do, Phase, Done}
+use Rattle.dom_history.specs.declared.op.Want.TheVariants.{Do, Phase}
 use Rattle.script_reader.specs.declared.command.Command.{Command}
 use Rattle.script_reader.specs.declared.command.Command.TheVariants.{New}
 use Rattle.aegis_shell.specs.declared.work.Job.{Job}
@@ -15,9 +15,9 @@ use Rattle.aegis_shell.specs.Bound.{Bound}
 use Rattle.aegis_shell.specs.Work.{Part, object_of}
 use Rattle.aegis_shell.specs.Operations.{ops_of, first_of, second_of, rest_of, head_of}
 use Rattle.aegis_shell.specs.AnswerTexts.{is_done, together, so_far, answer_text, not_bound}
-use Rattle.aegis_shell.specs.Asking.{Told, Reached, waits, answered, behind_phases, Course, Asks, Ends, on_reply, carry_out, bound_after, on_course, on_operations, on_phases, reach}
+use Rattle.aegis_shell.specs.Asking.{Told, Reached, waits, answered, behind_phases, Ends, on_reply, carry_out, bound_after, on_course, on_operations, on_phases, reach}
 use Rattle.aegis_shell.specs.Playing.{resume_from, IsOpen, goes_on, want_in, want_at}
-use Rattle.aegis_shell.proofs.Counts.{IsShort, one, two, AreShort, ops_short}
+use Rattle.aegis_shell.proofs.Counts.{IsShort, AreShort, ops_short}
 
 -- what is behind a job, in the phase that is reached by then
 abbrev pub further_from : Part → ℕ → Job → List Job → Bound → Told → Reached

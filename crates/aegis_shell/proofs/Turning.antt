@@ -1,21 +1,21 @@
 -- What may be told to a shell, and what it keeps over a turn.
-use Rattle.std.proofs.Common.{◌≡◌, ℕ, ◌≤◌, ◌<◌, Bool, true, false, Option, Some, None, List, [], ◌∷◌, ◌++◌, length, drop, reverse, refl, ap, ◌∙◌, sym, subst, arith, append_assoc, append-nil}
-use Rattle.std.specs.Prelude.{IsSome, is_some, OnOk, IfOk, nat_lt, Result, Ok, Err}
-use Rattle.std.proofs.lemmas.List.{reverse-append, reverse-reverse}
+use Rattle.std.proofs.Common.{◌≡◌, ◌≤◌, ◌<◌, Bool, true, false, Option, Some, None, List, [], ◌∷◌, ◌++◌, length, drop, reverse, refl, ap, ◌∙◌, sym, subst, arith, append_assoc, append-nil}
+use Rattle.std.specs.Prelude.{is_some, OnOk, IfOk, nat_lt, Result, Ok, Err}
+use Rattle.std.proofs.lemmas.List.{reverse-reverse}
 use Rattle.std.proofs.lemmas.Bool.Decides.{nat_tests}
 use Rattle.dom_history.specs.declared.op.Op.{Op}
 use Rattle.dom_history.specs.declared.op.Reply.{Reply}
 use Rattle.dom_history.specs.declared.op.Want.{Want}
-use Rattle.dom_history.specs.declared.op.Want.TheVariants.{Do, Phase, Done}
-use Rattle.dom_history.specs.Programs.{heard_with, CanHear, FitsWant}
+use Rattle.dom_history.specs.declared.op.Want.TheVariants.{Do, Phase}
+use Rattle.dom_history.specs.Programs.{CanHear, FitsWant}
 use Rattle.aegis_shell.specs.declared.work.Job.{Job}
 use Rattle.aegis_shell.specs.declared.progress.Progress.{Progress}
-use Rattle.aegis_shell.specs.Bound.{Bound, unbound}
+use Rattle.aegis_shell.specs.Bound.{unbound}
 use Rattle.aegis_shell.specs.Bindings.{object_at}
 use Rattle.aegis_shell.specs.Work.{Part, object_of}
-use Rattle.aegis_shell.specs.Operations.{ops_of, first_of, second_of, rest_of, head_of}
+use Rattle.aegis_shell.specs.Operations.{ops_of, first_of, rest_of, head_of}
 use Rattle.aegis_shell.specs.Asking.{Told, Reached, waits, carry_out, on_course, reach, reached}
-use Rattle.aegis_shell.specs.Playing.{Continues, IsOpen, IsTold, IsShell, IsWaiting, resume, resume_from, heard_of, told_with}
+use Rattle.aegis_shell.specs.Playing.{Continues, IsOpen, IsTold, IsShell, IsWaiting, resume, resume_from, heard_of}
 use Rattle.aegis_shell.proofs.Steps.{further_of, reach-phase, reach-lacking, reach-asks}
 
 -- what fits a want that is known

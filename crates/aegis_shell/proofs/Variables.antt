@@ -1,9 +1,8 @@
 -- What a map from the bytes of variables holds, as contracts see it.
-use mathlib.Core.Path.{fun_ext}
-use Rattle.std.proofs.Common.{◌≡◌, ℕ, Bool, true, false, Option, Some, None, List, [], ◌∷◌, refl, sym, ◌∙◌, ap, subst, cond, map}
-use Rattle.std.specs.BTreeMap.{BTreeMap, UpdatesBy, is_at}
+use Rattle.std.proofs.Common.{◌≡◌, ℕ, Bool, true, false, Some, List, [], ◌∷◌, refl, sym, ◌∙◌, ap, subst, cond, map}
+use Rattle.std.specs.BTreeMap.{BTreeMap, UpdatesBy}
 use Rattle.std.specs.Map.{lookup, IsKeyTest, AreApart, KeepsOthers}
-use Rattle.std.specs.Ordering.{is_eq, nat_cmp, eq_by_cmp}
+use Rattle.std.specs.Ordering.{is_eq, nat_cmp}
 use Rattle.std.specs.Cmp.{eq_by_cmp_equiv}
 use Rattle.std.specs.Cmp.Lexicographic.{slice_cmp, nat_list_eq_equiv}
 use Rattle.std.specs.Str.{bytes_eq}

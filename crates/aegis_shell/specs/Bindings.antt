@@ -1,5 +1,5 @@
 -- What contracts see of the variables that a shell has bound.
-use Rattle.std.specs.Prelude.{ℕ, Option, List, map}
+use Rattle.std.specs.Prelude.{ℕ, List}
 use Rattle.std.specs.Str.{bytes_eq}
 use Rattle.std.specs.Map.{lookup}
 use Rattle.uid_names.specs.Names.{ObjectName}

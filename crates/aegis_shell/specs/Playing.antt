@@ -1,6 +1,6 @@
 -- How far a shell has come, and what contracts see of it.
 use Rattle.std.specs.Prelude.{ℕ, ◌≡◌, ◌<◌, ◌≤◌, Bool, true, false, Option, Some, None, IsSome, List, [], ◌∷◌, ◌++◌, length, drop, nat_lt, reverse}
-use Rattle.uid_names.specs.Names.{ProcName, ObjectName}
+use Rattle.uid_names.specs.Names.{ProcName}
 use Rattle.dom_history.specs.declared.op.Op.{Op}
 use Rattle.dom_history.specs.declared.op.Reply.{Reply}
 use Rattle.dom_history.specs.declared.op.Want.{Want}

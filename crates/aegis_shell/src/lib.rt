@@ -7,6 +7,8 @@ pub mod laws;
 mod operation;
 mod progress;
 mod shell;
+#[cfg(test)]
+mod tests;
 mod work;
 
 pub use shell::Shell;

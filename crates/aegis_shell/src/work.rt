@@ -4,6 +4,7 @@ ghost use Rattle.std.specs.Option.{option_copied};
 ghost use Rattle.dom_history.specs.NodeTexts.{AreNodeNames};
 ghost use Rattle.uid_names.specs.Names.{same_proc};
 ghost use Rattle.script_reader.specs.Scripts.{IsContent};
+ghost use Rattle.script_reader.specs.declared.command.Command.TheVariants.{New, Load, Store};
 ghost use Rattle.aegis_shell.specs.Bound.{declare, unbound};
 ghost use Rattle.aegis_shell.specs.Bindings.{object_at};
 ghost use Rattle.aegis_shell.specs.Work.{variable as variable_of, object_in, object_of as object_of_job, job_of, part_of};
@@ -83,16 +84,44 @@ impl Job {
     }
 }
 
+fn copy_of_new(
+    alloc: Global,
+    var: &ByteList,
+    room: u32,
+    home: Option<NodeId>,
+) -> Result<Command, NoMemory>
+    ensures { IfOk result (λ copy. copy ≡ New var.now room home) }
+{
+    let var = var.copy(alloc)?;
+    Ok(Command::New { var, room, home })
+}
+
+fn copy_of_load(alloc: Global, var: &ByteList, offset: u32, count: u32) -> Result<Command, NoMemory>
+    ensures { IfOk result (λ copy. copy ≡ Load var.now offset count) }
+{
+    let var = var.copy(alloc)?;
+    Ok(Command::Load { var, offset, count })
+}
+
+fn copy_of_store(
+    alloc: Global,
+    var: &ByteList,
+    offset: u32,
+    text: &ByteList,
+) -> Result<Command, NoMemory>
+    ensures { IfOk result (λ copy. copy ≡ Store var.now offset text.now) }
+{
+    let var = var.copy(alloc)?;
+    let text = text.copy(alloc)?;
+    Ok(Command::Store { var, offset, text })
+}
+
 /// A copy of a command.
 fn copy_of(alloc: Global, command: &Command) -> Result<Command, NoMemory>
     ensures { IfOk result (λ copy. copy ≡ command.now) }
 {
     Ok(match command {
-        Command::New { var, room, home } => Command::New {
-            var: var.copy(alloc)?,
-            room: *room,
-            home: *home,
-        },
+        Command::New { var, room, home } => copy_of_new(alloc, var, *room, *home)?,
         Command::Lock { var, mode } => Command::Lock {
             var: var.copy(alloc)?,
             mode: *mode,
@@ -103,16 +132,8 @@ fn copy_of(alloc: Global, command: &Command) -> Result<Command, NoMemory>
         Command::Delete { var } => Command::Delete {
             var: var.copy(alloc)?,
         },
-        Command::Load { var, offset, count } => Command::Load {
-            var: var.copy(alloc)?,
-            offset: *offset,
-            count: *count,
-        },
-        Command::Store { var, offset, text } => Command::Store {
-            var: var.copy(alloc)?,
-            offset: *offset,
-            text: text.copy(alloc)?,
-        },
+        Command::Load { var, offset, count } => copy_of_load(alloc, var, *offset, *count)?,
+        Command::Store { var, offset, text } => copy_of_store(alloc, var, *offset, text)?,
         Command::Length { var } => Command::Length {
             var: var.copy(alloc)?,
         },

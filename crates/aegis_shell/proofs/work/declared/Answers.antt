@@ -1,5 +1,4 @@
-use Rattle.std.proofs.Common.{◌≡◌, refl, ap, ◌∙◌, sym}
-use Rattle.aegis_shell.specs.Bound.{bind as bound_with, unbound}
+use Rattle.aegis_shell.specs.Bound.{unbound}
 use Rattle.aegis_shell.proofs.Parts.{declare-more}
 use Rattle.aegis_shell.proofs.work.declared.Goals as goal
 

@@ -1,5 +1,5 @@
 use mathlib.Core.Path.{fun_ext}
-use Rattle.std.proofs.Common.{◌≡◌, ℕ, List, Option, refl, sym, ◌∙◌, ap, subst}
+use Rattle.std.proofs.Common.{◌∙◌, ap}
 use Rattle.aegis_shell.specs.Bound.{bind as bound_with}
 use Rattle.aegis_shell.specs.Bindings.{object_at}
 use Rattle.aegis_shell.proofs.Variables.{by_text, updated}

@@ -1,4 +1,4 @@
-use Rattle.std.proofs.Common.{◌≡◌, ℕ, List, Option, refl, sym, ◌∙◌, ap}
+use Rattle.std.proofs.Common.{◌∙◌, ap}
 use Rattle.aegis_shell.specs.Bindings.{object_at}
 use Rattle.aegis_shell.proofs.Variables.{lookup-by_text}
 use Rattle.aegis_shell.proofs.bindings.Bindings.object.Goals as goal

@@ -1,4 +1,4 @@
-use Rattle.std.proofs.Common.{◌≡◌, ◌<◌, length, refl, sym, ◌∙◌, ap, Some, slice_index_or}
+use Rattle.std.proofs.Common.{length, refl, sym, ◌∙◌, ap, Some}
 use Rattle.aegis_shell.specs.declared.progress.Progress.{Progress}
 use Rattle.aegis_shell.proofs.Onwards.{told_within, goes-continues, goes-asks, ends-continues}
 use Rattle.aegis_shell.proofs.progress.Progress.hear_reply.Goals as goal

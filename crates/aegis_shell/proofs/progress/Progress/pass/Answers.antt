@@ -1,6 +1,5 @@
-use Rattle.std.proofs.Common.{◌<◌, ◌+◌, length, refl, arith, rules, subst}
-use Rattle.aegis_shell.specs.Ranges.{AreJobs}
-use Rattle.aegis_shell.proofs.Onwards.{passes-low, passes-continues, passes-between}
+use Rattle.std.proofs.Common.{length, refl, arith}
+use Rattle.aegis_shell.proofs.Onwards.{passes-low, passes-continues}
 use Rattle.aegis_shell.proofs.progress.Progress.pass.Goals as goal
 
 pub overflow_add-self : goal.overflow_add-self

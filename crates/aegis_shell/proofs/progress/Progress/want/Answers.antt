@@ -1,4 +1,4 @@
-use Rattle.std.proofs.Common.{◌≡◌, ◌+◌, length, refl, sym, ◌∙◌, ap, slice_index_or, arith, length-append, [], ◌∷◌, ◌++◌}
+use Rattle.std.proofs.Common.{length, refl, sym, ◌∙◌, ap, arith, length-append, [], ◌∷◌, ◌++◌}
 use Rattle.aegis_shell.proofs.Onwards.{next-job, wants-here, lacks-continues}
 use Rattle.aegis_shell.proofs.progress.Progress.want.Goals as goal
 

@@ -1,4 +1,4 @@
-use Rattle.std.proofs.Common.{◌≡◌, ap, ◌∙◌, subst, reverse}
+use Rattle.std.proofs.Common.{ap, ◌∙◌, subst, reverse}
 use Rattle.std.specs.Prelude.{true}
 use Rattle.dom_history.specs.Ranges.{IsWant}
 use Rattle.aegis_shell.specs.Bound.{unbound}

@@ -1,6 +1,4 @@
-use Rattle.std.proofs.Common.{◌≡◌, ◌<◌, ◌^◌, length, map, ap, sym, subst, arith}
-use Rattle.std.specs.Prelude.{filter}
-use Rattle.uid_names.specs.Names.{same_proc}
+use Rattle.std.proofs.Common.{length, map, ap, sym, subst, arith}
 use Rattle.dom_history.specs.NodeTexts.{AreNodeNames}
 use Rattle.aegis_shell.specs.Ranges.{AreJobs}
 use Rattle.aegis_shell.specs.Bindings.{object_at}

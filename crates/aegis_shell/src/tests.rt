@@ -1,0 +1,295 @@
+//! What no clause says: that shells find memory, and answers that were worked out by hand.
+ghost use Rattle.std.specs.Prelude.{◌≡◌, ◌≢◌, ◌≤◌, ◌<◌, ◌+◌, length, IfOk};
+ghost use Rattle.dom_history.specs.declared.op.Want.TheVariants.{Done};
+ghost use Rattle.dom_history.specs.Programs.{FitsWant};
+ghost use Rattle.dom_history.specs.Ranges.{IsWant};
+
+use crate::Shell;
+use crate::answer::answer;
+use crate::work::Work;
+use dom_history::{PlainStore, Program, Reply, Want};
+use script_reader::{Script, read_script};
+use std::alloc::Global;
+use std::test::Fail;
+use uid_names::{ByteList, LockRows, Mode, NoMemory, NodeId, ProcId, Uid};
+
+/// How often a process is called in a test at most.
+const MOST_CALLS: u64 = 1000;
+
+/// A process that was served alone from one store until it was done.
+#[derive(Drop)]
+struct Served {
+    shell: Shell,
+    phases: u64,
+}
+
+/// What a process is told next: the store's reply to its operation, or nothing in a new phase.
+fn told_next(
+    alloc: Global,
+    store: &mut PlainStore,
+    proc: ProcId,
+    want: &Want,
+    phases: &mut u64,
+) -> Result<Option<Reply>, NoMemory>
+    requires going_on { want.now ≢ Done }
+    requires range { IsWant want.now }
+    requires few { length store.old.deeds < 1000 }
+    ensures fits { IfOk result (FitsWant want.now) }
+    ensures deeds { length store.new.deeds ≤ length store.old.deeds + 1 }
+{
+    match want {
+        Want::Do(op) => Ok(Some(store.apply(alloc, proc, op)?)),
+        Want::Phase => {
+            *phases = phases.saturating_add(1);
+            Ok(None)
+        }
+        Want::Done => unreachable!(),
+    }
+}
+
+fn serve(alloc: Global, script: &Script, proc: ProcId) -> Result<Served, NoMemory> {
+    let mut store = PlainStore::new(alloc, script.opening())?;
+    let mut shell = Shell::new(alloc, script, proc)?;
+    let mut phases = 0;
+    let mut last = None;
+    'calls: for _ in 0..MOST_CALLS {
+        let want = shell.next(alloc, last.as_ref())?;
+        match &want {
+            Want::Done => return Ok(Served { shell, phases }),
+            _ => last = told_next(alloc, &mut store, proc, &want, &mut phases)?,
+        }
+    }
+    Ok(Served { shell, phases })
+}
+
+/// The first process of a node.
+fn process(node: u8) -> Result<ProcId, Fail> {
+    let node = NodeId::new(node).ok_or("no node")?;
+    Ok(ProcId::new(node, 1).ok_or("no process")?)
+}
+
+fn served_alone(alloc: Global, script: &[u8], node: u8) -> Result<Served, Fail> {
+    let script = read_script(alloc, script)?;
+    Ok(serve(alloc, &script, process(node)?)?)
+}
+
+/// The answers of a process of a script that is served alone, each with its end.
+fn answers(alloc: Global, script: &[u8], node: u8) -> Result<ByteList, Fail> {
+    let served = served_alone(alloc, script, node)?;
+    let mut text = ByteList::new(alloc);
+    for answer in served.shell.answers() {
+        text.extend(answer.bytes())?;
+        text.push(b'\n')?;
+    }
+    Ok(text)
+}
+
+/// The answers of process a.1 at node a, with objects x of two pages and y of one.
+fn answers_at_a(alloc: Global, commands: &[u8]) -> Result<ByteList, Fail> {
+    let mut script = ByteList::from_slice(alloc, b"node a\nobject x 2 a\nobject y 1 a\n")?;
+    script.extend(commands)?;
+    answers(alloc, script.bytes(), 1)
+}
+
+#[test]
+fn a_text_is_stored_and_loaded(rt: HostRuntime) -> Result<(), Fail> {
+    let got = answers_at_a(
+        rt.alloc(),
+        b"a.1 lock x w\na.1 store x 0 \"hi\"\na.1 load x 0 2\na.1 length x\na.1 unlock x\n",
+    )?;
+    assert_eq!(rt; got.bytes(), b"ok\nok\nok \"hi\"\nok 2\nok\n".as_slice());
+    Ok(())
+}
+
+#[test]
+fn a_range_is_cut_at_a_page_border(rt: HostRuntime) -> Result<(), Fail> {
+    let got = answers_at_a(
+        rt.alloc(),
+        b"a.1 lock x w\na.1 store x 1022 \"abcd\"\na.1 load x 1022 4\na.1 load x 1022 5\n",
+    )?;
+    assert_eq!(rt; got.bytes(), b"ok\nok\nok \"abcd\"\npast end\n".as_slice());
+    Ok(())
+}
+
+#[test]
+fn a_range_that_is_refused_behind_a_border_keeps_its_first_part(
+    rt: HostRuntime,
+) -> Result<(), Fail> {
+    let got = answers_at_a(
+        rt.alloc(),
+        b"a.1 lock x w\na.1 store x 2046 \"abcd\"\na.1 length x\na.1 load x 2046 2\n",
+    )?;
+    assert_eq!(rt;
+        got.bytes(),
+        b"ok\npast room\nok 2048\nok \"ab\"\n".as_slice()
+    );
+    Ok(())
+}
+
+#[test]
+fn a_range_of_addresses_is_cut_at_a_page_border(rt: HostRuntime) -> Result<(), Fail> {
+    let got = answers_at_a(
+        rt.alloc(),
+        b"a.1 lock x w\na.1 map x\na.1 storeat 000003fe \"wxyz\"\na.1 loadat 000003fe 4\na.1 unmap x\n",
+    )?;
+    assert_eq!(rt;
+        got.bytes(),
+        b"ok\nok 00000000\nok\nok \"wxyz\"\nok\n".as_slice()
+    );
+    Ok(())
+}
+
+#[test]
+fn a_command_ends_at_its_first_refusal(rt: HostRuntime) -> Result<(), Fail> {
+    // The range ends in y, but begins where nothing is mapped.
+    let got = answers_at_a(
+        rt.alloc(),
+        b"a.1 lock x w\na.1 map x\na.1 lock y w\na.1 map y\na.1 unmap x\na.1 storeat 00007ffe \"abcd\"\na.1 length y\n",
+    )?;
+    assert_eq!(rt;
+        got.bytes(),
+        b"ok\nok 00000000\nok\nok 00008000\nok\nnot mapped\nok 0\n".as_slice()
+    );
+    Ok(())
+}
+
+/// Sixteen objects that fill the volume but for a page.
+fn crowded(alloc: Global, commands: &[u8]) -> Result<ByteList, Fail> {
+    let mut script = ByteList::from_slice(alloc, b"node a\n")?;
+    for i in 1..16u8 {
+        let line = format!(in alloc; "object o{i} 1024 a\n")?;
+        script.extend(line.as_bytes())?;
+    }
+    script.extend(b"object p 1015 a\n")?;
+    script.extend(commands)?;
+    answers(alloc, script.bytes(), 1)
+}
+
+#[test]
+fn a_variable_without_an_object_is_not_bound(rt: HostRuntime) -> Result<(), Fail> {
+    let got = crowded(rt.alloc(), b"a.1 new q 2\na.1 lock q w\na.1 map q\n")?;
+    assert_eq!(rt; got.bytes(), b"no space\nnot bound\nnot bound\n".as_slice());
+    Ok(())
+}
+
+#[test]
+fn a_variable_keeps_its_object_over_a_refused_new(rt: HostRuntime) -> Result<(), Fail> {
+    let got = crowded(
+        rt.alloc(),
+        b"a.1 new q 1\na.1 lock q w\na.1 new q 1\na.1 delete q\na.1 lock q r\n",
+    )?;
+    assert_eq!(rt;
+        got.bytes(),
+        b"ok 0000000001200001\nok\nno space\nok\nno object\n".as_slice()
+    );
+    Ok(())
+}
+
+#[test]
+fn a_variable_stands_for_its_last_object(rt: HostRuntime) -> Result<(), Fail> {
+    let got = answers(
+        rt.alloc(),
+        b"node a\na.1 new q 1\na.1 lock q w\na.1 new q 1\na.1 unlock q\n",
+        1,
+    )?;
+    assert_eq!(rt;
+        got.bytes(),
+        b"ok 0000000000200001\nok\nok 0000000000300001\nnot held\n".as_slice()
+    );
+    Ok(())
+}
+
+#[test]
+fn an_object_is_made_at_the_named_node(rt: HostRuntime) -> Result<(), Fail> {
+    let got = answers(
+        rt.alloc(),
+        b"node a\nnode b\nb.1 new x 1\na.1 new x 1\nb.1 new y 1 a\n",
+        2,
+    )?;
+    assert_eq!(rt;
+        got.bytes(),
+        b"ok 0000000000200002\nok 0000000000200001\n".as_slice()
+    );
+    Ok(())
+}
+
+#[test]
+fn a_process_takes_a_phase_for_each_line_before_its_commands(rt: HostRuntime) -> Result<(), Fail> {
+    let served = served_alone(
+        rt.alloc(),
+        b"node a\nobject x 1 a\nphase\nphase\na.1 length x\na.2 length x\nphase\na.1 length x\nphase\na.2 length x\n",
+        1,
+    )?;
+    assert_eq!(rt; served.phases, 3);
+    assert_eq!(rt; served.shell.answers().len(), 2);
+    Ok(())
+}
+
+/// How a reply is written, with two nodes `a` and `bee`.
+fn text_of(alloc: Global, reply: Reply) -> Result<ByteList, Fail> {
+    let script = read_script(alloc, b"node a\nnode bee\n")?;
+    let work = Work::new(alloc, &script, process(1)?)?;
+    Ok(answer(alloc, work.names(), &None, &reply)?)
+}
+
+#[test]
+fn a_made_object_is_named(rt: HostRuntime) -> Result<(), Fail> {
+    let uid = Uid::from_number(0x0123_4567_89a0_0008)
+        .ok()
+        .ok_or("no name")?;
+    let text = text_of(rt.alloc(), Reply::Made(uid))?;
+    assert_eq!(rt; text.bytes(), b"ok 0123456789a00008".as_slice());
+    Ok(())
+}
+
+#[test]
+fn loaded_bytes_are_quoted(rt: HostRuntime) -> Result<(), Fail> {
+    let bytes = ByteList::from_slice(rt.alloc(), b"a\n\xff\"")?;
+    let text = text_of(rt.alloc(), Reply::Bytes(bytes))?;
+    assert_eq!(rt; text.bytes(), b"ok \"a\\n\\xff\\\"\"".as_slice());
+    Ok(())
+}
+
+#[test]
+fn a_conflict_names_the_holder(rt: HostRuntime) -> Result<(), Fail> {
+    let reader = text_of(rt.alloc(), Reply::Conflict(process(2)?, Mode::Read))?;
+    assert_eq!(rt; reader.bytes(), b"conflict bee.1 r".as_slice());
+    let writer = text_of(rt.alloc(), Reply::Conflict(process(1)?, Mode::Write))?;
+    assert_eq!(rt; writer.bytes(), b"conflict a.1 w".as_slice());
+    Ok(())
+}
+
+#[test]
+fn an_address_has_eight_digits(rt: HostRuntime) -> Result<(), Fail> {
+    let address = 0x007f_8000;
+    let text = text_of(
+        rt.alloc(),
+        Reply::At {
+            address,
+            fresh: true,
+        },
+    )?;
+    assert_eq!(rt; text.bytes(), b"ok 007f8000".as_slice());
+    Ok(())
+}
+
+#[test]
+fn faults_of_links_are_told_apart(rt: HostRuntime) -> Result<(), Fail> {
+    assert_eq!(rt;
+        text_of(rt.alloc(), Reply::Kept)?.bytes(),
+        b"link fault, lock kept".as_slice()
+    );
+    assert_eq!(rt;
+        text_of(rt.alloc(), Reply::LinkFault)?.bytes(),
+        b"link fault".as_slice()
+    );
+    assert_eq!(rt;
+        text_of(rt.alloc(), Reply::Doubt)?.bytes(),
+        b"doubt".as_slice()
+    );
+    assert_eq!(rt;
+        text_of(rt.alloc(), Reply::Unsettled)?.bytes(),
+        b"unsettled".as_slice()
+    );
+    Ok(())
+}
