@@ -1,15 +1,14 @@
 -- What a process has heard, from its entries and its phase.
-use Rattle.std.proofs.Common.{◌≡◌, ◌≤◌, ◌<◌, ◌-◌, ◌+◌, ◌^◌, ℕ, Bool, true, false, zero, suc, Option, Some, None, List, [], ◌∷◌, length, refl, sym, ◌∙◌, ap, arith}
+use Rattle.std.proofs.Common.{◌≡◌, ◌≤◌, ◌<◌, ◌-◌, ◌^◌, ℕ, Bool, true, false, suc, Some, None, List, [], ◌∷◌, length, refl, sym, ◌∙◌, ap, arith}
 use Rattle.std.specs.Prelude.{All, nat_le}
 use Rattle.std.proofs.lemmas.Bool.Decides.{nat_tests}
 use Rattle.dom_history.specs.declared.op.Op.{Op}
-use Rattle.std.proofs.lemmas.List.Elements.{All-cons, All-nil, All-head, All-tail}
-use Rattle.dom_history.specs.declared.op.Reply.{Reply}
+use Rattle.std.proofs.lemmas.List.Elements.{All-cons, All-nil, All-head}
 use Rattle.dom_history.specs.declared.op.Want.{Want}
 use Rattle.dom_history.specs.declared.op.Want.TheVariants.{Do, Phase, Done}
 use Rattle.dom_history.specs.declared.op.Entry.{Entry}
 use Rattle.dom_history.specs.Follows.{Heard, Reaches, starts, answered, passed}
-use Rattle.script_runner.specs.Turns.{past_phases, heard_in, finished_before}
+use Rattle.script_runner.specs.Turns.{heard_in, finished_before}
 use Rattle.script_runner.specs.Rounds.{IsFinite, IsCounting}
 
 module _ (ask : Heard → Want) where

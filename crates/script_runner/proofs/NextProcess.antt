@@ -1,9 +1,8 @@
 -- The search for the process whose turn is next.
-use Rattle.std.proofs.Common.{◌≡◌, ◌≢◌, ◌<◌, ◌+◌, ℕ, Bool, true, false, Option, Some, None, List, refl, sym, arith, rules, below_more}
-use Rattle.std.specs.Prelude.{All, length, slice_index_or}
+use Rattle.std.proofs.Common.{◌≡◌, ◌≢◌, ◌<◌, ◌+◌, ℕ, true, false, Option, Some, None, List, sym, arith, below_more}
+use Rattle.std.specs.Prelude.{slice_index_or}
 use Rattle.dom_history.specs.declared.op.Want.TheVariants.{Done}
 use Rattle.script_runner.specs.declared.rounds.process.Process.{Process}
-use Rattle.script_runner.specs.Turns.{turn_lt}
 use Rattle.script_runner.specs.Rounds.{turn_at, is_first_in, ComesLater}
 use Rattle.script_runner.proofs.TurnOrder.{turn_lt-not_before, turn_lt-irrefl}
 

@@ -1,9 +1,9 @@
 -- What was served for a script is its one run, and the report is that of the run.
-use Rattle.std.proofs.Common.{◌≡◌, ◌≤◌, ◌<◌, ◌+◌, ◌^◌, ℕ, suc, Bool, true, false, Option, Some, None, List, [], ◌∷◌, length, map, refl, sym, ◌∙◌, ap, subst, arith, rules}
-use Rattle.std.specs.Prelude.{All, AllPairs, IsTrue, slice_index_or, if◌then◌else◌}
+use Rattle.std.proofs.Common.{◌≡◌, ◌≤◌, ◌<◌, ◌^◌, ℕ, suc, Bool, true, false, Option, Some, None, List, [], ◌∷◌, length, map, refl, sym, ◌∙◌, ap, subst, arith}
+use Rattle.std.specs.Prelude.{All, slice_index_or, if◌then◌else◌}
 use Rattle.std.proofs.lemmas.List.{get_or-map}
-use Rattle.std.proofs.lemmas.List.Elements.{All-cons, All-nil, All-map}
-use Rattle.uid_names.specs.Names.{ProcName, same_proc, proc_lt}
+use Rattle.std.proofs.lemmas.List.Elements.{All-cons, All-nil}
+use Rattle.uid_names.specs.Names.{ProcName, same_proc}
 use Rattle.uid_names.specs.Openings.{Start}
 use Rattle.dom_history.specs.declared.deed.Deed.{Deed}
 use Rattle.dom_history.specs.declared.op.Want.{Want}
@@ -11,7 +11,6 @@ use Rattle.dom_history.specs.declared.op.Want.TheVariants.{Phase, Done}
 use Rattle.dom_history.specs.Histories.{History, entries}
 use Rattle.dom_history.specs.Follows.{Heard, Reaches, entries_of, IsDoneAt}
 use Rattle.dom_history.specs.Programs.{program_after}
-use Rattle.script_reader.specs.declared.script.CommandRow.{CommandRow}
 use Rattle.script_reader.specs.Scripts.{Content, IsContent}
 use Rattle.aegis_shell.specs.Asking.{ask, answers}
 use Rattle.aegis_shell.specs.Playing.{Shelled, fresh_shell, shell_after}
@@ -20,7 +19,7 @@ use Rattle.script_runner.specs.Turns.{heard_in}
 use Rattle.script_runner.specs.Processes.{processes_of}
 use Rattle.script_runner.specs.Rounds.{IsRunInRounds, IsFresh, AreListed, AreServed, HasHeardAll, program_of, asked, asks_of, finished_by, counts_of}
 use Rattle.script_runner.specs.Beginnings.{process_of}
-use Rattle.script_runner.specs.Reports.{Answered, lines_of, report, counts, IsRunOf, IsReportOf}
+use Rattle.script_runner.specs.Reports.{Answered, lines_of, counts, IsRunOf, IsReportOf}
 use Rattle.script_runner.proofs.HeardSoFar.{heard_in-reached}
 use Rattle.script_runner.proofs.Listed.{program_of-cases}
 use Rattle.script_runner.proofs.OneRun.{settled}

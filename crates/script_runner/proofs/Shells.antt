@@ -1,27 +1,21 @@
 -- What the shells of a script's processes are as programs.
-use Rattle.std.proofs.Common.{◌≡◌, ◌≤◌, ◌<◌, ◌+◌, ◌^◌, ◌*◌, ℕ, Bool, true, false, Option, Some, None, List, [], ◌∷◌, ◌++◌, length, map, refl, sym, ◌∙◌, ap, subst, arith, rules}
+use Rattle.std.proofs.Common.{◌≡◌, ◌≤◌, ◌+◌, ◌*◌, ℕ, Bool, true, false, Option, Some, List, [], ◌∷◌, length, map, refl, ap, arith}
 use Rattle.std.specs.Prelude.{All, filter, reverse, if◌then◌else◌}
-use Rattle.std.proofs.lemmas.List.{reverse-append, length-reverse}
-use Rattle.std.proofs.lemmas.List.Elements.{All-cons, All-nil, All-head, All-tail}
+use Rattle.std.proofs.lemmas.List.Elements.{All-head, All-tail}
 use Rattle.uid_names.specs.Names.{ProcName, same_proc}
 use Rattle.dom_history.specs.declared.op.Reply.{Reply}
 use Rattle.dom_history.specs.declared.op.Want.{Want}
-use Rattle.dom_history.specs.declared.op.Want.TheVariants.{Do, Phase, Done}
-use Rattle.dom_history.specs.declared.op.Entry.{Entry}
-use Rattle.dom_history.specs.Fitting.{Fits}
-use Rattle.dom_history.specs.Follows.{Heard, Reaches, starts, answered as answered_by, passed}
-use Rattle.dom_history.specs.Programs.{heard_with, program_after, FitsWant}
+use Rattle.dom_history.specs.declared.op.Want.TheVariants.{Done}
+use Rattle.dom_history.specs.Follows.{Heard}
+use Rattle.dom_history.specs.Programs.{program_after}
 use Rattle.script_reader.specs.declared.script.CommandRow.{CommandRow}
-use Rattle.script_reader.specs.Scripts.{Content, IsContent, IsCommandRow}
-use Rattle.aegis_shell.specs.declared.work.Job.{Job}
-use Rattle.aegis_shell.specs.Bound.{Bound, unbound, declare}
+use Rattle.script_reader.specs.Scripts.{Content, IsContent}
+use Rattle.aegis_shell.specs.Bound.{unbound, declare}
 use Rattle.aegis_shell.specs.Work.{Part, part_of, jobs_of, job_of}
-use Rattle.aegis_shell.specs.Asking.{Told, Reached, reach, reached, ask, answers}
+use Rattle.aegis_shell.specs.Asking.{reach, reached, ask, answers}
 use Rattle.aegis_shell.specs.Playing.{Shelled, fresh_shell, shell_after}
-use Rattle.script_runner.specs.declared.rounds.process.Process.{Process}
-use Rattle.script_runner.specs.Rounds.{IsFinite, IsCounting, IsFresh, program_of, asked, asks_of, finished_by, counts_of}
+use Rattle.script_runner.specs.Rounds.{IsFinite, IsCounting, IsFresh}
 use Rattle.script_runner.specs.Beginnings.{process_of}
-use Rattle.script_runner.specs.Reports.{counts}
 
 -- a shell as a program
 abbrev pub shell_ask : Shelled → Heard → Want

@@ -1,6 +1,6 @@
 -- Words that are taken, and sources that are too long.
-use Rattle.std.proofs.Common.{◌≡◌, ◌≤◌, ◌<◌, ◌+◌, ℕ, zero, suc, Bool, true, Option, Some, None, List, [], ◌∷◌, length, get_or, refl, sym, ◌∙◌, ap, subst, arith, rules, inl, inr, ◌⊎◌}
-use Rattle.std.specs.Prelude.{IsTrue, IsSome, codes, ◌↔◌, is_some}
+use Rattle.std.proofs.Common.{◌≡◌, ◌≤◌, ◌<◌, ℕ, zero, suc, Bool, Option, Some, None, List, [], ◌∷◌, length, get_or, refl, sym, ◌∙◌, ap, subst, arith, rules, inl, inr}
+use Rattle.std.specs.Prelude.{IsTrue, IsSome, codes, ◌↔◌}
 use Rattle.dom_io.specs.Known.{Exceeds}
 use Rattle.dom_text.specs.Numbers.{number_of}
 use Rattle.script_reader.specs.declared.cause.Cause.{Cause}
@@ -9,7 +9,7 @@ use Rattle.script_reader.specs.Scripts.{Content}
 use Rattle.script_reader.specs.Grammar.{IsScript, IsBad}
 use Rattle.script_runner.specs.declared.domain.Due.{Due}
 use Rattle.script_runner.specs.declared.domain.Due.TheVariants.{Refusal}
-use Rattle.script_runner.specs.Domain.{AreTurns, IsTaken, AreLeft, IsBadSource, IsRefusalOfSource}
+use Rattle.script_runner.specs.Domain.{IsTaken, AreLeft, IsBadSource, IsRefusalOfSource}
 use Rattle.script_runner.specs.DueTexts.{IsDueText}
 
 -- a list of three elements

@@ -1,11 +1,10 @@
 -- How far the serving of processes has come.
-use Rattle.std.proofs.Common.{◌≡◌, ◌≢◌, ◌≤◌, ◌<◌, ◌+◌, ◌*◌, ◌-◌, ◌^◌, ℕ, suc, Bool, true, false, Option, Some, None, List, [], ◌∷◌, length, refl, sym, ◌∙◌, ap, subst, arith, rules, inl, inr, ◌⊎◌, set}
-use Rattle.std.specs.Prelude.{All, IsTrue, is_some, sum_by, slice_index_or, map}
+use Rattle.std.proofs.Common.{◌≡◌, ◌≢◌, ◌≤◌, ◌<◌, ◌+◌, ◌*◌, ◌^◌, ℕ, Bool, true, false, Option, Some, None, List, [], ◌∷◌, length, refl, sym, ◌∙◌, ap, subst, arith, inl, inr, ◌⊎◌, set}
+use Rattle.std.specs.Prelude.{All, is_some, sum_by, slice_index_or}
 use Rattle.std.proofs.lemmas.Bool.{cases_order}
 use Rattle.std.proofs.lemmas.List.{get_or_default, get_or-set_same, get_or-set_other, length-set}
 use Rattle.std.proofs.lemmas.List.Sums.{sum_by-set, sum_by-le}
 use Rattle.std.proofs.lemmas.List.Elements.{All-cons, All-nil, All-head, All-tail}
-use Rattle.std.proofs.lemmas.Bool.Decides.{nat_tests}
 use Rattle.uid_names.specs.Names.{ProcName, same_proc}
 use Rattle.uid_names.specs.Openings.{Start}
 use Rattle.dom_history.specs.declared.op.Op.{Op}
@@ -13,19 +12,18 @@ use Rattle.dom_history.specs.declared.op.Reply.{Reply}
 use Rattle.dom_history.specs.declared.op.Want.{Want}
 use Rattle.dom_history.specs.declared.op.Want.TheVariants.{Do, Phase, Done}
 use Rattle.dom_history.specs.declared.op.Entry.{Entry}
-use Rattle.dom_history.specs.Histories.{Answered, told, entries}
+use Rattle.dom_history.specs.Histories.{told, entries}
 use Rattle.dom_history.specs.Follows.{Heard, starts, entries_of, IsDoneAt, IsPhased}
 use Rattle.dom_history.specs.Plain.{Plain}
-use Rattle.dom_history.specs.Programs.{heard_with}
 use Rattle.dom_history.specs.Replies.{before_of, reply_of}
 use Rattle.dom_history.specs.Runs.{AreAnswered, AreTicked, IsPlainRun, history_of}
 use Rattle.script_runner.specs.declared.rounds.process.Process.{Process}
 use Rattle.script_runner.specs.declared.rounds.turn.Turn.{Turn}
 use Rattle.script_runner.specs.Turns.{turn_lt, turn_of, turns, AreOrdered}
-use Rattle.script_runner.specs.Steps.{IsTold, IsServedOp, Steps, IsWanted}
-use Rattle.script_runner.specs.Rounds.{program_of, asked, asks_of, counts_of, finished_by, turn_at, HasTurn, ComesLater, IsNext, IsFresh, AreListed, HasHeardAll, AreServed, IsRunInRounds}
+use Rattle.script_runner.specs.Steps.{IsTold, IsServedOp, Steps}
+use Rattle.script_runner.specs.Rounds.{program_of, asked, asks_of, counts_of, finished_by, turn_at, HasTurn, ComesLater, IsNext, IsFresh, AreListed, HasHeardAll, AreServed}
 use Rattle.script_runner.proofs.TurnOrder.{phase_not_above}
-use Rattle.script_runner.proofs.Listed.{same_proc-refl, proc_from_same, listed_apart, program_of-cases, program_of-listed}
+use Rattle.script_runner.proofs.Listed.{proc_from_same, listed_apart, program_of-cases, program_of-listed}
 use Rattle.script_runner.proofs.Standing.{Stands, entry_of, calls_of, calls_of-more, stands_fresh, stands_turn, stands_calls, stands_served, stands_passed, stands_other, stands_turn_of, stands_done}
 
 do_not_done : (op : Op) → Do op ≡ Done → ⊥

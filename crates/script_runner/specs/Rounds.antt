@@ -1,5 +1,5 @@
 -- Several processes on one store, served in rounds until all are done.
-use Rattle.std.specs.Prelude.{ℕ, ◌≡◌, ◌≢◌, ◌≤◌, ◌<◌, ◌-◌, ◌^◌, Bool, true, false, is_some, IsTrue, if◌then◌else◌, Option, Some, None, List, [], ◌∷◌, All, AllPairs, length, slice_index_or}
+use Rattle.std.specs.Prelude.{ℕ, ◌≡◌, ◌≢◌, ◌≤◌, ◌<◌, ◌-◌, ◌^◌, Bool, true, false, IsTrue, if◌then◌else◌, Option, Some, None, List, [], ◌∷◌, All, AllPairs, length, slice_index_or}
 use Rattle.uid_names.specs.Names.{ProcName, same_proc, proc_lt}
 use Rattle.uid_names.specs.Openings.{Start}
 use Rattle.dom_history.specs.declared.op.Reply.{Reply}

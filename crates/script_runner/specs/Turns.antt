@@ -1,5 +1,5 @@
 -- The order in which one store serves processes: within a phase in rounds, in a round one command of each process.
-use Rattle.std.specs.Prelude.{ℕ, zero, suc, ◌≡◌, ◌-◌, ◌==◌, ◌&&◌, ◌||◌, nat_lt, Bool, false, Option, Some, None, List, [], ◌∷◌, All}
+use Rattle.std.specs.Prelude.{ℕ, zero, suc, ◌≡◌, ◌-◌, ◌==◌, ◌&&◌, ◌||◌, nat_lt, Bool, false, Some, None, List, [], ◌∷◌, All}
 use Rattle.uid_names.specs.Names.{ProcName, proc_lt}
 use Rattle.dom_history.specs.declared.op.Entry.{Entry}
 use Rattle.dom_history.specs.Follows.{Heard, entries_of}

@@ -1,5 +1,5 @@
 //! The program: from its words and a script's bytes to the report.
-ghost use Rattle.std.specs.Prelude.{◌≡◌, ◌≢◌, ◌⊎◌, ◌↔◌, ℕ, List, [], ◌∷◌, map, string_bytes, Contains, IsTrue, IsSome, IfOk, IsErrOf, Some, codes};
+ghost use Rattle.std.specs.Prelude.{◌≡◌, ◌⊎◌, ◌↔◌, ℕ, List, map, string_bytes, IsTrue, IsSome, IfOk, IsErrOf, Some, codes};
 ghost use Rattle.dom_io.specs.Counts.{CountRose};
 ghost use Rattle.dom_io.specs.Known.{TakesAtMost, AppendsPrefix};
 ghost use Rattle.script_reader.specs.declared.cause.Cause.{Cause};

@@ -7,5 +7,7 @@ mod processes;
 mod report;
 mod rounds;
 mod run;
+#[cfg(test)]
+mod tests;
 
 pub use domain::run_domain;

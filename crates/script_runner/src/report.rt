@@ -1,5 +1,5 @@
 //! How answers are written in a report.
-ghost use Rattle.std.specs.Prelude.{◌≡◌, ◌++◌, ℕ, List, map, IfOk, OnOk};
+ghost use Rattle.std.specs.Prelude.{◌≡◌, ◌++◌, map, IfOk, OnOk};
 ghost use Rattle.script_runner.specs.Reports.{process_text, report_line, report_lines, lines_of};
 ghost use Rattle.aegis_shell.specs.AnswerTexts.{node_name};
 

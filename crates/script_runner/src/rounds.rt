@@ -2,7 +2,7 @@
 pub mod process;
 pub mod turn;
 
-ghost use Rattle.std.specs.Prelude.{◌≡◌, ◌≢◌, ◌≤◌, ◌<◌, ◌^◌, [], None, length, All, IfSome, OnOk};
+ghost use Rattle.std.specs.Prelude.{◌≡◌, ◌≤◌, ◌<◌, ◌^◌, [], None, length, All, IfSome, OnOk};
 ghost use Rattle.std.specs.Option.{ForSome};
 ghost use Rattle.dom_history.specs.declared.op.Want.TheVariants.{Done};
 ghost use Rattle.script_runner.specs.Rounds.{HasTurn, IsNext, IsFresh, AreListed, AreServed, is_first_in};

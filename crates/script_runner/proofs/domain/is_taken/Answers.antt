@@ -1,4 +1,4 @@
-use Rattle.std.proofs.Common.{◌≡◌, [], ◌∷◌, ap, map, string_bytes, codes, rules}
+use Rattle.std.proofs.Common.{◌≡◌, [], ◌∷◌, ap, map, string_bytes, rules}
 use Rattle.std.specs.Prelude.{IsTrue}
 use Rattle.script_runner.proofs.Sourced.{three_are, taken_turns}
 use Rattle.script_runner.proofs.domain.is_taken.Goals as goal

@@ -1,4 +1,4 @@
-use Rattle.std.proofs.Common.{◌≡◌, ◌≢◌, ◌∙◌, ap, refl, arith, length}
+use Rattle.std.proofs.Common.{◌≢◌, ◌∙◌, ap, refl, arith, length}
 use Rattle.std.specs.Prelude.{slice_index_or}
 use Rattle.std.proofs.lemmas.List.{get_or_read_under}
 use Rattle.dom_history.specs.declared.op.Want.TheVariants.{Done}

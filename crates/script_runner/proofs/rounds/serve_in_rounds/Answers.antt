@@ -1,4 +1,4 @@
-use Rattle.std.proofs.Common.{◌≡◌, ◌<◌, ◌≤◌, ◌+◌, ◌-◌, ◌*◌, ◌^◌, ℕ, set, ◌∙◌, sym, ap, refl, arith, length, slice_index_or}
+use Rattle.std.proofs.Common.{◌≡◌, ◌<◌, ◌≤◌, ◌+◌, ◌-◌, ◌*◌, ◌^◌, ℕ, set, refl, arith, length, slice_index_or}
 use Rattle.std.proofs.lemmas.List.{get_or_default, length-set}
 use Rattle.script_runner.proofs.Standing.{stands_phase}
 use Rattle.script_runner.specs.Turns.{turns}

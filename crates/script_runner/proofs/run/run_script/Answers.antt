@@ -1,7 +1,5 @@
-use Rattle.std.proofs.Common.{◌≡◌, ◌∙◌, ◌++◌, ℕ, List, ap, sym, map, take, drop, length}
+use Rattle.std.proofs.Common.{◌≡◌, ◌∙◌, ◌++◌, ℕ, List, ap, sym, take, drop, length}
 use Rattle.std.proofs.Math.Seq.{take-append_seam}
-use Rattle.script_runner.specs.Processes.{processes_of}
-use Rattle.script_runner.specs.Beginnings.{process_of}
 use Rattle.script_runner.proofs.Reported.{beginning_fresh, beginning_listed, beginning_few, reported}
 use Rattle.script_runner.proofs.run.run_script.Goals as goal
 
