@@ -1,15 +1,15 @@
 -- A number that was decided is not decided again.
-use Rattle.std.proofs.Common.{◌≡◌, ℕ, ◌==◌, List, ◌∙◌, ap, sym, refl, arith}
-use Rattle.std.specs.Prelude.{Bool, true, false, ◌&&◌, nat_lt, if◌then◌else◌, Option, Some}
+use Rattle.std.proofs.Common.{◌≡◌, ℕ, List, ◌∙◌, ap, refl, arith}
+use Rattle.std.specs.Prelude.{true, Option, Some}
 use Rattle.std.proofs.lemmas.Bool.Decides.{nat_tests}
 use Rattle.uid_names.specs.Names.{ProcName, same_proc}
 use Rattle.call_once.specs.declared.served.Looked.{Looked}
 use Rattle.call_once.specs.declared.served.Looked.TheVariants.{Fresh, Again}
-use Rattle.call_once.specs.Calls.{Call, call_of, body_of, body_in, number_in, last_of, looked, with_call}
+use Rattle.call_once.specs.Calls.{Call, call_of, body_in, number_in, last_of, looked, with_call}
 use Rattle.call_once.proofs.KeptCalls.{call_of-with_call}
 use Rattle.ring_messages.specs.Bodies.{Ask, Answer}
 use Rattle.page_server.specs.Decisions.{Decision, decide}
-use Rattle.page_server.specs.Serving.{HomeSide, Serving, kept, serve_as, serve_of}
+use Rattle.page_server.specs.Serving.{HomeSide, kept, serve_as, serve_of}
 
 same-itself : (p : ProcName) → same_proc p p ≡ true
 same-itself p = grind (arith, nat_tests)

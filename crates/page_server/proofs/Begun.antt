@@ -1,5 +1,5 @@
 -- A home that was made is one that no request has reached.
-use Rattle.std.proofs.Common.{◌≡◌, ℕ, ◌≤◌, List, [], ◌∷◌, refl, arith}
+use Rattle.std.proofs.Common.{◌≡◌, ℕ, ◌≤◌, List, [], ◌∷◌, arith}
 use Rattle.std.specs.Prelude.{map}
 use Rattle.uid_names.specs.Beginnings.{entry_directory}
 use Rattle.uid_names.specs.declared.opening.Object.{Object}

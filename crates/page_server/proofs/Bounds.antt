@@ -4,7 +4,6 @@ use Rattle.std.specs.Prelude.{Bool, true, false, if◌then◌else◌, IsTrue, Op
 use Rattle.uid_names.specs.Names.{ProcName, ObjectName}
 use Rattle.uid_names.specs.declared.lists.LockRow.{LockRow}
 use Rattle.uid_names.specs.declared.mode.ObjKind.{ObjKind}
-use Rattle.object_store.specs.declared.attributes.ObjectRow.{ObjectRow}
 use Rattle.object_store.specs.declared.attributes.Attr.{Attr}
 use Rattle.object_store.specs.Objects.{stamped, resized, with_change, without_row}
 use Rattle.object_store.specs.HomeStates.{HomeState, next_row, after_make, after_remove, after_page, after_length}
@@ -15,7 +14,6 @@ use Rattle.ring_messages.specs.Bodies.{Ask, Answer, ask_of, is_request}
 use Rattle.ring_messages.specs.declared.body.Body.{Body}
 use Rattle.ring_messages.specs.declared.body.Body.TheVariants as bodies
 use Rattle.page_server.specs.Decisions.{Decision, decide}
-use Rattle.page_server.specs.Serving.{HomeSide}
 use Rattle.page_server.specs.ServerStates.{ServerState, AreStampedTo, IsServer}
 use Rattle.page_server.proofs.Stamps.{AreStampedTo-weaker, AreStampedTo-push, AreStampedTo-without_row, AreStampedTo-with_change}
 

@@ -1,5 +1,5 @@
 -- Counters and grants are given once.
-use Rattle.std.proofs.Common.{◌≡◌, ℕ, ◌+◌, ◌<◌, ◌≤◌, ◌==◌, List, ap, refl, subst, arith}
+use Rattle.std.proofs.Common.{◌≡◌, ℕ, ◌+◌, ◌<◌, ◌≤◌, List, ap, refl, subst, arith}
 use Rattle.std.specs.Prelude.{Bool, true, false, ◌&&◌, if◌then◌else◌, nat_le, Option, Some, None, is_some, is_none}
 use Rattle.uid_names.specs.Names.{ProcName, ObjectName}
 use Rattle.uid_names.specs.declared.mode.Mode.{Mode}
@@ -7,12 +7,11 @@ use Rattle.uid_names.specs.declared.mode.ObjKind.{ObjKind}
 use Rattle.object_store.specs.declared.attributes.Attr.{Attr}
 use Rattle.uid_names.specs.declared.opening.TheConstants.{VOLUME_ROOM}
 use Rattle.object_store.specs.Objects.{rooms}
-use Rattle.object_store.specs.Rules.{has_page, has_length, stamp_of}
 use Rattle.object_store.specs.HomeStates.{HomeState, attr_of, after_make, after_remove, after_page, after_length}
-use Rattle.lock_manager.specs.Grants.{grant_of, conflict_of}
+use Rattle.lock_manager.specs.Grants.{conflict_of}
 use Rattle.lock_manager.specs.Tables.{Table, with_grant, without_object}
 use Rattle.ring_messages.specs.Bodies.{Ask, Answer}
-use Rattle.page_server.specs.Decisions.{decide, page_answer, write_answer, lock_answer, remove_answer, make_answer, holds_write, is_granted}
+use Rattle.page_server.specs.Decisions.{decide, page_answer, write_answer, lock_answer, remove_answer, make_answer}
 
 -- a number that an answer gives, 0 for none
 abbrev counter_in : Answer → ℕ

@@ -1,6 +1,6 @@
 -- The rows of a list are in their ranges.
-use Rattle.std.proofs.Common.{◌≡◌, ℕ, ◌<◌, ◌≤◌, List, length, get_or, take, arith, min}
-use Rattle.std.specs.Prelude.{AllPairs, IsTrue, Option, Some, None, map}
+use Rattle.std.proofs.Common.{◌≡◌, ℕ, ◌<◌, List, length, take, arith, min}
+use Rattle.std.specs.Prelude.{AllPairs, IsTrue, Option}
 use Rattle.std.proofs.lemmas.List.{length-take, length-map, get_or-map, get_or-take}
 use Rattle.std.proofs.lemmas.List.Kept.{AllPairs-filter}
 use Rattle.uid_names.specs.Names.{ProcName, ObjectName}

@@ -1,6 +1,6 @@
 -- What is answered where a lock is refused.
-use Rattle.std.proofs.Common.{◌≡◌, ℕ, refl, rules}
-use Rattle.std.specs.Prelude.{◌↔◌, Option, Some, None, is_none, Result, Ok, Err, IfOk, OnOk, IsErr, if◌then◌else◌}
+use Rattle.std.proofs.Common.{◌≡◌, ℕ, refl}
+use Rattle.std.specs.Prelude.{◌↔◌, Option, Some, is_none, Result, Ok, Err, IfOk, OnOk, IsErr, if◌then◌else◌}
 use Rattle.std.proofs.lemmas.Result.{IfOk-from_err}
 use Rattle.uid_names.specs.Names.{ProcName}
 use Rattle.uid_names.specs.declared.mode.Mode.{Mode}

@@ -1,22 +1,20 @@
 -- Stamps never fall, and numbers are given once.
-use Rattle.std.proofs.Common.{◌≡◌, ℕ, ◌+◌, ◌<◌, ◌≤◌, ◌==◌, List, [], ◌∷◌, ◌++◌, ◌∙◌, ap, sym, refl, subst, arith}
-use Rattle.std.specs.Prelude.{Bool, true, false, ◌&&◌, if◌then◌else◌, nat_le, Option, Some, None, is_some, is_none, IsSome, IfSome}
+use Rattle.std.proofs.Common.{◌≡◌, ℕ, ◌+◌, ◌≤◌, ◌==◌, List, [], ◌∷◌, ◌++◌, ◌∙◌, ap, sym, refl, subst, arith}
+use Rattle.std.specs.Prelude.{Bool, true, false, if◌then◌else◌, Option, Some, None, IsSome, IfSome}
 use Rattle.std.specs.Option.{option_map}
 use Rattle.uid_names.specs.Names.{ProcName, ObjectName}
-use Rattle.uid_names.specs.declared.mode.Mode.{Mode}
 use Rattle.uid_names.specs.declared.mode.ObjKind.{ObjKind}
 use Rattle.object_store.specs.declared.attributes.Attr.{Attr}
 use Rattle.object_store.specs.declared.attributes.ObjectRow.{ObjectRow}
 use Rattle.object_store.specs.Objects.{attr_at, changed_if, stamped, resized, with_change, without_row}
 use Rattle.object_store.specs.HomeStates.{HomeState, attr_of, next_row, after_make, after_remove, after_page, after_length}
 use Rattle.object_store.proofs.RowLemmas.{attr_at-with_change, attr_at-without_row}
-use Rattle.lock_manager.specs.Grants.{conflict_of}
-use Rattle.lock_manager.specs.Tables.{Table, with_grant}
+use Rattle.lock_manager.specs.Tables.{Table}
 use Rattle.call_once.specs.declared.served.Looked.{Looked}
 use Rattle.call_once.specs.declared.served.Looked.TheVariants.{Fresh, Again, Old}
 use Rattle.call_once.specs.Calls.{looked, last_of}
-use Rattle.ring_messages.specs.Bodies.{Ask, Answer}
-use Rattle.page_server.specs.Decisions.{decide, write_answer, lock_answer, make_answer, page_answer, remove_answer}
+use Rattle.ring_messages.specs.Bodies.{Ask}
+use Rattle.page_server.specs.Decisions.{decide}
 use Rattle.page_server.specs.Serving.{HomeSide, serve_as, serve_of}
 
 -- the stamp of the object with this counter did not fall

@@ -1,6 +1,6 @@
 -- How high the stamps of a home are.
-use Rattle.std.proofs.Common.{◌≡◌, ℕ, ◌+◌, ◌<◌, ◌≤◌, ◌==◌, List, [], ◌∷◌, ◌++◌, subst, arith}
-use Rattle.std.specs.Prelude.{Bool, true, false, not, filter, if◌then◌else◌, Option, Some, None}
+use Rattle.std.proofs.Common.{◌≡◌, ℕ, ◌+◌, ◌≤◌, ◌==◌, List, [], ◌∷◌, ◌++◌, subst, arith}
+use Rattle.std.specs.Prelude.{Bool, true, false, not, if◌then◌else◌, Some, None}
 use Rattle.uid_names.specs.Names.{ObjectName}
 use Rattle.object_store.specs.declared.attributes.Attr.{Attr}
 use Rattle.object_store.specs.declared.attributes.ObjectRow.{ObjectRow}

@@ -2,14 +2,12 @@
 use Rattle.std.proofs.Common.{◌≡◌, ℕ, ◌+◌, List, ◌∙◌, ap, refl}
 use Rattle.std.specs.Prelude.{Bool, true, false, ◌&&◌, if◌then◌else◌, IsTrue, Option, Some, None, is_some, is_none}
 use Rattle.uid_names.specs.Names.{ProcName, ObjectName, same_proc}
-use Rattle.uid_names.specs.declared.lists.LockRow.{LockRow}
 use Rattle.uid_names.specs.declared.mode.Mode.{Mode}
 use Rattle.object_store.specs.declared.attributes.Attr.{Attr}
-use Rattle.object_store.specs.Objects.{rooms}
-use Rattle.object_store.specs.Rules.{has_page, has_length, stamp_of}
+use Rattle.object_store.specs.Rules.{stamp_of}
 use Rattle.object_store.specs.HomeStates.{HomeState, attr_of}
 use Rattle.lock_manager.specs.Grants.{grant_of, conflict_of}
-use Rattle.lock_manager.specs.Tables.{Table, with_grant, without_grant}
+use Rattle.lock_manager.specs.Tables.{Table, with_grant}
 use Rattle.lock_manager.proofs.LookUps.{grant_of-with, grant_of-without}
 use Rattle.call_once.specs.declared.served.Looked.{Looked}
 use Rattle.call_once.specs.declared.served.Looked.TheVariants.{Fresh, Again, Old}
@@ -18,7 +16,7 @@ use Rattle.call_once.proofs.KeptCalls.{call_of-with_call}
 use Rattle.ring_messages.specs.Bodies.{Ask, Answer}
 use Rattle.page_server.specs.Decisions.{Decision, decide, write_answer, lock_answer, remove_answer, make_answer, holds_write}
 use Rattle.page_server.specs.Outcomes.{is_refusal, is_remove}
-use Rattle.page_server.specs.Serving.{HomeSide, Serving, serve_as, serve_of}
+use Rattle.page_server.specs.Serving.{HomeSide, serve_as, serve_of}
 
 -- a write that is refused changes nothing
 write-refused : (there granted current : Bool) (stamp : ℕ) (home after : HomeState) → IsTrue (is_refusal (write_answer there granted current stamp))

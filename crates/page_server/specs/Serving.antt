@@ -1,6 +1,5 @@
 -- What a home does at a request: a number is decided once, and answered the same again.
 use Rattle.std.specs.Prelude.{ℕ, List, [], Option, Some, None}
-use Rattle.std.specs.Option.{option_map}
 use Rattle.uid_names.specs.Names.{ProcName}
 use Rattle.object_store.specs.HomeStates.{HomeState}
 use Rattle.lock_manager.specs.Tables.{Table}

@@ -5,5 +5,7 @@ mod answers;
 pub mod laws;
 mod requests;
 pub mod server;
+#[cfg(test)]
+mod tests;
 
 pub use server::PageServer;
