@@ -1,0 +1,9 @@
+pub mod KindNames
+pub mod Drops
+pub mod TwoNames
+pub mod Plain
+pub mod Splits
+pub mod Fields
+pub mod Parts
+pub mod Doings
+pub mod Events

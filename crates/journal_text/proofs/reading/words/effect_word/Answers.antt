@@ -1,0 +1,5 @@
+use Rattle.journal_text.proofs.Fields.{effect_word-looked_up}
+use Rattle.journal_text.proofs.reading.words.effect_word.Goals as goal
+
+pub returns-clause-value : goal.returns-clause-value
+returns-clause-value c = effect_word-looked_up c.from_word.result c.args.word.now c.from_word.ensures
