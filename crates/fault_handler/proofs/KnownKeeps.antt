@@ -1,0 +1,143 @@
+-- What is known of objects, and the stamps that were seen: each change of them keeps what each desk keeps.
+use Rattle.std.proofs.Common.{◌≡◌, ℕ, ◌≤◌, Bool, true, false, List, Option, Some, None, IfSome, IsSome, nat_lt, refl, sym, subst, ◌∙◌, arith}
+use Rattle.std.specs.Prelude.{◌==◌, if◌then◌else◌}
+use Rattle.std.proofs.lemmas.Bool.Decides.{nat_tests}
+use Rattle.uid_names.specs.Names.{ObjectName, same_uid}
+use Rattle.page_cache.proofs.ListLemmas.{by_cases}
+use Rattle.page_cache.proofs.SlotLemmas.{same_uid-true}
+use Rattle.page_cache.proofs.CacheLemmas.{none_is_no_some}
+use Rattle.version_stamps.specs.declared.stamps.Stamp.{Stamp}
+use Rattle.version_stamps.specs.Stamps.{stamp_of, with_stamp, without_stamp, raised}
+use Rattle.version_stamps.proofs.LookUps.{stamp_of-with_stamp, stamp_of-without_stamp}
+use Rattle.fault_handler.specs.declared.entries.Entry.{Entry}
+use Rattle.fault_handler.specs.declared.lengths.Known.{Known}
+use Rattle.fault_handler.specs.Lengths.{known_of, with_known, known_after, grown, sent_length}
+use Rattle.fault_handler.specs.Entries.{keeps}
+use Rattle.fault_handler.specs.Desks.{DeskState, entry_at, any_keeps}
+use Rattle.fault_handler.specs.Changes.{with_end, with_sent_length, with_known_row, with_seen, with_raised, with_forgotten}
+use Rattle.fault_handler.specs.Kept.{IsKnown, AreKnown, IsDesk}
+use Rattle.fault_handler.proofs.Fours.{any-at}
+use Rattle.fault_handler.proofs.KnownRows.{known_of-with_known}
+
+-- other rows and stamps
+pub IsDesk-known : (d : DeskState) (seen : List Stamp) (known : List Known) → IsDesk d → AreKnown seen known d.entries → IsDesk (record d { seen = seen; known = known })
+IsDesk-known d seen known is new = record {
+  four = record { entries = is.four.entries; maps = is.four.maps; calls = is.four.calls; tasks = is.four.tasks; moving = is.four.moving };
+  frames = is.frames;
+  maps = is.maps;
+  pages = is.pages;
+  moved = is.moved;
+  calls = is.calls;
+  entries = is.entries;
+  known = new;
+}
+
+-- what holds of the row that was chosen
+chosen : {A : Type 0} (P : Option A → Type 0) (b : Bool) (new : A) (o : Option A) → P (Some new) → P o → P (if b then Some new else o)
+chosen P true new o here there = here
+chosen P false new o here there = there
+
+module _ (seen : List Stamp) (known : List Known) (entries : List (List Entry)) (are : AreKnown seen known entries) where
+  -- a row was set
+  pub AreKnown-row : (row : Known) → IsKnown row → AreKnown seen (with_known row known) entries
+  AreKnown-row row is = record {
+    rows = λ u. subst (λ (o : Option Known). IfSome o IsKnown) (sym (known_of-with_known row known u)) (chosen (λ (o : Option Known). IfSome o IsKnown) (same_uid u row.uid) row (known_of u known) is (are.rows u));
+    stamps = are.stamps;
+    kept = are.kept;
+    both = λ u some. subst (λ (o : Option Known). IsSome o) (sym (known_of-with_known row known u)) (chosen (λ (o : Option Known). IsSome o) (same_uid u row.uid) row (known_of u known) refl (are.both u some));
+  }
+
+  -- a row was changed, where it was there
+  pub AreKnown-after : (change : Known → Known) → ((k : Known) → IsKnown k → IsKnown (change k)) → (o : Option Known) → IfSome o IsKnown → AreKnown seen (known_after change o known) entries
+  AreKnown-after change after None is = are
+  AreKnown-after change after (Some k) is = AreKnown-row (change k) (after k is)
+
+  -- a stamp was set, of an object of which a row is there
+  pub AreKnown-stamp : (u : ObjectName) (stamp : ℕ) → 1 ≤ stamp → IsSome (known_of u known) → AreKnown (with_stamp (record { uid = u; stamp = stamp }) seen) known entries
+  AreKnown-stamp u stamp least row = record {
+    rows = are.rows;
+    stamps = λ v. subst (λ (o : Option ℕ). IfSome o (λ s. 1 ≤ s)) (sym (after v)) (chosen (λ (o : Option ℕ). IfSome o (λ s. 1 ≤ s)) (same_uid v u) stamp (stamp_of v seen) least (are.stamps v));
+    kept = λ q proc v keeping. subst (λ (o : Option ℕ). IsSome o) (sym (after v)) (chosen (λ (o : Option ℕ). IsSome o) (same_uid v u) stamp (stamp_of v seen) refl (are.kept q proc v keeping));
+    both = λ v. by_cases (same_uid v u) (IsSome (stamp_of v (with_stamp (record { uid = u; stamp = stamp }) seen)) → IsSome (known_of v known))
+        (λ same some. subst (λ (w : ObjectName). IsSome (known_of w known)) (sym (same_uid-true v u same)) row)
+        (λ differ some. are.both v (rw differ at (subst (λ (o : Option ℕ). IsSome o) (after v) some)));
+  }
+    where
+      after : (v : ObjectName) → stamp_of v (with_stamp (record { uid = u; stamp = stamp }) seen) ≡ (if same_uid v u then Some stamp else stamp_of v seen)
+      after v = stamp_of-with_stamp (record { uid = u; stamp = stamp }) seen v
+
+  -- a stamp was forgotten, of an object that no process keeps
+  pub AreKnown-forgotten : (u : ObjectName) → any_keeps entries u ≡ false → AreKnown (without_stamp u seen) known entries
+  AreKnown-forgotten u none = record {
+    rows = are.rows;
+    stamps = λ v. by_cases (same_uid v u) (IfSome (stamp_of v (without_stamp u seen)) (λ s. 1 ≤ s)) (λ same. subst (λ (o : Option ℕ). IfSome o (λ s. 1 ≤ s)) (sym (gone v same)) tt) (λ differ. subst (λ (o : Option ℕ). IfSome o (λ s. 1 ≤ s)) (sym (left v differ)) (are.stamps v));
+    kept = λ q proc v keeping. by_cases (same_uid v u) (IsSome (stamp_of v (without_stamp u seen)))
+        (λ same. absurd (let there : any_keeps entries u ≡ true = any-at (λ r. keeps (entry_at entries r u)) q proc (subst (λ (w : ObjectName). keeps (entry_at entries q w) ≡ true) (same_uid-true v u same) keeping) in cc))
+        (λ differ. subst (λ (o : Option ℕ). IsSome o) (sym (left v differ)) (are.kept q proc v keeping));
+    both = λ v. by_cases (same_uid v u) (IsSome (stamp_of v (without_stamp u seen)) → IsSome (known_of v known))
+        (λ same some. absurd (none_is_no_some (stamp_of v (without_stamp u seen)) some (gone v same)))
+        (λ differ some. are.both v (subst (λ (o : Option ℕ). IsSome o) (left v differ) some));
+  }
+    where
+      gone : (v : ObjectName) → same_uid v u ≡ true → stamp_of v (without_stamp u seen) ≡ None
+      gone v same = stamp_of-without_stamp u seen v ∙ rw same refl
+
+      left : (v : ObjectName) → same_uid v u ≡ false → stamp_of v (without_stamp u seen) ≡ stamp_of v seen
+      left v differ = stamp_of-without_stamp u seen v ∙ rw differ refl
+
+-- the greater of a stamp and a known one is from 1
+pub raised-least : (stamp : ℕ) (o : Option ℕ) → 1 ≤ stamp → 1 ≤ raised stamp o
+raised-least stamp None least = least
+raised-least stamp (Some s) least = omega arith
+
+-- a row is a row after a store and after its length was sent
+IsKnown-grown : (end : ℕ) → end ≤ 1048576 → (k : Known) → IsKnown k → IsKnown (grown end k)
+IsKnown-grown end within k is =
+    by_cases
+    (nat_lt k.length end)
+    (IsKnown (grown end k))
+    (λ longer. rw longer (record { room_low = is.room_low; room_high = is.room_high; length = within }))
+    (λ h. rw h is)
+
+IsKnown-sent : (n : ℕ) (k : Known) → IsKnown k → IsKnown (sent_length n k)
+IsKnown-sent n k is =
+    by_cases
+    (k.length == n)
+    (IsKnown (sent_length n k))
+    (λ same. rw same (record { room_low = is.room_low; room_high = is.room_high; length = is.length }))
+    (λ h. rw h is)
+
+-- a store ended there
+pub IsDesk-with_end : (d : DeskState) (u : ObjectName) (end : ℕ) → IsDesk d → end ≤ 1048576 → IsDesk (with_end d u end)
+IsDesk-with_end d u end is within =
+    IsDesk-known d d.seen (known_after (grown end) (known_of u d.known) d.known) is
+    (AreKnown-after d.seen d.known d.entries is.known (grown end) (IsKnown-grown end within) (known_of u d.known) (is.known.rows u))
+
+-- the home took this length
+pub IsDesk-with_sent_length : (d : DeskState) (u : ObjectName) (n : ℕ) → IsDesk d → IsDesk (with_sent_length d u n)
+IsDesk-with_sent_length d u n is =
+    IsDesk-known d d.seen (known_after (sent_length n) (known_of u d.known) d.known) is
+    (AreKnown-after d.seen d.known d.entries is.known (sent_length n) (IsKnown-sent n) (known_of u d.known) (is.known.rows u))
+
+-- a row of what is known of an object was set
+pub IsDesk-with_known_row : (d : DeskState) (row : Known) → IsDesk d → IsKnown row → IsDesk (with_known_row d row)
+IsDesk-with_known_row d row is known = IsDesk-known d d.seen (with_known row d.known) is (AreKnown-row d.seen d.known d.entries is.known row known)
+
+-- a stamp was set, of an object of which the room and the length are known
+pub IsDesk-with_seen : (d : DeskState) (u : ObjectName) (stamp : ℕ) → IsDesk d → 1 ≤ stamp → IsSome (known_of u d.known) → IsDesk (with_seen d u stamp)
+IsDesk-with_seen d u stamp is least row =
+    IsDesk-known d (with_stamp (record { uid = u; stamp = stamp }) d.seen) d.known is (AreKnown-stamp d.seen d.known d.entries is.known u stamp least row)
+
+-- a stamp was set together with the room and the length
+pub IsDesk-learned : (d : DeskState) (row : Known) (stamp : ℕ) → IsDesk d → 1 ≤ stamp → IsKnown row → IsDesk (with_seen (with_known_row d row) row.uid stamp)
+IsDesk-learned d row stamp is least known =
+    IsDesk-with_seen (with_known_row d row) row.uid stamp (IsDesk-with_known_row d row is known) least
+    (subst (λ (o : Option Known). IsSome o) (sym (known_of-with_known row d.known row.uid)) (let own : same_uid row.uid row.uid ≡ true = grind (arith, nat_tests) in rw own refl))
+
+-- the seen stamp became the greater of both
+pub IsDesk-with_raised : (d : DeskState) (u : ObjectName) (stamp : ℕ) → IsDesk d → IsSome (stamp_of u d.seen) → 1 ≤ stamp → IsDesk (with_raised d u stamp)
+IsDesk-with_raised d u stamp is some least = IsDesk-with_seen d u (raised stamp (stamp_of u d.seen)) is (raised-least stamp (stamp_of u d.seen) least) (is.known.both u some)
+
+-- a stamp was forgotten, of an object that no process keeps
+pub IsDesk-with_forgotten : (d : DeskState) (u : ObjectName) → IsDesk d → any_keeps d.entries u ≡ false → IsDesk (with_forgotten d u)
+IsDesk-with_forgotten d u is none = IsDesk-known d (without_stamp u d.seen) d.known is (AreKnown-forgotten d.seen d.known d.entries is.known u none)

@@ -1,0 +1,10 @@
+use Rattle.std.proofs.Common.{◌≡◌, ◌-◌, arith}
+use Rattle.fault_handler.specs.Insides.{desk_of}
+use Rattle.fault_handler.proofs.TransitKeeps.{IsDesk-with_loss}
+use Rattle.fault_handler.proofs.desk.Desk.lose.Goals as goal
+
+pub invariant_of-self : goal.invariant_of-self
+invariant_of-self c =
+    let at : c.index_of-at.result ≡ c.args.proc.number - 1 = omega arith in
+    rw (at, c.unreserve.ensures)
+    (IsDesk-with_loss (desk_of c.self.inside) c.args.proc.number c.self.invariant (record { least = omega arith; most = omega arith }) c.args.uid c.args.page (rw (← c.self.view_is) at c.requires))

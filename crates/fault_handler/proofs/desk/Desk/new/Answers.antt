@@ -1,0 +1,18 @@
+use Rattle.fault_handler.proofs.LockKeeps.{IsDesk-empty_desk}
+use Rattle.fault_handler.proofs.desk.Desk.new.Goals as goal
+
+pub invariant_of-result : goal.invariant_of-result
+invariant_of-result c =
+    rw (
+      c.in_ok-pages.ensures,
+      c.new-2.ensures,
+      c.new-3.ensures,
+      c.in_ok-new.ensures,
+      c.in_ok-new-2.ensures,
+      c.in_ok-new-3.ensures,
+      c.in_ok-new-4.ensures,
+      c.in_ok-new-5.ensures,
+      c.in_ok-new-6.ensures,
+      c.in_ok-new-7.ensures,
+      c.in_ok-new-8.ensures,
+    ) (IsDesk-empty_desk c.args.node c.args.nodes c.args.frames c.requires.frames_low)

@@ -1,0 +1,14 @@
+pub mod Entries
+pub mod Lengths
+pub mod ShownPages
+pub mod Transits
+pub mod Tasks
+pub mod Desks
+pub mod Changes
+pub mod Accesses
+pub mod PageReplies
+pub mod Kept
+pub mod Conditions
+pub mod Outcomes
+pub mod Drops
+pub mod Insides

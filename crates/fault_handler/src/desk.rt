@@ -1,0 +1,241 @@
+//! The desk of a node.
+ghost use Rattle.std.specs.Prelude.{◌≡◌, ◌≤◌, length, Some, None, IfOk, IfSome, is_some};
+ghost use Rattle.std.specs.Bool.{OnTrue};
+ghost use Rattle.dom_history.specs.Locks.{is_held};
+ghost use Rattle.page_cache.specs.Caches.{IsResident};
+ghost use Rattle.page_cache.specs.Numbers.{dirty_page};
+ghost use Rattle.version_stamps.specs.Stamps.{stamp_of};
+ghost use Rattle.fault_handler.specs.Lengths.{known_of, changed_length, length_of, room_of};
+ghost use Rattle.fault_handler.specs.Entries.{grant_in};
+ghost use Rattle.fault_handler.specs.Desks.{entries_of, state_of, entry_at, call_of, others_keep, other_transit};
+ghost use Rattle.fault_handler.specs.Kept.{IsProc, IsDesk};
+ghost use Rattle.fault_handler.specs.Conditions.{IsOf, IsIdle, is_idle, empty_desk, held_grant};
+
+mod accesses;
+mod calls;
+mod changes;
+mod replies;
+
+use crate::entries::{EntryTable, is_held};
+use crate::four::{PROCESSES, index_of, other_transit, others_keep};
+use crate::lengths::KnownTable;
+use crate::open_call::OpenCall;
+use crate::pages::Pages;
+use crate::tasks::Task;
+use crate::transits::Transit;
+use address_map::AddressMap;
+use dom_history::LockState;
+use std::alloc::Global;
+use std::marker::Model;
+use uid_names::{NoMemory, NodeId, ProcId, Uid};
+use version_stamps::Seen;
+
+/// The desk of a node: its cached pages, the stamps that it has seen, what it knows of objects, and
+/// for each of its four processes the locks, the mappings, the open call, the load or store that is
+/// open, and the page that it moves.
+#[derive(Drop)]
+pub struct Desk {
+    alloc: Global,
+    node: NodeId,
+    nodes: u8,
+    pages: Pages,
+    seen: Seen,
+    known: KnownTable,
+    entries: [EntryTable; PROCESSES],
+    maps: [AddressMap; PROCESSES],
+    calls: [Option<OpenCall>; PROCESSES],
+    tasks: [Option<Task>; PROCESSES],
+    moving: [Option<Transit>; PROCESSES],
+}
+
+impl Model for Desk {
+    ghost use Rattle.fault_handler.specs.Desks.{DeskState};
+
+    ghost Value = { DeskState };
+
+    ghost use Rattle.fault_handler.specs.Insides.{desk_of};
+    ghost use Rattle.fault_handler.specs.Kept.{IsDesk};
+
+    ghost view = { desk_of };
+
+    ghost invariant = { λ d. IsDesk (desk_of d) };
+}
+
+impl Desk {
+    /// The desk of a node, of so many nodes, with so many page frames: no page, no lock, no mapping.
+    pub fn new(alloc: Global, node: NodeId, nodes: u8, frames: u16) -> Result<Desk, NoMemory>
+        requires nodes_low { 1 ≤ nodes }
+        requires nodes_high { nodes ≤ 8 }
+        requires frames_low { 5 ≤ frames }
+        requires frames_high { frames ≤ 256 }
+        ensures { IfOk result (λ desk. desk ≡ empty_desk node nodes frames) }
+    {
+        let pages = Pages::new(alloc, frames)?;
+        Ok(Desk {
+            alloc,
+            node,
+            nodes,
+            pages,
+            seen: Seen::new(alloc),
+            known: KnownTable::new(alloc),
+            entries: [
+                EntryTable::new(alloc)?,
+                EntryTable::new(alloc)?,
+                EntryTable::new(alloc)?,
+                EntryTable::new(alloc)?,
+            ],
+            maps: [
+                AddressMap::new(alloc)?,
+                AddressMap::new(alloc)?,
+                AddressMap::new(alloc)?,
+                AddressMap::new(alloc)?,
+            ],
+            calls: [None; PROCESSES],
+            tasks: [None, None, None, None],
+            moving: [None; PROCESSES],
+        })
+    }
+
+    /// Whether a process may begin an operation or go on with one: no call of it is open, it moves no
+    /// page, and it keeps each object on which it is Held. Takes no memory.
+    pub fn is_idle(&self, proc: ProcId) -> bool
+        requires { IsOf self.now proc }
+        ensures value { result ≡ is_idle self.now proc.number }
+        ensures idle { OnTrue result (IsIdle self.now proc.number) }
+    {
+        self.may_go_on(proc)
+    }
+
+    /// The same.
+    fn may_go_on(&self, proc: ProcId) -> bool
+        ensures { result ≡ is_idle self.now proc.number }
+    {
+        let at = index_of(proc);
+        self.calls[at].is_none() && self.moving[at].is_none() && self.entries[at].keeps_all()
+    }
+
+    /// The node. Takes no memory.
+    pub fn node(&self) -> NodeId
+        ensures { result ≡ self.now.node }
+    {
+        self.node
+    }
+
+    /// How many nodes there are. Takes no memory.
+    pub fn nodes(&self) -> u8
+        ensures { result ≡ self.now.nodes }
+    {
+        self.nodes
+    }
+
+    /// A process's state on an object. Takes no memory.
+    pub fn state(&self, proc: ProcId, uid: Uid) -> LockState
+        requires { IsOf self.now proc }
+        ensures value { result ≡ state_of self.now proc.number uid }
+        ensures kept { IsDesk self.now }
+    {
+        self.entries[index_of(proc)].state(uid)
+    }
+
+    /// On how many objects a process is not Free. Takes no memory.
+    pub fn not_free(&self, proc: ProcId) -> u8
+        requires { IsOf self.now proc }
+        ensures count { result ≡ length (entries_of self.now proc.number) }
+        ensures few { result ≤ 8 }
+    {
+        self.entries[index_of(proc)].count()
+    }
+
+    /// A process's grant on an object; None exactly where it is not Held. Takes no memory.
+    pub fn grant(&self, proc: ProcId, uid: Uid) -> Option<u64>
+        requires { IsOf self.now proc }
+        ensures { result ≡ held_grant (is_held (state_of self.now proc.number uid)) (grant_in (entry_at self.now.entries proc.number uid)) }
+    {
+        let table = &self.entries[index_of(proc)];
+        if is_held(table.state(uid)) {
+            Some(table.grant(uid))
+        } else {
+            None
+        }
+    }
+
+    /// Whether another process of the node keeps an object. Takes no memory.
+    pub fn others_keep(&self, proc: ProcId, uid: Uid) -> bool
+        requires { IsOf self.now proc }
+        ensures { result ≡ others_keep self.now.entries proc.number uid }
+    {
+        others_keep(&self.entries, proc.number(), uid)
+    }
+
+    /// The lowest page of an object that another process has in transit, either way. Takes no memory.
+    pub fn other_transit(&self, proc: ProcId, uid: Uid) -> Option<u32>
+        requires { IsOf self.now proc }
+        ensures value { result ≡ other_transit self.now.moving proc.number uid }
+        ensures kept { IsDesk self.now }
+    {
+        other_transit(&self.moving, proc.number(), uid)
+    }
+
+    /// The lowest dirty page of an object. Takes no memory.
+    pub fn dirty_page(&self, uid: Uid) -> Option<u32>
+        ensures lowest { result ≡ dirty_page self.now.cache.pages uid }
+        ensures resident { IfSome result (IsResident self.now.cache.pages uid) }
+    {
+        self.pages.dirty_of(uid)
+    }
+
+    /// An object's known length, where it was changed at this node. Takes no memory.
+    pub fn changed_length(&self, uid: Uid) -> Option<u32>
+        ensures { result ≡ changed_length (known_of uid self.now.known) }
+    {
+        match self.known.of(uid) {
+            Some(known) if known.changed => Some(known.length),
+            _ => None,
+        }
+    }
+
+    /// The stamp that was seen of an object. Takes no memory.
+    pub fn seen(&self, uid: Uid) -> Option<u64>
+        ensures { result ≡ stamp_of uid self.now.seen }
+    {
+        self.seen.of(uid)
+    }
+
+    /// A process's open call. Takes no memory.
+    pub fn open_call(&self, proc: ProcId) -> Option<OpenCall>
+        requires { IsOf self.now proc }
+        ensures value { result ≡ call_of self.now proc.number }
+        ensures kept { IsDesk self.now }
+    {
+        self.calls[index_of(proc)]
+    }
+
+    /// What each desk keeps, and which numbers processes have: for the check alone.
+    fn kept(&self, proc: ProcId)
+        ensures desk { IsDesk self.now }
+        ensures process { IsProc proc.number }
+    {
+        let _alloc = &self.alloc;
+        let _number = proc.number();
+    }
+
+    /// The known length of an object; 0 without one.
+    fn length_of(&self, uid: Uid) -> u32
+        ensures { result ≡ length_of (known_of uid self.now.known) }
+    {
+        match self.known.of(uid) {
+            Some(known) => known.length,
+            None => 0,
+        }
+    }
+
+    /// The known room of an object; 0 without one.
+    fn room_of(&self, uid: Uid) -> u32
+        ensures { result ≡ room_of (known_of uid self.now.known) }
+    {
+        match self.known.of(uid) {
+            Some(known) => known.room,
+            None => 0,
+        }
+    }
+}

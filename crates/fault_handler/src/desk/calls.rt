@@ -1,0 +1,185 @@
+//! The further calls by which locking and unlocking read and change a desk.
+ghost use Rattle.std.specs.Prelude.{◌≡◌, ◌⊎◌, ◌≤◌, ◌<◌, ◌*◌, ℕ, true, false, length, Some, None, IsSome, IsOk, is_some, IfOk, IfSome, OnOk, OnErr};
+ghost use Rattle.uid_names.specs.declared.mode.TheConstants.{MAX_ROOM};
+ghost use Rattle.dom_history.specs.Locks.{is_free, is_held};
+ghost use Rattle.page_cache.specs.Caches.{IsResident, page_at};
+ghost use Rattle.page_cache.specs.Numbers.{resident_pages};
+ghost use Rattle.version_stamps.specs.Stamps.{stamp_of};
+ghost use Rattle.fault_handler.specs.Entries.{keeps};
+ghost use Rattle.fault_handler.specs.Transits.{going};
+ghost use Rattle.fault_handler.specs.Desks.{entries_of, entry_at, state_of, moving_of, any_keeps, others_write};
+ghost use Rattle.fault_handler.specs.Kept.{is_marked, is_dirty};
+ghost use Rattle.fault_handler.specs.Changes.{with_state, with_note, with_raised, with_forgotten, page_done_of, with_sent_length, with_call, with_sent_page, with_known_row, with_seen, with_no_page};
+ghost use Rattle.fault_handler.specs.Accesses.{own_page_out};
+ghost use Rattle.fault_handler.specs.Conditions.{IsOf, IsNotAccessing, IsOther};
+
+use super::Desk;
+use crate::four::{index_of, transit_of};
+use crate::lengths::Known;
+use crate::open_call::OpenCall;
+use crate::transits::Transit;
+use dom_history::LockState;
+use page_cache::PageList;
+use ring_messages::Body;
+use std::alloc::Global;
+use uid_names::{NoMemory, ProcId, Uid};
+
+impl Desk {
+    /// The allocator that the desk was made with.
+    pub fn allocator(&self) -> Global {
+        self.alloc
+    }
+
+    /// Sets a process's state on an object, with the grant where it is Held. Takes no memory.
+    pub fn set_state(&mut self, proc: ProcId, uid: Uid, state: LockState, grant: u64)
+        requires own { IsOf self.old proc }
+        requires room { (is_free state ≡ true) ⊎ IsSome (entry_at self.old.entries proc.number uid)
+            ⊎ (length (entries_of self.old proc.number) < 8) }
+        // A process that is Held has noted its release or removal before.
+        requires given_up { keeps (entry_at self.old.entries proc.number uid) ≡ false }
+        requires seen { is_held state ≡ true → IsSome (stamp_of uid self.old.seen) }
+        requires grant { is_held state ≡ true → 1 ≤ grant }
+        ensures { self.new ≡ with_state self.old proc.number uid state grant }
+    {
+        let table = &mut self.entries[index_of(proc)];
+        table.set_state(uid, state, grant);
+    }
+
+    /// Notes that a process's release or removal was sent, which counts until the process is Held on
+    /// the object anew. Takes no memory.
+    pub fn note_release(&mut self, proc: ProcId, uid: Uid)
+        requires own { IsOf self.old proc }
+        requires held { is_held (state_of self.old proc.number uid) ≡ true }
+        requires other { IsNotAccessing self.old proc.number }
+        // What is dirty another process still answers for; a page that goes home, the process that sent it.
+        requires dirty { (page : ℕ) → is_dirty (page_at self.old.cache.pages uid page) ≡ true
+            → others_write self.old.entries proc.number uid ≡ true }
+        requires still { moving_of self.old proc.number ≡ None }
+        ensures { self.new ≡ with_note self.old proc.number uid }
+    {
+        let table = &mut self.entries[index_of(proc)];
+        table.note(uid);
+    }
+
+    /// The seen stamp of an object becomes the greater of both. Takes no memory.
+    pub fn raise_seen(&mut self, uid: Uid, stamp: u64)
+        requires known { IsSome (stamp_of uid self.old.seen) }
+        requires stamp { 1 ≤ stamp }
+        ensures { self.new ≡ with_raised self.old uid stamp }
+    {
+        self.raise(uid, stamp);
+    }
+
+    /// The seen stamp of an object is forgotten. Takes no memory.
+    pub fn forget_seen(&mut self, uid: Uid)
+        requires { any_keeps self.old.entries uid ≡ false }
+        ensures { self.new ≡ with_forgotten self.old uid }
+    {
+        self.seen.forget(uid);
+    }
+
+    /// Ends the transit of the page that a process sent home, which is clean now where the home took it
+    /// and it was not changed since the sending. Takes no memory.
+    pub fn page_done(&mut self, proc: ProcId, stored: bool)
+        requires own { IsOf self.old proc }
+        requires other { IsNotAccessing self.old proc.number }
+        ensures done { self.new ≡ page_done_of self.old proc.number stored }
+        ensures node { self.new.node ≡ self.old.node }
+    {
+        if let Some(transit) = transit_of(&self.moving, proc) {
+            self.pages.settle(transit.uid, transit.page, stored);
+            self.moving[index_of(proc)] = None;
+        }
+    }
+
+    /// The known length of an object counts as unchanged where it is this one, which the home took.
+    /// Takes no memory.
+    pub fn length_done(&mut self, uid: Uid, length: u32)
+        ensures { self.new ≡ with_sent_length self.old uid length }
+    {
+        if let Some(known) = self.known.of(uid) {
+            self.known.replace(known.sent(length));
+        }
+    }
+
+    /// Sets a process's open call, which neither is nor was that of a load or store. Takes no memory.
+    pub fn set_open_call(&mut self, proc: ProcId, call: Option<OpenCall>)
+        requires own { IsOf self.old proc }
+        requires other { IsNotAccessing self.old proc.number }
+        requires call { IsOther call }
+        ensures { self.new ≡ with_call self.old proc.number call }
+    {
+        self.calls[index_of(proc)] = call;
+    }
+
+    /// Sends a page home under the process's own grant, with the seen stamp as base: the page is in
+    /// transit and counts as sent.
+    pub fn send_page(&mut self, proc: ProcId, uid: Uid, page: u32) -> Result<Body, NoMemory>
+        requires own { IsOf self.old proc }
+        requires keeps { keeps (entry_at self.old.entries proc.number uid) ≡ true }
+        requires other { IsNotAccessing self.old proc.number }
+        requires alone { (moving_of self.old proc.number ≡ None) ⊎ (moving_of self.old proc.number ≡ going uid page) }
+        requires resident { IsResident self.old.cache.pages uid page }
+        requires still { (moving_of self.old proc.number ≡ None) → is_marked (page_at self.old.cache.pages uid page) ≡ false }
+        ensures sent { IsOk result }
+        ensures desk { OnOk result (self.new ≡ with_sent_page self.old proc.number uid page) }
+        ensures body { IfOk result (λ body. IfSome (page_at self.old.cache.pages uid page) (λ r. body ≡ own_page_out self.old proc.number uid page r.bytes)) }
+    {
+        let at = index_of(proc);
+        let body = Body::PageOut {
+            uid,
+            page,
+            grant: self.entries[at].grant(uid),
+            base: self.seen.of(uid).unwrap_or(0),
+            bytes: self.pages.bytes(uid, page),
+        };
+        self.pages.send(uid, page);
+        self.moving[at] = Some(Transit {
+            uid,
+            page,
+            inward: false,
+        });
+        Ok(body)
+    }
+
+    /// Sets the seen stamp, the room and the known length of an object; the length counts as unchanged.
+    /// Wants memory only where no stamp of the object was seen, and without it nothing changes.
+    pub fn know(&mut self, uid: Uid, stamp: u64, room: u32, length: u32) -> Result<(), NoMemory>
+        requires stamp { 1 ≤ stamp }
+        requires room_low { 1 ≤ room }
+        requires room_high { room ≤ MAX_ROOM }
+        requires length { length ≤ 1024 * MAX_ROOM }
+        ensures known { OnOk result (self.new ≡ with_seen (with_known_row self.old (record { uid = uid; room = room; length = length; changed = false })) uid stamp) }
+        ensures unchanged { OnErr result (self.new ≡ self.old) }
+        ensures memory { OnErr result (is_some (stamp_of uid self.old.seen) ≡ false) }
+    {
+        self.seen.set(uid, stamp)?;
+        let row = Known {
+            uid,
+            room,
+            length,
+            changed: false,
+        };
+        match self.known.set(row) {
+            Ok(()) => Ok(()),
+            // Nothing was known of the object, so there was no stamp.
+            Err(NoMemory) => {
+                self.seen.forget(uid);
+                Err(NoMemory)
+            }
+        }
+    }
+
+    /// Drops all pages of an object, and tells which they were, rising. Without memory nothing changes.
+    pub fn drop_pages(&mut self, uid: Uid) -> Result<PageList, NoMemory>
+        requires clean { (page : ℕ) → is_dirty (page_at self.old.cache.pages uid page) ≡ false }
+        requires still { (page : ℕ) → is_marked (page_at self.old.cache.pages uid page) ≡ false }
+        ensures dropped { IfOk result (λ pages. pages ≡ resident_pages self.old.cache.pages uid) }
+        ensures desk { OnOk result (self.new ≡ with_no_page self.old uid) }
+        ensures unchanged { OnErr result (self.new ≡ self.old) }
+    {
+        let pages = self.pages.pages_of(self.alloc, uid)?;
+        self.pages.drop_object(uid);
+        Ok(pages)
+    }
+}

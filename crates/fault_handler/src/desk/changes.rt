@@ -1,0 +1,182 @@
+//! What changes in a desk. Each change leaves a desk that keeps what each desk keeps.
+ghost use Rattle.std.specs.Prelude.{◌≡◌, ◌+◌, ◌<◌, ◌≤◌, true, false, length, Some, None, IsSome, IfOk, OnOk, OnErr, slice_index_or, slice_set};
+ghost use Rattle.page_cache.specs.Caches.{IsResident, page_at, free_count};
+ghost use Rattle.version_stamps.specs.Stamps.{stamp_of};
+ghost use Rattle.fault_handler.specs.Entries.{keeps_writing};
+ghost use Rattle.fault_handler.specs.Tasks.{page_of};
+ghost use Rattle.fault_handler.specs.Transits.{coming, going};
+ghost use Rattle.fault_handler.specs.Desks.{entry_at, call_of, task_of, moving_of, others_fetch};
+ghost use Rattle.fault_handler.specs.Kept.{IsAllowed, is_marked, is_dirty};
+ghost use Rattle.fault_handler.specs.Conditions.{IsIdle};
+ghost use Rattle.fault_handler.specs.Changes.{with_used, with_stored, with_dropped, with_end, with_raised, with_fetch, with_eviction, with_sent_again, with_arrival, with_loss, with_room_settled};
+
+use super::Desk;
+use crate::four::{PROCESSES, index_of};
+use crate::open_call::OpenCall;
+use crate::tasks::Task;
+use crate::transits::Transit;
+use std::mem;
+use uid_names::{NoMemory, ProcId, Uid};
+
+impl Desk {
+    /// A resident page was used.
+    pub(super) fn use_page(&mut self, uid: Uid, page: u32)
+        requires { IsResident self.old.cache.pages uid page }
+        ensures { self.new ≡ with_used self.old uid page }
+    {
+        self.pages.touch(uid, page);
+    }
+
+    /// Stores bytes in a resident page.
+    pub(super) fn store_page(&mut self, proc: ProcId, uid: Uid, page: u32, start: u32, bytes: &[u8])
+        requires resident { IsResident self.old.cache.pages uid page }
+        requires within { start + length bytes.now ≤ 1024 }
+        requires writes { keeps_writing (entry_at self.old.entries proc.number uid) ≡ true }
+        ensures { self.new ≡ with_stored self.old uid page start bytes.now }
+    {
+        let _process = proc.number();
+        self.pages.store(uid, page, start, bytes);
+    }
+
+    /// A store ended there: the object's known length is that at least.
+    pub(super) fn grow(&mut self, uid: Uid, end: u32)
+        requires { end ≤ 1048576 }
+        ensures { self.new ≡ with_end self.old uid end }
+    {
+        if let Some(known) = self.known.of(uid) {
+            self.known.replace(known.grown(end));
+        }
+    }
+
+    /// Drops a page that is not on its way home.
+    pub(super) fn drop_page(&mut self, uid: Uid, page: u32)
+        requires { is_marked (page_at self.old.cache.pages uid page) ≡ false }
+        ensures { self.new ≡ with_dropped self.old uid page }
+    {
+        self.pages.remove(uid, page);
+    }
+
+    /// The seen stamp of an object becomes the greater of both.
+    pub(super) fn raise(&mut self, uid: Uid, stamp: u64)
+        requires known { IsSome (stamp_of uid self.old.seen) }
+        requires stamp { 1 ≤ stamp }
+        ensures { self.new ≡ with_raised self.old uid stamp }
+    {
+        self.seen.raise(uid, stamp);
+    }
+
+    /// The page of a load or store comes from its home, into a frame that is reserved now.
+    pub(super) fn fetch(&mut self, proc: ProcId, task: Task)
+        requires idle { IsIdle self.old proc.number }
+        requires free { 0 < free_count self.old.cache }
+        requires absent { page_at self.old.cache.pages task.uid (page_of task) ≡ None }
+        requires alone { others_fetch self.old.moving proc.number task.uid (page_of task) ≡ false }
+        requires allowed { IsAllowed self.old.entries proc.number task }
+        ensures { self.new ≡ with_fetch self.old proc.number task }
+    {
+        let at = index_of(proc);
+        let uid = task.uid;
+        let page = task.page();
+        self.pages.reserve();
+        self.calls[at] = Some(OpenCall::Access);
+        self.tasks[at] = Some(task);
+        self.moving[at] = Some(Transit {
+            uid,
+            page,
+            inward: true,
+        });
+    }
+
+    /// A dirty page goes home, to make room for that of a load or store.
+    pub(super) fn evict(&mut self, proc: ProcId, task: Task, uid: Uid, page: u32)
+        requires idle { IsIdle self.old proc.number }
+        requires dirty { is_dirty (page_at self.old.cache.pages uid page) ≡ true }
+        requires still { is_marked (page_at self.old.cache.pages uid page) ≡ false }
+        requires allowed { IsAllowed self.old.entries proc.number task }
+        ensures { self.new ≡ with_eviction self.old proc.number task uid page }
+    {
+        let at = index_of(proc);
+        self.pages.send(uid, page);
+        self.calls[at] = Some(OpenCall::Access);
+        self.tasks[at] = Some(task);
+        self.moving[at] = Some(Transit {
+            uid,
+            page,
+            inward: false,
+        });
+    }
+
+    /// A page that is on its way home is sent again.
+    pub(super) fn send_again(&mut self, uid: Uid, page: u32)
+        requires { is_marked (page_at self.old.cache.pages uid page) ≡ true }
+        ensures { self.new ≡ with_sent_again self.old uid page }
+    {
+        self.pages.send(uid, page);
+    }
+
+    /// The page came that the load or store of a process asked for, which is open no more: gives it back.
+    pub(super) fn arrive(
+        &mut self,
+        proc: ProcId,
+        uid: Uid,
+        page: u32,
+        bytes: &[u8; 1024],
+    ) -> Result<Task, NoMemory>
+        requires { moving_of self.old proc.number ≡ coming uid page }
+        ensures arrived { OnOk result (self.new ≡ with_arrival self.old proc.number uid page bytes.now) }
+        ensures task { IfOk result (λ task. task_of self.old proc.number ≡ Some task) }
+        ensures idle { OnOk result (IsIdle self.new proc.number) }
+        ensures allowed { IfOk result (IsAllowed self.old.entries proc.number) }
+        ensures unchanged { OnErr result (self.new ≡ self.old) }
+    {
+        let at = index_of(proc);
+        self.pages.install(uid, page, bytes)?;
+        self.calls[at] = None;
+        self.moving[at] = None;
+        Ok(ended(&mut self.tasks, at))
+    }
+
+    /// The page that makes room for the load or store of a process is on its way no more; gives the
+    /// load or store back, which is open no more.
+    pub(super) fn settle_room(&mut self, proc: ProcId, uid: Uid, page: u32, taken: bool) -> Task
+        requires access { call_of self.old proc.number ≡ Some OpenCall.Access }
+        requires sent { moving_of self.old proc.number ≡ going uid page }
+        ensures settled { self.new ≡ with_room_settled self.old proc.number uid page taken }
+        ensures task { task_of self.old proc.number ≡ Some result }
+        ensures idle { IsIdle self.new proc.number }
+        ensures allowed { IsAllowed self.old.entries proc.number result }
+        ensures seen { IsSome (stamp_of uid self.old.seen) }
+    {
+        let at = index_of(proc);
+        self.pages.settle(uid, page, taken);
+        self.calls[at] = None;
+        self.moving[at] = None;
+        ended(&mut self.tasks, at)
+    }
+
+    /// The page that the load or store of a process asked for will not come.
+    pub(super) fn lose(&mut self, proc: ProcId, uid: Uid, page: u32)
+        requires { moving_of self.old proc.number ≡ coming uid page }
+        ensures { self.new ≡ with_loss self.old proc.number }
+    {
+        let _page = (uid, page);
+        let at = index_of(proc);
+        self.pages.unreserve();
+        self.calls[at] = None;
+        self.moving[at] = None;
+        self.tasks[at] = None;
+    }
+}
+
+/// Takes the load or store at a place.
+fn ended(tasks: &mut [Option<Task>; PROCESSES], at: usize) -> Task
+    requires bound { at < 4 }
+    requires there { IsSome (slice_index_or tasks.old at None) }
+    ensures task { slice_index_or tasks.old at None ≡ Some result }
+    ensures others { tasks.new ≡ slice_set tasks.old at None }
+{
+    match mem::replace(&mut tasks[at], None) {
+        Some(task) => task,
+        None => unreachable!(),
+    }
+}
