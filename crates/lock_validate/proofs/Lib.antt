@@ -1,0 +1,11 @@
+pub mod Good
+pub mod Releasing
+pub mod Answering
+pub mod Outcomes
+pub mod Nodes
+pub mod Settling
+pub mod Beside
+pub mod AccessBeside
+pub mod StepBeside
+pub mod AllStanding
+pub mod Dropping

@@ -1,0 +1,18 @@
+use Rattle.std.proofs.Common.{refl, ap, arith}
+use Rattle.dom_history.specs.declared.deed.LockState.TheVariants.{Free}
+use Rattle.fault_handler.specs.Entries.{keeps}
+use Rattle.lock_validate.proofs.Good.{entry-set_same}
+use Rattle.lock_validate.proofs.Answering.{released-calm}
+use Rattle.lock_validate.proofs.answers.answered.Goals as goal
+
+-- The process is Free on the object, which each desk allows.
+pub removed-requires-clause-kept : goal.removed-requires-clause-kept
+removed-requires-clause-kept c =
+    let stands = rw c.in-Remove.is at c.requires.stands in
+    rw c.set_state-in-Remove.ensures
+    (released-calm c.args.desk.now c.args.proc.number c.requires.kept (record { least = omega arith; most = omega arith }) c.requires.closed c.in-Remove.uid stands.0 Free refl).desk
+
+pub removed-requires-clause-given_up : goal.removed-requires-clause-given_up
+removed-requires-clause-given_up c =
+    rw c.set_state-in-Remove.ensures
+    (ap keeps (entry-set_same c.args.desk.now c.args.proc.number c.in-Remove.uid c.requires.kept (record { least = omega arith; most = omega arith }) Free 0))

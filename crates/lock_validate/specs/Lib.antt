@@ -1,0 +1,10 @@
+pub mod Steps
+pub mod Locking
+pub mod Releases
+pub mod Answers
+pub mod Faults
+pub mod Fitting
+pub mod Standing
+pub mod Settled
+pub mod Beside
+pub mod Drops
