@@ -1,5 +1,5 @@
 -- How an operation ended, in one word: the one table of the words, and which reply has which.
-use Rattle.std.specs.Prelude.{ℕ, List, codes}
+use Rattle.std.specs.Prelude.{ℕ, List, [], ◌∷◌, codes}
 use Rattle.dom_history.specs.declared.end_word.EndWord.{EndWord}
 use Rattle.dom_history.specs.declared.end_word.EndWord.TheVariants as word
 use Rattle.dom_history.specs.declared.op.Reply.{Reply}
@@ -24,6 +24,13 @@ word_text word.LinkFault = codes "link-fault"
 word_text word.TooManyMaps = codes "too-many-maps"
 word_text word.NoSegment = codes "no-segment"
 word_text word.NotMapped = codes "not-mapped"
+
+-- all of them, in the order of the table
+abbrev pub all_ends : List EndWord
+all_ends =
+    word.Fine ∷ word.Conflict ∷ word.NoObject ∷ word.AlreadyHeld ∷ word.NotHeld ∷ word.Unsettled ∷ word.TooMany ∷ word.NoLock
+    ∷ word.WrongMode ∷ word.PastRoom ∷ word.PastEnd ∷ word.NoSpace ∷ word.Kept ∷ word.Doubt ∷ word.LinkFault
+    ∷ word.TooManyMaps ∷ word.NoSegment ∷ word.NotMapped ∷ []
 
 -- the word of a reply: one word for all those of an operation that was done
 abbrev pub word_of : Reply → EndWord

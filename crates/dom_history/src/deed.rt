@@ -1,4 +1,8 @@
 //! What was decided, and what a process knows of its locks.
+ghost use Rattle.std.specs.Prelude.{◌≡◌};
+ghost use Rattle.dom_history.specs.Locks.{is_held as held, mode_of};
+ghost use Rattle.dom_history.specs.Replies.{may_write as writing};
+
 use crate::op::{Op, Reply};
 use uid_names::{Mode, ProcId, Uid};
 
@@ -19,6 +23,44 @@ pub enum LockState {
     Taking(Mode),
     Releasing(Mode),
     Deleting,
+}
+
+impl LockState {
+    /// Whether it is Held.
+    pub fn is_held(self) -> bool
+        ensures { result ≡ held self }
+    {
+        match self {
+            LockState::Held(_) => true,
+            LockState::Free
+            | LockState::Taking(_)
+            | LockState::Releasing(_)
+            | LockState::Deleting => false,
+        }
+    }
+
+    /// Whether it is Held in a mode that writes.
+    pub fn may_write(self) -> bool
+        ensures { result ≡ writing self }
+    {
+        match self {
+            LockState::Held(mode) => mode.writes(),
+            LockState::Free
+            | LockState::Taking(_)
+            | LockState::Releasing(_)
+            | LockState::Deleting => false,
+        }
+    }
+
+    /// The mode that a lock in this state may still have at the home.
+    pub fn mode(self) -> Mode
+        ensures { result ≡ mode_of self }
+    {
+        match self {
+            LockState::Held(mode) | LockState::Taking(mode) | LockState::Releasing(mode) => mode,
+            LockState::Free | LockState::Deleting => Mode::Write,
+        }
+    }
 }
 
 /// An object on which a process is not free.

@@ -12,17 +12,17 @@ use Rattle.dom_text.proofs.Again.{number_of-decimal}
 use Rattle.uid_names.specs.Names.{ObjectName, IsName, number_of}
 use Rattle.uid_names.specs.NameTexts.{IsNameText}
 use Rattle.uid_names.specs.Texts.{text_of}
-use Rattle.uid_names.specs.FrameKinds.{kind_name}
+use Rattle.uid_names.specs.FrameKinds.{kind_name, all_kinds}
 use Rattle.uid_names.specs.declared.frame_kind.FrameKind.{FrameKind}
 use Rattle.uid_names.specs.declared.frame_kind.FrameKind.TheVariants as kinds
 use Rattle.uid_names.proofs.UidTexts.{decoded-text_of}
 use Rattle.dom_history.specs.Events.{IsProcNumber}
-use Rattle.dom_history.specs.EndWords.{word_text}
+use Rattle.dom_history.specs.EndWords.{word_text, all_ends}
 use Rattle.dom_history.specs.NodeTexts.{AreNodeNames, name_of}
 use Rattle.dom_history.specs.declared.end_word.EndWord.{EndWord}
 use Rattle.dom_history.specs.declared.end_word.EndWord.TheVariants as ends
-use Rattle.journal_text.specs.Lines.{IsNamed, node_text, all_kinds}
-use Rattle.journal_text.specs.Reading.{same_text, written_so, node_from, node_of, number32_of, proc_of, is_name, uid_from, uid_in, uid_of, kind_of, all_ends, end_of, what_word_text, what_words, what_word_of, effect_word_text, effect_words, effect_word_of}
+use Rattle.journal_text.specs.Lines.{IsNamed, node_text}
+use Rattle.journal_text.specs.Reading.{same_text, written_so, node_from, node_of, number32_of, proc_of, is_name, uid_from, uid_in, uid_of, kind_of, end_of, what_word_text, what_words, what_word_of, effect_word_text, effect_words, effect_word_of}
 use Rattle.journal_text.specs.Written.{IsNode}
 use Rattle.journal_text.specs.declared.reading.words.WhatWord.{WhatWord}
 use Rattle.journal_text.specs.declared.reading.words.WhatWord.TheVariants as whats

@@ -3,9 +3,8 @@ use Rattle.std.specs.Prelude.{ℕ, ◌==◌, List, [], ◌∷◌, ◌++◌, code
 use Rattle.std.specs.List.{flat_map}
 use Rattle.uid_names.specs.Names.{ObjectName}
 use Rattle.uid_names.specs.Texts.{text_of}
-use Rattle.uid_names.specs.FrameKinds.{kind_number, kind_name}
+use Rattle.uid_names.specs.FrameKinds.{kind_number, kind_name, all_kinds}
 use Rattle.uid_names.specs.declared.frame_kind.FrameKind.{FrameKind}
-use Rattle.uid_names.specs.declared.frame_kind.FrameKind.TheVariants as kinds
 use Rattle.uid_names.specs.declared.ids.Place.{Place}
 use Rattle.dom_history.specs.Events.{Happening}
 use Rattle.dom_history.specs.EndWords.{word_text}
@@ -19,13 +18,6 @@ use Rattle.dom_history.specs.declared.event.Effects.{Effects}
 -- the name of a node that has one
 abbrev pub node_text : List (List ℕ) → ℕ → List ℕ
 node_text names node = unwrap_or (name_of names node) []
-
--- the kinds of frames
-abbrev pub all_kinds : List FrameKind
-all_kinds =
-    kinds.PageIn ∷ kinds.PageOut ∷ kinds.AttrOut ∷ kinds.Lock ∷ kinds.Unlock ∷ kinds.Remove ∷ kinds.Make ∷ kinds.List
-    ∷ kinds.Page ∷ kinds.Stored ∷ kinds.Stale ∷ kinds.NoGrant ∷ kinds.NoObject ∷ kinds.Granted ∷ kinds.Conflict ∷ kinds.Done
-    ∷ kinds.Made ∷ kinds.NoSpace ∷ kinds.Listed ∷ []
 
 abbrev pub name_in : Option FrameKind → List ℕ
 name_in None = []

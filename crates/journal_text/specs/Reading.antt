@@ -7,17 +7,15 @@ use Rattle.hex.specs.declared.error.FromHexError.{FromHexError}
 use Rattle.dom_text.specs.Numbers.{number_of}
 use Rattle.uid_names.specs.Names.{ObjectName}
 use Rattle.uid_names.specs.Texts.{text_of}
-use Rattle.uid_names.specs.FrameKinds.{kind_number, kind_name}
+use Rattle.uid_names.specs.FrameKinds.{kind_number, kind_name, all_kinds}
 use Rattle.uid_names.specs.declared.frame_kind.FrameKind.{FrameKind}
 use Rattle.uid_names.specs.declared.ids.Place.{Place}
-use Rattle.dom_history.specs.EndWords.{word_text}
+use Rattle.dom_history.specs.EndWords.{word_text, all_ends}
 use Rattle.dom_history.specs.declared.end_word.EndWord.{EndWord}
-use Rattle.dom_history.specs.declared.end_word.EndWord.TheVariants as ends
 use Rattle.dom_history.specs.declared.event.What.{What}
 use Rattle.dom_history.specs.declared.event.What.TheVariants.{Begin, Go, Take, Notice, Ready, Mark}
 use Rattle.dom_history.specs.declared.event.Sent.{Sent}
 use Rattle.dom_history.specs.declared.event.Effects.{Effects}
-use Rattle.journal_text.specs.Lines.{all_kinds}
 use Rattle.journal_text.specs.declared.reading.words.WhatWord.{WhatWord}
 use Rattle.journal_text.specs.declared.reading.words.WhatWord.TheVariants as whats
 use Rattle.journal_text.specs.declared.reading.words.EffectWord.{EffectWord}
@@ -97,12 +95,6 @@ uid_of word = uid_in word (decode_sized word 8)
 -- the kind of this name
 unfoldable pub kind_of : List ℕ → Option FrameKind
 kind_of word = written_so kind_name all_kinds word
-
-abbrev pub all_ends : List EndWord
-all_ends =
-    ends.Fine ∷ ends.Conflict ∷ ends.NoObject ∷ ends.AlreadyHeld ∷ ends.NotHeld ∷ ends.Unsettled ∷ ends.TooMany ∷ ends.NoLock
-    ∷ ends.WrongMode ∷ ends.PastRoom ∷ ends.PastEnd ∷ ends.NoSpace ∷ ends.Kept ∷ ends.Doubt ∷ ends.LinkFault
-    ∷ ends.TooManyMaps ∷ ends.NoSegment ∷ ends.NotMapped ∷ []
 
 -- the word of an end
 unfoldable pub end_of : List ℕ → Option EndWord

@@ -2,6 +2,7 @@ ghost use Rattle.std.specs.Prelude.{IfSome};
 ghost use Rattle.dom_history.specs.Events.{IsKindNumber, IsProcNumber};
 
 use super::*;
+use What::{Begin, Mark, Notice, Ready, Take};
 use dom_history::{Dropped, Effects, EndWord, Event, EventList, NodeNames, Sent, What};
 use std::alloc::Global;
 use std::process::Abort;
@@ -57,6 +58,16 @@ const LOST_FRAME: &str = "1 a begin 1; send b 1 lock 1
 
 fn node(number: u8) -> Result<NodeId, Fail> {
     Ok(NodeId::new(number).ok_or("no such node")?)
+}
+
+/// A frame that was sent to a node.
+fn to(
+    node: NodeId,
+    index: u64,
+    kind: FrameKind,
+    number: u64,
+) -> Option<(NodeId, u64, FrameKind, u64)> {
+    Some((node, index, kind, number))
 }
 
 fn sent_of(frame: Option<(NodeId, u64, FrameKind, u64)>) -> Option<Sent>
@@ -122,85 +133,25 @@ fn is_written(rt: &impl Abort, alloc: Global, rows: &[Row], text: &[u8]) -> Resu
 fn a_run_of_one_node_has_its_nineteen_lines(rt: HostRuntime) -> Result<(), Fail> {
     let a = node(1)?;
     let rows: [Row; 19] = [
-        (1, a, What::Begin(1), Some((a, 1, FrameKind::Make, 1)), None),
-        (
-            2,
-            a,
-            What::Take(a, 1),
-            Some((a, 2, FrameKind::Made, 1)),
-            None,
-        ),
-        (3, a, What::Take(a, 2), None, Some(EndWord::Fine)),
-        (4, a, What::Begin(1), Some((a, 3, FrameKind::Lock, 2)), None),
-        (
-            5,
-            a,
-            What::Take(a, 3),
-            Some((a, 4, FrameKind::Granted, 2)),
-            None,
-        ),
-        (6, a, What::Take(a, 4), None, Some(EndWord::Fine)),
-        (
-            7,
-            a,
-            What::Begin(1),
-            Some((a, 5, FrameKind::PageIn, 3)),
-            None,
-        ),
-        (
-            8,
-            a,
-            What::Take(a, 5),
-            Some((a, 6, FrameKind::Page, 3)),
-            None,
-        ),
-        (9, a, What::Take(a, 6), None, Some(EndWord::Fine)),
-        (10, a, What::Begin(1), None, Some(EndWord::Fine)),
-        (
-            11,
-            a,
-            What::Begin(1),
-            Some((a, 7, FrameKind::PageOut, 4)),
-            None,
-        ),
-        (
-            12,
-            a,
-            What::Take(a, 7),
-            Some((a, 8, FrameKind::Stored, 4)),
-            None,
-        ),
-        (
-            13,
-            a,
-            What::Take(a, 8),
-            Some((a, 9, FrameKind::AttrOut, 5)),
-            None,
-        ),
-        (
-            14,
-            a,
-            What::Take(a, 9),
-            Some((a, 10, FrameKind::Stored, 5)),
-            None,
-        ),
-        (
-            15,
-            a,
-            What::Take(a, 10),
-            Some((a, 11, FrameKind::Unlock, 6)),
-            None,
-        ),
-        (
-            16,
-            a,
-            What::Take(a, 11),
-            Some((a, 12, FrameKind::Done, 6)),
-            None,
-        ),
-        (17, a, What::Take(a, 12), None, Some(EndWord::Fine)),
-        (18, a, What::Begin(1), None, None),
-        (19, a, What::Ready(1), None, None),
+        (1, a, Begin(1), to(a, 1, FrameKind::Make, 1), None),
+        (2, a, Take(a, 1), to(a, 2, FrameKind::Made, 1), None),
+        (3, a, Take(a, 2), None, Some(EndWord::Fine)),
+        (4, a, Begin(1), to(a, 3, FrameKind::Lock, 2), None),
+        (5, a, Take(a, 3), to(a, 4, FrameKind::Granted, 2), None),
+        (6, a, Take(a, 4), None, Some(EndWord::Fine)),
+        (7, a, Begin(1), to(a, 5, FrameKind::PageIn, 3), None),
+        (8, a, Take(a, 5), to(a, 6, FrameKind::Page, 3), None),
+        (9, a, Take(a, 6), None, Some(EndWord::Fine)),
+        (10, a, Begin(1), None, Some(EndWord::Fine)),
+        (11, a, Begin(1), to(a, 7, FrameKind::PageOut, 4), None),
+        (12, a, Take(a, 7), to(a, 8, FrameKind::Stored, 4), None),
+        (13, a, Take(a, 8), to(a, 9, FrameKind::AttrOut, 5), None),
+        (14, a, Take(a, 9), to(a, 10, FrameKind::Stored, 5), None),
+        (15, a, Take(a, 10), to(a, 11, FrameKind::Unlock, 6), None),
+        (16, a, Take(a, 11), to(a, 12, FrameKind::Done, 6), None),
+        (17, a, Take(a, 12), None, Some(EndWord::Fine)),
+        (18, a, Begin(1), None, None),
+        (19, a, Ready(1), None, None),
     ];
     assert!(rt; is_written(&rt, rt.alloc(), &rows, ONE_NODE.as_bytes())?);
     Ok(())
@@ -210,49 +161,19 @@ fn a_run_of_one_node_has_its_nineteen_lines(rt: HostRuntime) -> Result<(), Fail>
 fn a_lost_frame_of_two_nodes_has_its_thirteen_lines(rt: HostRuntime) -> Result<(), Fail> {
     let (a, b) = (node(1)?, node(2)?);
     let rows: [Row; 13] = [
-        (1, a, What::Begin(1), Some((b, 1, FrameKind::Lock, 1)), None),
-        (
-            2,
-            b,
-            What::Take(a, 1),
-            Some((a, 1, FrameKind::Granted, 1)),
-            None,
-        ),
-        (
-            3,
-            a,
-            What::Notice(1, b, a, 1),
-            Some((b, 2, FrameKind::Lock, 1)),
-            None,
-        ),
-        (
-            4,
-            b,
-            What::Take(a, 2),
-            Some((a, 2, FrameKind::Granted, 1)),
-            None,
-        ),
-        (5, a, What::Take(b, 2), None, Some(EndWord::Fine)),
-        (
-            6,
-            a,
-            What::Begin(1),
-            Some((b, 3, FrameKind::Unlock, 2)),
-            None,
-        ),
-        (
-            7,
-            b,
-            What::Take(a, 3),
-            Some((a, 3, FrameKind::Done, 2)),
-            None,
-        ),
-        (8, a, What::Take(b, 3), None, Some(EndWord::Fine)),
-        (8, b, What::Ready(1), None, None),
-        (9, a, What::Begin(1), None, None),
-        (10, a, What::Ready(1), None, None),
-        (11, a, What::Mark(b, 1), None, None),
-        (11, b, What::Mark(a, 1), None, None),
+        (1, a, Begin(1), to(b, 1, FrameKind::Lock, 1), None),
+        (2, b, Take(a, 1), to(a, 1, FrameKind::Granted, 1), None),
+        (3, a, Notice(1, b, a, 1), to(b, 2, FrameKind::Lock, 1), None),
+        (4, b, Take(a, 2), to(a, 2, FrameKind::Granted, 1), None),
+        (5, a, Take(b, 2), None, Some(EndWord::Fine)),
+        (6, a, Begin(1), to(b, 3, FrameKind::Unlock, 2), None),
+        (7, b, Take(a, 3), to(a, 3, FrameKind::Done, 2), None),
+        (8, a, Take(b, 3), None, Some(EndWord::Fine)),
+        (8, b, Ready(1), None, None),
+        (9, a, Begin(1), None, None),
+        (10, a, Ready(1), None, None),
+        (11, a, Mark(b, 1), None, None),
+        (11, b, Mark(a, 1), None, None),
     ];
     assert!(rt; is_written(&rt, rt.alloc(), &rows, LOST_FRAME.as_bytes())?);
     Ok(())

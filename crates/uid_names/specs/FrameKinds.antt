@@ -1,5 +1,5 @@
 -- The kinds of frames: the one table of their numbers and names. Requests are below 128.
-use Rattle.std.specs.Prelude.{ℕ, List, codes}
+use Rattle.std.specs.Prelude.{ℕ, List, [], ◌∷◌, codes}
 use Rattle.uid_names.specs.declared.frame_kind.FrameKind.{FrameKind}
 use Rattle.uid_names.specs.declared.frame_kind.FrameKind.TheVariants.{PageIn, PageOut, AttrOut, Lock, Unlock, Remove, Make, List as ListRows, Page, Stored, Stale, NoGrant, NoObject, Granted, Conflict, Done, Made, NoSpace, Listed}
 
@@ -44,3 +44,9 @@ kind_name Done = codes "done"
 kind_name Made = codes "made"
 kind_name NoSpace = codes "no-space"
 kind_name Listed = codes "listed"
+
+-- all of them, in the order of the table
+abbrev pub all_kinds : List FrameKind
+all_kinds =
+    PageIn ∷ PageOut ∷ AttrOut ∷ Lock ∷ Unlock ∷ Remove ∷ Make ∷ ListRows ∷ Page ∷ Stored ∷ Stale ∷ NoGrant ∷ NoObject ∷ Granted
+    ∷ Conflict ∷ Done ∷ Made ∷ NoSpace ∷ Listed ∷ []
