@@ -1,7 +1,6 @@
 //! Reads the numbers that words spell. No function takes memory.
-ghost use Rattle.std.specs.Prelude.{◌≡◌, ◌<◌, ◌↔◌, All, IsTrue, IfSome, MatchResult, Some, None};
-ghost use Rattle.std.specs.Char.{is_ascii_digit};
-ghost use Rattle.dom_text.specs.Numbers.{hex8_of, hex_value as hex_value_of, is_decimal_text as is_decimal_word, number_of};
+ghost use Rattle.std.specs.Prelude.{◌≡◌, ◌<◌, IfSome, MatchResult, Some, None};
+ghost use Rattle.dom_text.specs.Numbers.{digit_more, hex8_of, hex_value as hex_value_of, number_of, number_of_digits};
 
 use thiserror::Error;
 
@@ -14,16 +13,37 @@ pub struct BadNumber;
 pub fn decimal(word: &[u8]) -> Result<u64, BadNumber>
     ensures { MatchResult result (λ n. number_of word.now ≡ Some n) (λ _. number_of word.now ≡ None) }
 {
-    if !is_decimal_text(word) {
+    if word.is_empty() || (word[0] == b'0' && word.len() > 1) {
         return Err(BadNumber);
     }
-    let Ok(text) = str::from_utf8(word) else {
-        return Err(BadNumber);
-    };
-    match text.parse::<u64>() {
-        Ok(number) => Ok(number),
-        Err(_) => Err(BadNumber),
+    match digits(word) {
+        Some(number) => Ok(number),
+        None => Err(BadNumber),
     }
+}
+
+/// The number of these digits, if it is below 2^64; that of none is 0.
+fn digits(text: &[u8]) -> Option<u64>
+    ensures { result ≡ number_of_digits text.now }
+{
+    let mut number = 0;
+    for byte in text {
+        match with_digit(number, *byte) {
+            Some(more) => number = more,
+            None => return None,
+        }
+    }
+    Some(number)
+}
+
+/// A number with one digit more, if the byte is a digit and what they give is below 2^64.
+fn with_digit(number: u64, byte: u8) -> Option<u64>
+    ensures { result ≡ digit_more number byte }
+{
+    if !byte.is_ascii_digit() {
+        return None;
+    }
+    number.checked_mul(10)?.checked_add((byte - b'0') as u64)
 }
 
 /// The number that a word spells in exactly eight lower-case hexadecimal digits.
@@ -53,22 +73,4 @@ pub(crate) fn hex_value(byte: u8) -> Option<u8>
         b'a'..=b'f' => Some(byte - b'a' + 10),
         _ => None,
     }
-}
-
-/// Whether a word is `0`, or a digit 1 to 9 and digits behind it.
-fn is_decimal_text(word: &[u8]) -> bool
-    ensures { result ≡ is_decimal_word word.now }
-{
-    match word.split_first() {
-        None => false,
-        Some((b'0', rest)) => rest.is_empty(),
-        Some((first, rest)) => first.is_ascii_digit() && are_digits(rest),
-    }
-}
-
-/// Whether each byte is a digit.
-fn are_digits(text: &[u8]) -> bool
-    ensures { IsTrue result ↔ All (λ b. IsTrue (is_ascii_digit b)) text.now }
-{
-    text.iter().all(|b| b.is_ascii_digit())
 }
