@@ -1,6 +1,6 @@
 -- A decision gives at most one number of each kind.
 use Rattle.std.proofs.Common.{◌≡◌, ℕ, ◌+◌, ◌<◌, ◌≤◌, List, refl, arith}
-use Rattle.std.specs.Prelude.{Bool, true, false, if◌then◌else◌, IsTrue, Option, Some, None, IsSome, IfSome}
+use Rattle.std.specs.Prelude.{Bool, true, false, if◌then◌else◌, Option, Some, None, IsSome, IfSome}
 use Rattle.uid_names.specs.Names.{ProcName, ObjectName}
 use Rattle.uid_names.specs.declared.lists.LockRow.{LockRow}
 use Rattle.uid_names.specs.declared.mode.ObjKind.{ObjKind}
@@ -10,9 +10,7 @@ use Rattle.object_store.specs.HomeStates.{HomeState, next_row, after_make, after
 use Rattle.lock_manager.specs.Tables.{Table, IsTable, with_grant, without_grant, without_object}
 use Rattle.lock_manager.proofs.Keeps.{IsTable-with_grant, IsTable-without_grant, IsTable-without_object}
 use Rattle.call_once.specs.Calls.{Call}
-use Rattle.ring_messages.specs.Bodies.{Ask, Answer, ask_of, is_request}
-use Rattle.ring_messages.specs.declared.body.Body.{Body}
-use Rattle.ring_messages.specs.declared.body.Body.TheVariants as bodies
+use Rattle.ring_messages.specs.Bodies.{Ask, Answer}
 use Rattle.page_server.specs.Decisions.{Decision, decide}
 use Rattle.page_server.specs.ServerStates.{ServerState, AreStampedTo, IsServer}
 use Rattle.page_server.proofs.Stamps.{AreStampedTo-weaker, AreStampedTo-push, AreStampedTo-without_row, AreStampedTo-with_change}
@@ -110,18 +108,6 @@ IsServer-decided server p ask served tick keeps later =
       counters = omega arith;
       stamps = AreStampedTo-weaker (1 + server.tick + 1) (1 + tick) d.home.objects (omega arith) home.stamps;
     }
-
--- a request asks something
-pub asked-of : (body : Body) → IsTrue (is_request body) → IsSome (ask_of body)
-asked-of (bodies.PageIn u page) is = refl
-asked-of (bodies.PageOut u page grant base bytes) is = refl
-asked-of (bodies.AttrOut u n grant base) is = refl
-asked-of (bodies.Lock u m) is = refl
-asked-of (bodies.Unlock u) is = refl
-asked-of (bodies.Remove u) is = refl
-asked-of (bodies.Make kind room) is = refl
-asked-of (bodies.List after) is = refl
-asked-of _ is = is
 
 -- a server that decided on what was asked is one at each later tick
 pub IsServer-asked : (server : ServerState) (p : ProcName) (asked : Option Ask) (home : HomeState) (locks : Table) (served : List (Call Answer)) (tick : ℕ)

@@ -17,6 +17,8 @@ use Rattle.lock_manager.specs.declared.grants.Grant.{Grant}
 use Rattle.lock_manager.specs.declared.locks.TheConstants.{MOST_LISTED}
 use Rattle.lock_manager.specs.Grants.{rows_of, grant_of, conflict_of, is_writing}
 use Rattle.lock_manager.specs.Tables.{Table, with_grant, without_grant, without_object}
+use Rattle.ring_messages.specs.declared.body.Body.{Body}
+use Rattle.ring_messages.specs.declared.body.Body.TheVariants as bodies
 use Rattle.ring_messages.specs.Bodies.{Ask, Answer}
 
 -- an answer, and the objects and the lock table afterwards
@@ -143,6 +145,12 @@ on_locks home decision = record { answer = decision.answer; home = home; locks =
 
 abbrev pub on_nothing : HomeState → Table → Answer → Decision
 on_nothing home locks answer = record { answer = answer; home = home; locks = locks }
+
+-- a body that asks to write a page or a length
+abbrev pub is_write : Body → Bool
+is_write (bodies.PageOut u page grant base bytes) = true
+is_write (bodies.AttrOut u length grant base) = true
+is_write _ = false
 
 -- the table of requests
 abbrev pub decide : HomeState → Table → ProcName → Ask → Decision

@@ -10,7 +10,7 @@ ghost use Rattle.ring_messages.specs.Bodies.{Answer, ask_of, is_request};
 ghost use Rattle.lock_manager.specs.Tables.{IsTable};
 ghost use Rattle.ring_messages.specs.Ranges.{IsBody};
 ghost use Rattle.page_server.specs.ServerStates.{AreStampedTo};
-ghost use Rattle.page_server.specs.Decisions.{decide, page_in, is_granted, page_out, attr_out, lock, unlock, holds_write, remove, make, list_rows};
+ghost use Rattle.page_server.specs.Decisions.{is_write, decide, page_in, is_granted, page_out, attr_out, lock, unlock, holds_write, remove, make, list_rows};
 
 use crate::answers::HomeAnswer;
 use lock_manager::{AskRefusal, Locks};
@@ -230,6 +230,45 @@ pub(crate) fn list(
     Ok(HomeAnswer::new(Body::Listed { rows, more }))
 }
 
+/// Decides on a write of a page or of a length.
+fn write<P: Pages>(
+    home: &mut Home<P>,
+    locks: &Locks,
+    proc: ProcId,
+    body: &Body,
+) -> Result<HomeAnswer, NoMemory>
+    requires write { IsTrue (is_write body.now) }
+    requires stamps { AreStampedTo (2 ^ 64 - 2) home.old.objects }
+    ensures answer { IfSome (ask_of body.now) (λ ask.
+        IfOk result (λ answer. answer ≡ (decide home.old locks.now proc ask).answer)) }
+    ensures home { IfSome (ask_of body.now) (λ ask.
+        OnOk result (home.new ≡ (decide home.old locks.now proc ask).home)) }
+    ensures err { OnErr result (home.new ≡ home.old) }
+{
+    match body {
+        Body::PageOut {
+            uid,
+            page,
+            grant,
+            base,
+            bytes,
+        } => {
+            let granted = is_granted(locks, *grant, *uid, proc);
+            page_out(home, granted, *uid, *page, *base, bytes)
+        }
+        Body::AttrOut {
+            uid,
+            length,
+            grant,
+            base,
+        } => {
+            let granted = is_granted(locks, *grant, *uid, proc);
+            Ok(attr_out(home, granted, *uid, *length, *base))
+        }
+        _ => unreachable!(),
+    }
+}
+
 /// Decides on a request.
 pub(crate) fn decide<P: Pages>(
     alloc: Global,
@@ -255,25 +294,8 @@ pub(crate) fn decide<P: Pages>(
 {
     match body {
         Body::PageIn { uid, page } => Ok(page_in(home, *uid, *page)),
-        Body::PageOut {
-            uid,
-            page,
-            grant,
-            base,
-            bytes,
-        } => {
-            let granted = is_granted(locks, *grant, *uid, proc);
-            page_out(home, granted, *uid, *page, *base, bytes)
-        }
-        Body::AttrOut {
-            uid,
-            length,
-            grant,
-            base,
-        } => {
-            let granted = is_granted(locks, *grant, *uid, proc);
-            Ok(attr_out(home, granted, *uid, *length, *base))
-        }
+        Body::PageOut { .. } => write(home, locks, proc, body),
+        Body::AttrOut { .. } => write(home, locks, proc, body),
         Body::Lock { uid, mode } => lock(home, locks, proc, *uid, *mode),
         Body::Unlock { uid } => Ok(unlock(locks, proc, *uid)),
         Body::Remove { uid } => Ok(remove(home, locks, proc, *uid)),

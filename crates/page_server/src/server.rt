@@ -89,13 +89,8 @@ impl<P: Pages> PageServer<P> {
     {
         match self.served.look(frame.caller(), frame.number()) {
             Looked::Fresh => {
-                let answer = fresh(
-                    alloc,
-                    &mut self.home,
-                    &mut self.locks,
-                    &mut self.served,
-                    frame,
-                )?;
+                let (home, locks) = (&mut self.home, &mut self.locks);
+                let answer = fresh(alloc, home, locks, &mut self.served, frame)?;
                 self.tick = tick;
                 Ok(Some(reply(frame, tick, answer)))
             }

@@ -8,7 +8,7 @@ use Rattle.uid_names.specs.declared.frame_kind.FrameKind.TheVariants as kinds
 use Rattle.ring_messages.specs.declared.body.Body.{Body}
 use Rattle.ring_messages.specs.declared.frame.Head.{Head}
 use Rattle.ring_messages.specs.Frames.{Message}
-use Rattle.ring_messages.specs.Spelling.{header, head_of, spelling, body_bytes}
+use Rattle.ring_messages.specs.Spelling.{header, head_of, framed, spelling, body_bytes}
 use Rattle.ring_messages.specs.Spelled.{IsHead, IsFrame, Spells}
 use Rattle.ring_messages.specs.Sizes.{body_size}
 use Rattle.ring_messages.specs.Reading.{body_at}
@@ -94,10 +94,6 @@ spelling-take m rest = ap (take 24) (append_assoc (header (head_of m)) (body_byt
 
 pub spelling-drop : (m : Message) (rest : List ℕ) → drop 24 (spelling m ++ rest) ≡ body_bytes m.body ++ rest
 spelling-drop m rest = ap (drop 24) (append_assoc (header (head_of m)) (body_bytes m.body) rest) ∙ drop_at (header (head_of m)) (body_bytes m.body ++ rest) 24 (length-header (head_of m))
-
--- the frame of a header and a body
-abbrev pub framed : Head → Body → Message
-framed h b = record { from = h.from; to = h.to; proc = h.proc; number = h.number; tick = h.tick; body = b }
 
 -- what was read is the frame that was written
 pub frame-takes : (h : Head) (bytes : List ℕ) (b : Body) → IsBytes bytes → IsHead h → take 24 bytes ≡ header h → body_at h.kind h.to (drop 24 bytes) ≡ Some b → Spells (framed h b) bytes

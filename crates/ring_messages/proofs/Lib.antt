@@ -7,4 +7,6 @@ pub mod Values
 pub mod Bodies
 pub mod Sizes
 pub mod Frames
+pub mod WhatIsRead
 pub mod RowByRow
+pub mod Asking

@@ -12,8 +12,11 @@ use Rattle.uid_names.specs.declared.frame_kind.FrameKind.{FrameKind}
 use Rattle.uid_names.specs.declared.frame_kind.FrameKind.TheVariants as kinds
 use Rattle.ring_messages.specs.declared.body.Body.{Body}
 use Rattle.ring_messages.specs.declared.body.Body.TheVariants.{PageIn, PageOut, AttrOut, Lock, Unlock, Remove, Make, List as ListLocks, Page, Stored, Stale, NoGrant, NoObject, Granted, Conflict, Done, Made, NoSpace, Listed}
+use Rattle.ring_messages.specs.declared.frame.Head.{Head}
 use Rattle.ring_messages.specs.declared.frame.FrameFault.{FrameFault}
 use Rattle.ring_messages.specs.declared.frame.FrameFault.TheVariants as faults
+use Rattle.ring_messages.specs.Frames.{Message}
+use Rattle.ring_messages.specs.Spelling.{framed}
 
 -- What a function answered, seen by view, is what reading gives, unless memory ran out.
 abbrev pub Fails : {Y : Type 0} → FrameFault → Option Y → Type 0
@@ -181,6 +184,12 @@ listed_at bytes = do
   rows ← whole (rows_at count.0) (λ rows. rows) more.1
   if nat_le count.0 64 && is_rising rows then Some (Listed rows more.0) else None
 
+-- a body without fields
+abbrev pub empty_at : Body → List ℕ → Option Body
+empty_at body bytes = do
+  _ ← end_at bytes
+  Some body
+
 -- the body of a kind that is sent to a node
 unfoldable pub body_at : FrameKind → ℕ → List ℕ → Option Body
 body_at kinds.PageIn to = whole (own_at to then page_at) (λ x. PageIn x.0 x.1)
@@ -194,11 +203,15 @@ body_at kinds.List to = λ bytes. whole (flag_at then be64_at then byte_at then 
 body_at kinds.Page to = whole (count_at then bytes_at) (λ x. Page x.0 x.1)
 body_at kinds.Stored to = whole count_at (λ n. Stored n)
 body_at kinds.Stale to = whole count_at (λ n. Stale n)
-body_at kinds.NoGrant to = λ bytes. end_at bytes >>= λ _. Some NoGrant
-body_at kinds.NoObject to = λ bytes. end_at bytes >>= λ _. Some NoObject
+body_at kinds.NoGrant to = empty_at NoGrant
+body_at kinds.NoObject to = empty_at NoObject
 body_at kinds.Granted to = whole (count_at then count_at then object_at then room_at then length_at) (λ x. Granted x.0 x.1.0 x.1.1.0 x.1.1.1.0 x.1.1.1.1)
 body_at kinds.Conflict to = whole (proc_at then mode_at) (λ x. Conflict x.0 x.1)
-body_at kinds.Done to = λ bytes. end_at bytes >>= λ _. Some Done
+body_at kinds.Done to = empty_at Done
 body_at kinds.Made to = whole uid_at (λ u. Made u)
-body_at kinds.NoSpace to = λ bytes. end_at bytes >>= λ _. Some NoSpace
+body_at kinds.NoSpace to = empty_at NoSpace
 body_at kinds.Listed to = listed_at
+
+-- the frame of a header, from the bytes behind it
+abbrev pub frame_at : Head → List ℕ → Option Message
+frame_at h bytes = body_at h.kind h.to bytes >>= λ b. Some (framed h b)

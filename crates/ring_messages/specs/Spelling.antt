@@ -71,5 +71,9 @@ header h = 1 ∷ kind_number h.kind ∷ h.from ∷ h.to ∷ h.proc ∷ 0 ∷ 0 �
 abbrev pub head_of : Message → Head
 head_of m = record { kind = kind_of m.body; from = m.from; to = m.to; proc = m.proc; number = m.number; tick = m.tick }
 
+-- the frame of a header and a body
+abbrev pub framed : Head → Body → Message
+framed h b = record { from = h.from; to = h.to; proc = h.proc; number = h.number; tick = h.tick; body = b }
+
 abbrev pub spelling : Message → List ℕ
 spelling m = header (head_of m) ++ body_bytes m.body

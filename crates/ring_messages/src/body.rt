@@ -1,5 +1,5 @@
 //! What a frame carries.
-ghost use Rattle.std.specs.Prelude.{◌≡◌, IfOk, OnErr};
+ghost use Rattle.std.specs.Prelude.{◌≡◌, IfOk, OnErr, IsTrue, IsFalse};
 ghost use Rattle.ring_messages.specs.Bodies.{kind_of, is_request as asks};
 
 use std::alloc::Global;
@@ -118,11 +118,19 @@ impl Body {
         ensures copy { IfOk result (λ copy. copy ≡ self.now) }
         ensures memory { OnErr result (kind_of self.now ≡ FrameKind.Listed) }
     {
-        Ok(match self {
-            Body::PageIn { uid, page } => Body::PageIn {
-                uid: *uid,
-                page: *page,
-            },
+        if self.is_request() {
+            return Ok(self.copy_request());
+        }
+        self.copy_reply(alloc)
+    }
+
+    /// A copy of a request.
+    fn copy_request(&self) -> Body
+        requires { IsTrue (asks self.now) }
+        ensures { result ≡ self.now }
+    {
+        match *self {
+            Body::PageIn { uid, page } => Body::PageIn { uid, page },
             Body::PageOut {
                 uid,
                 page,
@@ -130,11 +138,11 @@ impl Body {
                 base,
                 bytes,
             } => Body::PageOut {
-                uid: *uid,
-                page: *page,
-                grant: *grant,
-                base: *base,
-                bytes: *bytes,
+                uid,
+                page,
+                grant,
+                base,
+                bytes,
             },
             Body::AttrOut {
                 uid,
@@ -142,28 +150,30 @@ impl Body {
                 grant,
                 base,
             } => Body::AttrOut {
-                uid: *uid,
-                length: *length,
-                grant: *grant,
-                base: *base,
+                uid,
+                length,
+                grant,
+                base,
             },
-            Body::Lock { uid, mode } => Body::Lock {
-                uid: *uid,
-                mode: *mode,
-            },
-            Body::Unlock { uid } => Body::Unlock { uid: *uid },
-            Body::Remove { uid } => Body::Remove { uid: *uid },
-            Body::Make { kind, room } => Body::Make {
-                kind: *kind,
-                room: *room,
-            },
-            Body::List { after } => Body::List { after: *after },
-            Body::Page { stamp, bytes } => Body::Page {
-                stamp: *stamp,
-                bytes: *bytes,
-            },
-            Body::Stored { stamp } => Body::Stored { stamp: *stamp },
-            Body::Stale { stamp } => Body::Stale { stamp: *stamp },
+            Body::Lock { uid, mode } => Body::Lock { uid, mode },
+            Body::Unlock { uid } => Body::Unlock { uid },
+            Body::Remove { uid } => Body::Remove { uid },
+            Body::Make { kind, room } => Body::Make { kind, room },
+            Body::List { after } => Body::List { after },
+            _ => unreachable!(),
+        }
+    }
+
+    /// A copy of a reply. Only that of a list of locks takes memory.
+    fn copy_reply(&self, alloc: Global) -> Result<Body, NoMemory>
+        requires { IsFalse (asks self.now) }
+        ensures copy { IfOk result (λ copy. copy ≡ self.now) }
+        ensures memory { OnErr result (kind_of self.now ≡ FrameKind.Listed) }
+    {
+        Ok(match *self {
+            Body::Page { stamp, bytes } => Body::Page { stamp, bytes },
+            Body::Stored { stamp } => Body::Stored { stamp },
+            Body::Stale { stamp } => Body::Stale { stamp },
             Body::NoGrant => Body::NoGrant,
             Body::NoObject => Body::NoObject,
             Body::Granted {
@@ -173,23 +183,21 @@ impl Body {
                 room,
                 length,
             } => Body::Granted {
-                grant: *grant,
-                stamp: *stamp,
-                kind: *kind,
-                room: *room,
-                length: *length,
+                grant,
+                stamp,
+                kind,
+                room,
+                length,
             },
-            Body::Conflict { proc, mode } => Body::Conflict {
-                proc: *proc,
-                mode: *mode,
-            },
+            Body::Conflict { proc, mode } => Body::Conflict { proc, mode },
             Body::Done => Body::Done,
-            Body::Made { uid } => Body::Made { uid: *uid },
+            Body::Made { uid } => Body::Made { uid },
             Body::NoSpace => Body::NoSpace,
-            Body::Listed { rows, more } => Body::Listed {
+            Body::Listed { ref rows, more } => Body::Listed {
                 rows: rows.copy(alloc)?,
-                more: *more,
+                more,
             },
+            _ => unreachable!(),
         })
     }
 }

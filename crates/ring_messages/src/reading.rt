@@ -1,13 +1,15 @@
 //! Reading frames.
-ghost use Rattle.std.specs.Prelude.{◌≡◌, ◌≢◌, ◌≤◌, ℕ, List, ◌+◌, ◌++◌, take, drop, length, IfSome, IfNone, IfOk, Err};
+ghost use Rattle.std.specs.Prelude.{◌≡◌, ◌≢◌, ◌≤◌, ℕ, List, ◌+◌, ◌++◌, take, drop, length, Some, IfSome, IfNone, IfOk, Err, IsFalse, nat_lt};
 ghost use Rattle.byteorder.specs.Endian.{big_number};
+ghost use Rattle.uid_names.specs.FrameKinds.{kind_number};
 ghost use Rattle.uid_names.specs.declared.frame_kind.FrameKind.TheVariants as kinds;
 ghost use Rattle.ring_messages.specs.declared.frame.Head.{Head};
 ghost use Rattle.ring_messages.specs.declared.frame.FrameFault.TheVariants as faults;
 ghost use Rattle.ring_messages.specs.Frames.{Message};
-ghost use Rattle.ring_messages.specs.Spelling.{header, spelling};
+ghost use Rattle.ring_messages.specs.Ranges.{IsBody};
+ghost use Rattle.ring_messages.specs.Spelling.{header, framed, spelling};
 ghost use Rattle.ring_messages.specs.Spelled.{IsHead, IsFrame, Spells};
-ghost use Rattle.ring_messages.specs.Reading.{Gives, body_at};
+ghost use Rattle.ring_messages.specs.Reading.{Gives, empty_at, body_at, frame_at};
 
 mod fields;
 mod replies;
@@ -17,6 +19,7 @@ mod rows;
 use crate::body::Body;
 use crate::frame::{Frame, FrameFault, Head};
 use byteorder::{BigEndian, ByteOrder};
+use fields::end;
 use std::alloc::Global;
 use uid_names::{FrameKind, NodeId};
 
@@ -57,30 +60,155 @@ pub fn head(bytes: &[u8]) -> Option<Head>
     })
 }
 
-/// The body of a kind that is sent to a node, from the bytes behind the header.
-fn body(alloc: Global, kind: FrameKind, to: NodeId, bytes: &[u8]) -> Result<Body, FrameFault>
-    ensures { Gives (λ b. b) result (body_at kind to bytes.now) }
+/// The frame of a header and a body.
+fn framed(head: &Head, body: Body) -> Frame
+    requires head { IsHead head.now }
+    requires body { IsBody head.now.to body }
+    ensures { result ≡ framed head.now body }
 {
-    match kind {
-        FrameKind::PageIn => requests::page_in(to, bytes),
-        FrameKind::PageOut => requests::page_out(to, bytes),
-        FrameKind::AttrOut => requests::attr_out(to, bytes),
-        FrameKind::Lock => requests::lock(to, bytes),
-        FrameKind::Unlock => requests::unlock(to, bytes),
-        FrameKind::Remove => requests::remove(to, bytes),
-        FrameKind::Make => requests::make(bytes),
-        FrameKind::List => requests::list(bytes),
-        FrameKind::Page => replies::page(bytes),
-        FrameKind::Stored => replies::stored(bytes),
-        FrameKind::Stale => replies::stale(bytes),
-        FrameKind::NoGrant => replies::no_grant(bytes),
-        FrameKind::NoObject => replies::no_object(bytes),
-        FrameKind::Granted => replies::granted(bytes),
-        FrameKind::Conflict => replies::conflict(bytes),
-        FrameKind::Done => replies::done(bytes),
-        FrameKind::Made => replies::made(bytes),
-        FrameKind::NoSpace => replies::no_space(bytes),
-        FrameKind::Listed => rows::listed(alloc, bytes),
+    Frame::new(head.from, head.to, head.proc, head.number, head.tick, body)
+}
+
+/// The frame of an attr-out, from its header and the bytes behind it.
+fn attr_out(head: &Head, rest: &[u8]) -> Result<Frame, FrameFault>
+    requires head { IsHead head.now }
+    requires kind { head.now.kind ≡ kinds.AttrOut }
+    ensures { Gives (λ frame. frame) result (frame_at head.now rest.now) }
+{
+    let (uid, length, grant, base) = requests::attr_out(head.to, rest)?;
+    let body = Body::AttrOut {
+        uid,
+        length,
+        grant,
+        base,
+    };
+    Ok(framed(head, body))
+}
+
+/// The frame of a page-out, from its header and the bytes behind it.
+fn page_out(head: &Head, rest: &[u8]) -> Result<Frame, FrameFault>
+    requires head { IsHead head.now }
+    requires kind { head.now.kind ≡ kinds.PageOut }
+    ensures { Gives (λ frame. frame) result (frame_at head.now rest.now) }
+{
+    let (uid, page, grant, base, bytes) = requests::page_out(head.to, rest)?;
+    let body = Body::PageOut {
+        uid,
+        page,
+        grant,
+        base,
+        bytes,
+    };
+    Ok(framed(head, body))
+}
+
+/// The frame of a page, from its header and the bytes behind it.
+fn page(head: &Head, rest: &[u8]) -> Result<Frame, FrameFault>
+    requires head { IsHead head.now }
+    requires kind { head.now.kind ≡ kinds.Page }
+    ensures { Gives (λ frame. frame) result (frame_at head.now rest.now) }
+{
+    let (stamp, bytes) = replies::page(rest)?;
+    Ok(framed(head, Body::Page { stamp, bytes }))
+}
+
+/// The frame of a grant, from its header and the bytes behind it.
+fn granted(head: &Head, rest: &[u8]) -> Result<Frame, FrameFault>
+    requires head { IsHead head.now }
+    requires kind { head.now.kind ≡ kinds.Granted }
+    ensures { Gives (λ frame. frame) result (frame_at head.now rest.now) }
+{
+    let (grant, stamp, kind, room, length) = replies::granted(rest)?;
+    let body = Body::Granted {
+        grant,
+        stamp,
+        kind,
+        room,
+        length,
+    };
+    Ok(framed(head, body))
+}
+
+/// The frame of a body without fields, from its header and the bytes behind it.
+fn empty(head: &Head, rest: &[u8], body: Body) -> Result<Frame, FrameFault>
+    requires head { IsHead head.now }
+    requires body { body_at head.now.kind head.now.to rest.now ≡ empty_at body rest.now }
+    ensures { Gives (λ frame. frame) result (frame_at head.now rest.now) }
+{
+    end(rest)?;
+    Ok(framed(head, body))
+}
+
+/// The frame of a reply, from its header and the bytes behind it.
+fn reply(alloc: Global, head: &Head, rest: &[u8]) -> Result<Frame, FrameFault>
+    requires head { IsHead head.now }
+    requires kind { IsFalse (nat_lt (kind_number head.now.kind) 128) }
+    ensures { Gives (λ frame. frame) result (frame_at head.now rest.now) }
+{
+    match head.kind {
+        FrameKind::Page => page(head, rest),
+        FrameKind::Stored => {
+            let stamp = replies::stamp(rest)?;
+            Ok(framed(head, Body::Stored { stamp }))
+        }
+        FrameKind::Stale => {
+            let stamp = replies::stamp(rest)?;
+            Ok(framed(head, Body::Stale { stamp }))
+        }
+        FrameKind::NoGrant => empty(head, rest, Body::NoGrant),
+        FrameKind::NoObject => empty(head, rest, Body::NoObject),
+        FrameKind::Granted => granted(head, rest),
+        FrameKind::Conflict => {
+            let (proc, mode) = replies::conflict(rest)?;
+            Ok(framed(head, Body::Conflict { proc, mode }))
+        }
+        FrameKind::Done => empty(head, rest, Body::Done),
+        FrameKind::Made => {
+            let uid = replies::made(rest)?;
+            Ok(framed(head, Body::Made { uid }))
+        }
+        FrameKind::NoSpace => empty(head, rest, Body::NoSpace),
+        FrameKind::Listed => {
+            let (rows, more) = rows::listed(alloc, rest)?;
+            Ok(framed(head, Body::Listed { rows, more }))
+        }
+        _ => unreachable!(),
+    }
+}
+
+/// The frame of any kind but a lock, from its header and the bytes behind it.
+// Not inlined, since `read` would then blank the room of each page and each frame here for every lock.
+#[inline(never)]
+fn other(alloc: Global, head: &Head, rest: &[u8]) -> Result<Frame, FrameFault>
+    requires head { IsHead head.now }
+    requires kind { head.now.kind ≢ kinds.Lock }
+    ensures { Gives (λ frame. frame) result (frame_at head.now rest.now) }
+{
+    match head.kind {
+        FrameKind::PageIn => {
+            let (uid, page) = requests::page_in(head.to, rest)?;
+            Ok(framed(head, Body::PageIn { uid, page }))
+        }
+        FrameKind::Lock => unreachable!(),
+        FrameKind::Unlock => {
+            let uid = requests::object_alone(head.to, rest)?;
+            Ok(framed(head, Body::Unlock { uid }))
+        }
+        FrameKind::Remove => {
+            let uid = requests::object_alone(head.to, rest)?;
+            Ok(framed(head, Body::Remove { uid }))
+        }
+        FrameKind::Make => {
+            let (kind, room) = requests::make(rest)?;
+            Ok(framed(head, Body::Make { kind, room }))
+        }
+        FrameKind::List => {
+            let after = requests::list(rest)?;
+            Ok(framed(head, Body::List { after }))
+        }
+        FrameKind::AttrOut => attr_out(head, rest),
+        FrameKind::PageOut => page_out(head, rest),
+        _ => reply(alloc, head, rest),
     }
 }
 
@@ -92,6 +220,12 @@ pub fn read(alloc: Global, bytes: &[u8]) -> Result<Frame, FrameFault>
     let Some(head) = head(bytes) else {
         return Err(FrameFault::BadFrame);
     };
-    let body = body(alloc, head.kind, head.to, &bytes[24..])?;
-    Ok(Frame::new(head.from, head.to, head.proc, head.number, head.tick, body))
+    let rest = &bytes[24..];
+    // A frame has room for a page, and is slow to move: a lock is made where it is answered.
+    if let FrameKind::Lock = head.kind {
+        let (uid, mode) = requests::lock(head.to, rest)?;
+        return Ok(framed(&head, Body::Lock { uid, mode }));
+    }
+    let frame = other(alloc, &head, rest)?;
+    Ok(frame)
 }

@@ -87,28 +87,42 @@ fn put_after(out: &mut ByteList, after: Option<(Uid, ProcId)>) -> Result<(), NoM
     }
 }
 
+/// What a write begins with: the object, the page or the length, the grant and the base.
+fn put_written(
+    out: &mut ByteList,
+    uid: Uid,
+    number: u32,
+    grant: u64,
+    base: u64,
+) -> Result<(), NoMemory>
+    ensures text { OnOk result (out.new ≡ out.old ++ (uid_bytes uid ++ (be32 number ++ (be64 grant ++ be64 base)))) }
+    ensures name { OnOk result (IsName uid) }
+{
+    put_uid(out, uid)?;
+    put_u32(out, number)?;
+    put_u64(out, grant)?;
+    put_u64(out, base)
+}
+
 /// The bytes behind the header of a request.
 fn put_request(out: &mut ByteList, body: &Body) -> Result<(), NoMemory>
     requires { IsTrue (is_request body.now) }
     ensures text { OnOk result (out.new ≡ out.old ++ body_bytes body.now) }
     ensures typed { OnOk result (IsTypedBody body.now) }
 {
-    match body {
+    match *body {
         Body::PageIn { uid, page } => {
-            put_uid(out, *uid)?;
-            put_u32(out, *page)
+            put_uid(out, uid)?;
+            put_u32(out, page)
         }
         Body::PageOut {
             uid,
             page,
             grant,
             base,
-            bytes,
+            ref bytes,
         } => {
-            put_uid(out, *uid)?;
-            put_u32(out, *page)?;
-            put_u64(out, *grant)?;
-            put_u64(out, *base)?;
+            put_written(out, uid, page, grant, base)?;
             put_page(out, bytes)
         }
         Body::AttrOut {
@@ -116,22 +130,17 @@ fn put_request(out: &mut ByteList, body: &Body) -> Result<(), NoMemory>
             length,
             grant,
             base,
-        } => {
-            put_uid(out, *uid)?;
-            put_u32(out, *length)?;
-            put_u64(out, *grant)?;
-            put_u64(out, *base)
-        }
+        } => put_written(out, uid, length, grant, base),
         Body::Lock { uid, mode } => {
-            put_uid(out, *uid)?;
+            put_uid(out, uid)?;
             out.push(mode.code())
         }
-        Body::Unlock { uid } | Body::Remove { uid } => put_uid(out, *uid),
+        Body::Unlock { uid } | Body::Remove { uid } => put_uid(out, uid),
         Body::Make { kind, room } => {
             out.push(kind.code())?;
-            put_u32(out, *room)
+            put_u32(out, room)
         }
-        Body::List { after } => put_after(out, *after),
+        Body::List { after } => put_after(out, after),
         _ => unreachable!(),
     }
 }

@@ -1,45 +1,41 @@
-//! Replies without rows, from the bytes behind the header.
+//! The fields of replies without rows, from the bytes behind the header.
 ghost use Rattle.std.specs.Prelude.{ℕ};
 ghost use Rattle.ring_messages.specs.Reading.{Gives, body_at};
 ghost use Rattle.uid_names.specs.declared.frame_kind.FrameKind.TheVariants as kinds;
+ghost use Rattle.ring_messages.specs.declared.body.Body.TheVariants as bodies;
 
 use super::fields::{
     byte, count, end, length, mode, number64, object, page_bytes, proc, room, uid,
 };
-use crate::body::Body;
 use crate::frame::FrameFault;
+use uid_names::{Mode, ObjKind, ProcId, Uid};
 
+/// The stamp, and the bytes.
 #[tactic(auto, unfolding(crate::specs::Reading::body_at))]
-pub(super) fn page(bytes: &[u8]) -> Result<Body, FrameFault>
-    ensures { (to : ℕ) → Gives (λ b. b) result (body_at kinds.Page to bytes.now) }
+pub(super) fn page(bytes: &[u8]) -> Result<(u64, [u8; 1024]), FrameFault>
+    ensures { (to : ℕ) → Gives (λ x. bodies.Page x.0 x.1) result (body_at kinds.Page to bytes.now) }
 {
     let (stamp, rest) = count(bytes)?;
     let (bytes, rest) = page_bytes(rest)?;
     end(rest)?;
-    Ok(Body::Page { stamp, bytes })
+    Ok((stamp, bytes))
 }
 
+/// The stamp of an answer to a write.
 #[tactic(auto, unfolding(crate::specs::Reading::body_at))]
-pub(super) fn stored(bytes: &[u8]) -> Result<Body, FrameFault>
-    ensures { (to : ℕ) → Gives (λ b. b) result (body_at kinds.Stored to bytes.now) }
+pub(super) fn stamp(bytes: &[u8]) -> Result<u64, FrameFault>
+    ensures stored { (to : ℕ) → Gives (λ n. bodies.Stored n) result (body_at kinds.Stored to bytes.now) }
+    ensures stale { (to : ℕ) → Gives (λ n. bodies.Stale n) result (body_at kinds.Stale to bytes.now) }
 {
     let (stamp, rest) = count(bytes)?;
     end(rest)?;
-    Ok(Body::Stored { stamp })
+    Ok(stamp)
 }
 
+/// The grant, the stamp, the kind, the room, and the length.
 #[tactic(auto, unfolding(crate::specs::Reading::body_at))]
-pub(super) fn stale(bytes: &[u8]) -> Result<Body, FrameFault>
-    ensures { (to : ℕ) → Gives (λ b. b) result (body_at kinds.Stale to bytes.now) }
-{
-    let (stamp, rest) = count(bytes)?;
-    end(rest)?;
-    Ok(Body::Stale { stamp })
-}
-
-#[tactic(auto, unfolding(crate::specs::Reading::body_at))]
-pub(super) fn granted(bytes: &[u8]) -> Result<Body, FrameFault>
-    ensures { (to : ℕ) → Gives (λ b. b) result (body_at kinds.Granted to bytes.now) }
+pub(super) fn granted(bytes: &[u8]) -> Result<(u64, u64, ObjKind, u32, u32), FrameFault>
+    ensures { (to : ℕ) → Gives (λ x. bodies.Granted x.0 x.1 x.2 x.3 x.4) result (body_at kinds.Granted to bytes.now) }
 {
     let (grant, rest) = count(bytes)?;
     let (stamp, rest) = count(rest)?;
@@ -48,18 +44,13 @@ pub(super) fn granted(bytes: &[u8]) -> Result<Body, FrameFault>
     let (room, rest) = room(rest)?;
     let (length, rest) = length(rest)?;
     end(rest)?;
-    Ok(Body::Granted {
-        grant,
-        stamp,
-        kind,
-        room,
-        length,
-    })
+    Ok((grant, stamp, kind, room, length))
 }
 
+/// The process that holds the object, and its mode.
 #[tactic(auto, unfolding(crate::specs::Reading::body_at))]
-pub(super) fn conflict(bytes: &[u8]) -> Result<Body, FrameFault>
-    ensures { (to : ℕ) → Gives (λ b. b) result (body_at kinds.Conflict to bytes.now) }
+pub(super) fn conflict(bytes: &[u8]) -> Result<(ProcId, Mode), FrameFault>
+    ensures { (to : ℕ) → Gives (λ x. bodies.Conflict x.0 x.1) result (body_at kinds.Conflict to bytes.now) }
 {
     let (node, rest) = byte(bytes)?;
     let (number, rest) = byte(rest)?;
@@ -67,47 +58,16 @@ pub(super) fn conflict(bytes: &[u8]) -> Result<Body, FrameFault>
     let (code, rest) = byte(rest)?;
     let mode = mode(code)?;
     end(rest)?;
-    Ok(Body::Conflict { proc, mode })
+    Ok((proc, mode))
 }
 
+/// The object.
 #[tactic(auto, unfolding(crate::specs::Reading::body_at))]
-pub(super) fn made(bytes: &[u8]) -> Result<Body, FrameFault>
-    ensures { (to : ℕ) → Gives (λ b. b) result (body_at kinds.Made to bytes.now) }
+pub(super) fn made(bytes: &[u8]) -> Result<Uid, FrameFault>
+    ensures { (to : ℕ) → Gives (λ u. bodies.Made u) result (body_at kinds.Made to bytes.now) }
 {
     let (number, rest) = number64(bytes)?;
     let uid = uid(number)?;
     end(rest)?;
-    Ok(Body::Made { uid })
-}
-
-#[tactic(auto, unfolding(crate::specs::Reading::body_at))]
-pub(super) fn no_grant(bytes: &[u8]) -> Result<Body, FrameFault>
-    ensures { (to : ℕ) → Gives (λ b. b) result (body_at kinds.NoGrant to bytes.now) }
-{
-    end(bytes)?;
-    Ok(Body::NoGrant)
-}
-
-#[tactic(auto, unfolding(crate::specs::Reading::body_at))]
-pub(super) fn no_object(bytes: &[u8]) -> Result<Body, FrameFault>
-    ensures { (to : ℕ) → Gives (λ b. b) result (body_at kinds.NoObject to bytes.now) }
-{
-    end(bytes)?;
-    Ok(Body::NoObject)
-}
-
-#[tactic(auto, unfolding(crate::specs::Reading::body_at))]
-pub(super) fn done(bytes: &[u8]) -> Result<Body, FrameFault>
-    ensures { (to : ℕ) → Gives (λ b. b) result (body_at kinds.Done to bytes.now) }
-{
-    end(bytes)?;
-    Ok(Body::Done)
-}
-
-#[tactic(auto, unfolding(crate::specs::Reading::body_at))]
-pub(super) fn no_space(bytes: &[u8]) -> Result<Body, FrameFault>
-    ensures { (to : ℕ) → Gives (λ b. b) result (body_at kinds.NoSpace to bytes.now) }
-{
-    end(bytes)?;
-    Ok(Body::NoSpace)
+    Ok(uid)
 }

@@ -1,29 +1,34 @@
-//! Requests, from the bytes behind the header.
+//! The fields of requests, from the bytes behind the header.
 ghost use Rattle.std.specs.Prelude.{ℕ};
 ghost use Rattle.ring_messages.specs.Reading.{Gives, body_at, after_of};
 ghost use Rattle.uid_names.specs.declared.frame_kind.FrameKind.TheVariants as kinds;
+ghost use Rattle.ring_messages.specs.declared.body.Body.TheVariants as bodies;
 
 use super::fields::{
     byte, count, end, flag, length, mode, number64, object, own, page, page_bytes, proc, room, uid,
 };
-use crate::body::Body;
 use crate::frame::FrameFault;
-use uid_names::{NodeId, ProcId, Uid};
+use uid_names::{Mode, NodeId, ObjKind, ProcId, Uid};
 
+/// The object, and the page.
 #[tactic(auto, unfolding(crate::specs::Reading::body_at))]
-pub(super) fn page_in(to: NodeId, bytes: &[u8]) -> Result<Body, FrameFault>
-    ensures { Gives (λ b. b) result (body_at kinds.PageIn to bytes.now) }
+pub(super) fn page_in(to: NodeId, bytes: &[u8]) -> Result<(Uid, u32), FrameFault>
+    ensures { Gives (λ x. bodies.PageIn x.0 x.1) result (body_at kinds.PageIn to bytes.now) }
 {
     let (number, rest) = number64(bytes)?;
     let uid = own(to, number)?;
     let (page, rest) = page(rest)?;
     end(rest)?;
-    Ok(Body::PageIn { uid, page })
+    Ok((uid, page))
 }
 
+/// The object, the page, the grant, the base, and the bytes.
 #[tactic(auto, unfolding(crate::specs::Reading::body_at))]
-pub(super) fn page_out(to: NodeId, bytes: &[u8]) -> Result<Body, FrameFault>
-    ensures { Gives (λ b. b) result (body_at kinds.PageOut to bytes.now) }
+pub(super) fn page_out(
+    to: NodeId,
+    bytes: &[u8],
+) -> Result<(Uid, u32, u64, u64, [u8; 1024]), FrameFault>
+    ensures { Gives (λ x. bodies.PageOut x.0 x.1 x.2 x.3 x.4) result (body_at kinds.PageOut to bytes.now) }
 {
     let (number, rest) = number64(bytes)?;
     let uid = own(to, number)?;
@@ -32,18 +37,13 @@ pub(super) fn page_out(to: NodeId, bytes: &[u8]) -> Result<Body, FrameFault>
     let (base, rest) = count(rest)?;
     let (bytes, rest) = page_bytes(rest)?;
     end(rest)?;
-    Ok(Body::PageOut {
-        uid,
-        page,
-        grant,
-        base,
-        bytes,
-    })
+    Ok((uid, page, grant, base, bytes))
 }
 
+/// The object, the length, the grant, and the base.
 #[tactic(auto, unfolding(crate::specs::Reading::body_at))]
-pub(super) fn attr_out(to: NodeId, bytes: &[u8]) -> Result<Body, FrameFault>
-    ensures { Gives (λ b. b) result (body_at kinds.AttrOut to bytes.now) }
+pub(super) fn attr_out(to: NodeId, bytes: &[u8]) -> Result<(Uid, u32, u64, u64), FrameFault>
+    ensures { Gives (λ x. bodies.AttrOut x.0 x.1 x.2 x.3) result (body_at kinds.AttrOut to bytes.now) }
 {
     let (number, rest) = number64(bytes)?;
     let uid = own(to, number)?;
@@ -51,55 +51,44 @@ pub(super) fn attr_out(to: NodeId, bytes: &[u8]) -> Result<Body, FrameFault>
     let (grant, rest) = count(rest)?;
     let (base, rest) = count(rest)?;
     end(rest)?;
-    Ok(Body::AttrOut {
-        uid,
-        length,
-        grant,
-        base,
-    })
+    Ok((uid, length, grant, base))
 }
 
+/// The object, and the mode.
 #[tactic(auto, unfolding(crate::specs::Reading::body_at))]
-pub(super) fn lock(to: NodeId, bytes: &[u8]) -> Result<Body, FrameFault>
-    ensures { Gives (λ b. b) result (body_at kinds.Lock to bytes.now) }
+pub(super) fn lock(to: NodeId, bytes: &[u8]) -> Result<(Uid, Mode), FrameFault>
+    ensures { Gives (λ x. bodies.Lock x.0 x.1) result (body_at kinds.Lock to bytes.now) }
 {
     let (number, rest) = number64(bytes)?;
     let uid = own(to, number)?;
     let (code, rest) = byte(rest)?;
     let mode = mode(code)?;
     end(rest)?;
-    Ok(Body::Lock { uid, mode })
+    Ok((uid, mode))
 }
 
+/// The object of an unlock or a removal.
 #[tactic(auto, unfolding(crate::specs::Reading::body_at))]
-pub(super) fn unlock(to: NodeId, bytes: &[u8]) -> Result<Body, FrameFault>
-    ensures { Gives (λ b. b) result (body_at kinds.Unlock to bytes.now) }
+pub(super) fn object_alone(to: NodeId, bytes: &[u8]) -> Result<Uid, FrameFault>
+    ensures unlock { Gives (λ u. bodies.Unlock u) result (body_at kinds.Unlock to bytes.now) }
+    ensures remove { Gives (λ u. bodies.Remove u) result (body_at kinds.Remove to bytes.now) }
 {
     let (number, rest) = number64(bytes)?;
     let uid = own(to, number)?;
     end(rest)?;
-    Ok(Body::Unlock { uid })
+    Ok(uid)
 }
 
+/// The kind, and the room.
 #[tactic(auto, unfolding(crate::specs::Reading::body_at))]
-pub(super) fn remove(to: NodeId, bytes: &[u8]) -> Result<Body, FrameFault>
-    ensures { Gives (λ b. b) result (body_at kinds.Remove to bytes.now) }
-{
-    let (number, rest) = number64(bytes)?;
-    let uid = own(to, number)?;
-    end(rest)?;
-    Ok(Body::Remove { uid })
-}
-
-#[tactic(auto, unfolding(crate::specs::Reading::body_at))]
-pub(super) fn make(bytes: &[u8]) -> Result<Body, FrameFault>
-    ensures { (to : ℕ) → Gives (λ b. b) result (body_at kinds.Make to bytes.now) }
+pub(super) fn make(bytes: &[u8]) -> Result<(ObjKind, u32), FrameFault>
+    ensures { (to : ℕ) → Gives (λ x. bodies.Make x.0 x.1) result (body_at kinds.Make to bytes.now) }
 {
     let (code, rest) = byte(bytes)?;
     let kind = object(code)?;
     let (room, rest) = room(rest)?;
     end(rest)?;
-    Ok(Body::Make { kind, room })
+    Ok((kind, room))
 }
 
 /// The row behind which rows begin, from a flag and the numbers behind it.
@@ -123,9 +112,10 @@ fn after(
     }
 }
 
+/// The row behind which the rows begin, if there is one.
 #[tactic(auto, unfolding(crate::specs::Reading::body_at))]
-pub(super) fn list(bytes: &[u8]) -> Result<Body, FrameFault>
-    ensures { (to : ℕ) → Gives (λ b. b) result (body_at kinds.List to bytes.now) }
+pub(super) fn list(bytes: &[u8]) -> Result<Option<(Uid, ProcId)>, FrameFault>
+    ensures { (to : ℕ) → Gives (λ after. bodies.List after) result (body_at kinds.List to bytes.now) }
 {
     let (code, rest) = byte(bytes)?;
     let is_there = flag(code)?;
@@ -134,5 +124,5 @@ pub(super) fn list(bytes: &[u8]) -> Result<Body, FrameFault>
     let (proc, rest) = byte(rest)?;
     end(rest)?;
     let after = after(is_there, number, node, proc)?;
-    Ok(Body::List { after })
+    Ok(after)
 }

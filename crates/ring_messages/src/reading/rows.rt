@@ -2,9 +2,9 @@
 ghost use Rattle.std.specs.Prelude.{◌≡◌, ℕ};
 ghost use Rattle.ring_messages.specs.Reading.{Gives, body_at, row_of, row_at, rows_at, pushed, whole, is_rising};
 ghost use Rattle.uid_names.specs.declared.frame_kind.FrameKind.TheVariants as kinds;
+ghost use Rattle.ring_messages.specs.declared.body.Body.TheVariants as bodies;
 
 use super::fields::{byte, end, flag, mode, number64, proc, uid};
-use crate::body::Body;
 use crate::frame::FrameFault;
 use std::alloc::Global;
 use uid_names::{LockRow, LockRows};
@@ -58,16 +58,17 @@ fn rise(rows: &[LockRow]) -> bool
     true
 }
 
+/// The rows, and whether more follow.
 #[tactic(auto, unfolding(crate::specs::Reading::body_at, crate::specs::Reading::listed_at))]
-pub(super) fn listed(alloc: Global, bytes: &[u8]) -> Result<Body, FrameFault>
-    ensures { (to : ℕ) → Gives (λ b. b) result (body_at kinds.Listed to bytes.now) }
+pub(super) fn listed(alloc: Global, bytes: &[u8]) -> Result<(LockRows, bool), FrameFault>
+    ensures { (to : ℕ) → Gives (λ x. bodies.Listed x.0 x.1) result (body_at kinds.Listed to bytes.now) }
 {
     let (count, rest) = byte(bytes)?;
     let (code, rest) = byte(rest)?;
     let more = flag(code)?;
     let rows = rows(alloc, count, rest)?;
     if count <= 64 && rise(rows.items()) {
-        Ok(Body::Listed { rows, more })
+        Ok((rows, more))
     } else {
         Err(FrameFault::BadFrame)
     }

@@ -2,7 +2,8 @@ use Rattle.std.proofs.Common.{◌≡◌, ◌+◌, ◌<◌, ◌∙◌, ap, arith}
 use Rattle.ring_messages.specs.Bodies.{ask_of}
 use Rattle.ring_messages.specs.Frames.{caller_of}
 use Rattle.page_server.proofs.Stamps.{AreStampedTo-weaker}
-use Rattle.page_server.proofs.Bounds.{asked-of, IsServer-asked, IsServer-later}
+use Rattle.ring_messages.proofs.Asking.{asked-of}
+use Rattle.page_server.proofs.Bounds.{IsServer-asked, IsServer-later}
 use Rattle.page_server.proofs.Rising.{asked-node}
 use Rattle.page_server.proofs.server.PageServer.serve.Goals as goal
 
