@@ -1,25 +1,20 @@
 -- What it says of an object's pages, and of its length, where a desk finds nothing to wait for or to send.
-use Rattle.std.proofs.Common.{◌≡◌, ◌≢◌, ℕ, ◌+◌, ◌<◌, ◌≤◌, Bool, true, false, List, [], ◌∷◌, Option, Some, None, IfSome, IsSome, count_by, inl, inr, refl, sym, ap, subst, ◌∙◌, arith}
-use Rattle.std.specs.Prelude.{◌==◌, not, ◌&&◌, if◌then◌else◌}
+use Rattle.std.proofs.Common.{◌≡◌, ◌≢◌, ℕ, Bool, true, false, List, [], ◌∷◌, Option, Some, None, inl, inr, refl, sym, ap, subst, ◌∙◌, arith}
+use Rattle.std.specs.Prelude.{◌==◌, not, if◌then◌else◌}
 use Rattle.std.specs.Option.{is_some}
 use Rattle.std.proofs.lemmas.Bool.{cases_eq}
 use Rattle.std.proofs.lemmas.Bool.Decides.{nat_tests}
 use Rattle.uid_names.specs.Names.{ObjectName, same_uid}
-use Rattle.page_cache.specs.Caches.{Resident, is_of, is_page, page_at}
+use Rattle.page_cache.specs.Caches.{Resident, is_page, page_at}
 use Rattle.page_cache.specs.Numbers.{is_dirty_of, lesser, dirty_page}
-use Rattle.page_cache.proofs.ListLemmas.{by_cases, count_by-found_by}
+use Rattle.page_cache.proofs.ListLemmas.{by_cases}
 use Rattle.fault_handler.specs.declared.lengths.Known.{Known}
 use Rattle.fault_handler.specs.declared.transits.Transit.{Transit}
-use Rattle.fault_handler.specs.Lengths.{is_changed, changed_in, changed_length, length_of}
-use Rattle.fault_handler.specs.ShownPages.{is_in_transit, settled}
-use Rattle.fault_handler.specs.Transits.{is_moving, moved_page, outward_count, coming, going}
-use Rattle.fault_handler.specs.Desks.{DeskState, at, entry_at, any_keeps, moving_of, other_transit, count_of}
-use Rattle.fault_handler.specs.Changes.{with_loss, with_room_settled}
-use Rattle.fault_handler.specs.Kept.{IsProc, is_marked, is_dirty, FitsWay, FitsTransit, IsDesk}
-use Rattle.fault_handler.specs.Entries.{keeps}
-use Rattle.fault_handler.proofs.Fours.{by_proc, first, second, third, fourth, at-put_same, at-put_other, any-at}
-use Rattle.fault_handler.proofs.Moves.{moving-uid}
-use Rattle.fault_handler.proofs.PageLists.{is_same, page_at-changed_other}
+use Rattle.fault_handler.specs.Lengths.{is_changed, changed_length, length_of}
+use Rattle.fault_handler.specs.Transits.{is_moving, moved_page, going}
+use Rattle.fault_handler.specs.Desks.{DeskState, at, any_keeps, moving_of, other_transit}
+use Rattle.fault_handler.specs.Kept.{IsProc, is_marked, is_dirty, IsDesk}
+use Rattle.fault_handler.proofs.Fours.{by_proc, first}
 use Rattle.fault_handler.proofs.TransitKeeps.{any_writes-keeps, dirty-writes, going-marked}
 use Rattle.fault_handler.proofs.Movers.{moved-by}
 

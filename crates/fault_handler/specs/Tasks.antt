@@ -1,5 +1,5 @@
 -- A load or store at its place in an object.
-use Rattle.std.specs.Prelude.{ℕ, ◌+◌, ◌/◌, ◌%◌, ◌<◌, ◌≤◌, length}
+use Rattle.std.specs.Prelude.{ℕ, ◌+◌, ◌/◌, ◌%◌, ◌<◌, ◌≤◌, Option, Some, None, List, length, take, drop}
 use Rattle.fault_handler.specs.declared.tasks.Work.{Work}
 use Rattle.fault_handler.specs.declared.tasks.Work.TheVariants.{Load, Store}
 use Rattle.fault_handler.specs.declared.tasks.Task.{Task}
@@ -16,6 +16,11 @@ start_of task = task.offset % 1024
 abbrev pub size_of : Work → ℕ
 size_of (Load count) = count
 size_of (Store bytes) = length bytes
+
+-- the bytes that a load takes from its page; a store takes none
+abbrev pub loaded_from : List ℕ → ℕ → Work → Option (List ℕ)
+loaded_from page start (Load count) = Some (take count (drop start page))
+loaded_from page start (Store bytes) = None
 
 -- one byte or more, all in one page, which is one that an object may have
 pub record IsTask (task : Task) : Type 0 where

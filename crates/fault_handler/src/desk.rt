@@ -16,7 +16,7 @@ mod calls;
 mod changes;
 mod replies;
 
-use crate::entries::{EntryTable, is_held};
+use crate::entries::EntryTable;
 use crate::four::{PROCESSES, index_of, other_transit, others_keep};
 use crate::lengths::KnownTable;
 use crate::open_call::OpenCall;
@@ -152,7 +152,7 @@ impl Desk {
         ensures { result ≡ held_grant (is_held (state_of self.now proc.number uid)) (grant_in (entry_at self.now.entries proc.number uid)) }
     {
         let table = &self.entries[index_of(proc)];
-        if is_held(table.state(uid)) {
+        if table.state(uid).is_held() {
             Some(table.grant(uid))
         } else {
             None

@@ -1,7 +1,6 @@
 //! What a process knows of its locks.
 ghost use Rattle.std.specs.Prelude.{◌≡◌, ◌⊎◌, ◌≤◌, ◌<◌, true, length, IfOk, IsSome, []};
-ghost use Rattle.dom_history.specs.Locks.{is_free, is_held};
-ghost use Rattle.dom_history.specs.Replies.{may_write};
+ghost use Rattle.dom_history.specs.Locks.{is_free};
 ghost use Rattle.fault_handler.specs.Entries.{entry_of, state_in, grant_in, keeps, keeps_writing, keeps_all, entries_without, entries_with, entries_after, entries_noted};
 
 use dom_history::LockState;
@@ -21,30 +20,6 @@ pub struct Entry {
     pub grant: u64,
     /// The release or the removal was sent.
     pub released: bool,
-}
-
-/// Whether a state is Held.
-pub(crate) fn is_held(state: LockState) -> bool
-    ensures { result ≡ is_held state }
-{
-    match state {
-        LockState::Held(_) => true,
-        LockState::Free | LockState::Taking(_) | LockState::Releasing(_) | LockState::Deleting => {
-            false
-        }
-    }
-}
-
-/// Whether a state is Held in a mode that writes.
-pub(crate) fn may_write(state: LockState) -> bool
-    ensures { result ≡ may_write state }
-{
-    match state {
-        LockState::Held(mode) => mode.writes(),
-        LockState::Free | LockState::Taking(_) | LockState::Releasing(_) | LockState::Deleting => {
-            false
-        }
-    }
 }
 
 /// The entry of an object.
@@ -130,7 +105,7 @@ impl EntryTable {
         ensures { result ≡ keeps (entry_of uid self.now) }
     {
         match self.find(uid) {
-            Some(entry) => is_held(entry.state) && !entry.released,
+            Some(entry) => entry.state.is_held() && !entry.released,
             None => false,
         }
     }
@@ -140,7 +115,7 @@ impl EntryTable {
         ensures { result ≡ keeps_writing (entry_of uid self.now) }
     {
         match self.find(uid) {
-            Some(entry) => may_write(entry.state) && !entry.released,
+            Some(entry) => entry.state.may_write() && !entry.released,
             None => false,
         }
     }
@@ -151,7 +126,7 @@ impl EntryTable {
     {
         self.items
             .iter()
-            .all(|entry| !(is_held(entry.state) && entry.released))
+            .all(|entry| !(entry.state.is_held() && entry.released))
     }
 
     /// On how many objects the process is not Free, at most eight. Takes no memory.

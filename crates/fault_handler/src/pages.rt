@@ -7,6 +7,7 @@ ghost use Rattle.page_cache.specs.Victims.{victim_of, name_of};
 ghost use Rattle.page_cache.specs.Numbers.{dirty_page, resident_pages};
 ghost use Rattle.fault_handler.specs.ShownPages.{fresh_page, changed_page, stored, as_sent, settled};
 
+use crate::tasks::part;
 use page_cache::{Cache, PageList};
 use page_frames::{Flags, FrameNo};
 use std::alloc::Global;
@@ -97,9 +98,8 @@ impl Pages {
         ensures bytes { IfOk result (λ bytes. option_map (λ r. take count (drop start r.bytes)) (page_at self.now.pages uid page) ≡ Some bytes) }
         ensures size { IfOk result (λ bytes. length bytes ≡ count) }
     {
-        let first = start as usize;
         let bytes = self.cache.bytes(frame_of(&self.cache, uid, page));
-        ByteList::from_slice(alloc, &bytes[first..first + count as usize])
+        part(alloc, bytes, start, count)
     }
 
     /// The bytes of a resident page.

@@ -1,11 +1,27 @@
 //! Loads and stores at their places.
-ghost use Rattle.std.specs.Prelude.{◌≡◌};
-ghost use Rattle.fault_handler.specs.Tasks.{page_of, start_of};
+ghost use Rattle.std.specs.Prelude.{◌≡◌, ◌+◌, ◌≤◌, IfOk, length, take, drop};
+ghost use Rattle.fault_handler.specs.Tasks.{page_of, start_of, size_of, loaded_from};
 
-use uid_names::{ByteList, Uid};
+use std::alloc::Global;
+use uid_names::{ByteList, NoMemory, Uid};
 
 /// How many bytes a page has.
 pub const PAGE_BYTES: u32 = 1024;
+
+/// So many bytes of a page, from one on.
+pub(crate) fn part(
+    alloc: Global,
+    page: &[u8; 1024],
+    start: u32,
+    count: u32,
+) -> Result<ByteList, NoMemory>
+    requires { start + count ≤ 1024 }
+    ensures bytes { IfOk result (λ bytes. bytes ≡ take count (drop start page.now)) }
+    ensures size { IfOk result (λ bytes. length bytes ≡ count) }
+{
+    let first = start as usize;
+    ByteList::from_slice(alloc, &page[first..first + count as usize])
+}
 
 /// What is done at a place: so many bytes loaded, or these stored.
 #[derive(Drop, Debug)]
@@ -35,5 +51,20 @@ impl Task {
         ensures { result ≡ start_of self.now }
     {
         self.offset % PAGE_BYTES
+    }
+
+    /// The bytes that a load takes from its page; None of a store.
+    pub(crate) fn loaded(
+        &self,
+        alloc: Global,
+        page: &[u8; 1024],
+    ) -> Result<Option<ByteList>, NoMemory>
+        requires { start_of self.now + size_of self.now.work ≤ 1024 }
+        ensures { IfOk result (λ loaded. loaded ≡ loaded_from page.now (start_of self.now) self.now.work) }
+    {
+        match &self.work {
+            Work::Load(count) => Ok(Some(part(alloc, page, self.start(), *count)?)),
+            Work::Store(_) => Ok(None),
+        }
     }
 }

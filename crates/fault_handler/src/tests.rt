@@ -5,7 +5,7 @@ ghost use Rattle.dom_history.specs.Ranges.{IsOp};
 ghost use Rattle.page_cache.specs.Caches.{page_at};
 ghost use Rattle.ring_messages.specs.Ranges.{IsBody};
 ghost use Rattle.fault_handler.specs.Kept.{is_marked, is_dirty};
-ghost use Rattle.fault_handler.specs.Conditions.{IsOf, IsIdle, IsAccess};
+ghost use Rattle.fault_handler.specs.Conditions.{IsOf, IsIdle, IsAccess, empty_desk};
 
 use super::*;
 use crate::tasks::PAGE_BYTES;
@@ -171,14 +171,17 @@ fn number_of(uid: Uid) -> u64 {
 }
 
 /// The desk of the first of two nodes, with five frames.
-fn desk(rt: &impl AllocGlobal) -> Result<Desk, Fail> {
+fn desk(rt: &impl AllocGlobal) -> Result<Desk, Fail>
+    ensures { IfOk result (λ desk. desk ≡ empty_desk 1 2 5) }
+{
     let node = NodeId::new(1).ok_or("no node")?;
     Ok(Desk::new(rt.alloc(), node, 2, 5)?)
 }
 
 /// A process of the desk's node.
 fn proc(desk: &Desk, number: u8) -> Result<ProcId, Fail>
-    ensures { IfOk result (IsOf desk.now) }
+    ensures own { IfOk result (IsOf desk.now) }
+    ensures number { IfOk result (λ proc. proc.number ≡ number) }
 {
     Ok(ProcId::new(desk.node(), number).ok_or("no process")?)
 }

@@ -6,7 +6,7 @@ ghost use Rattle.page_cache.specs.Victims.{victim_of};
 ghost use Rattle.address_map.specs.Mappings.{mapping_of};
 ghost use Rattle.page_cache.specs.Caches.{IsResident, page_at, free_count};
 ghost use Rattle.dom_history.specs.Ranges.{IsOp};
-ghost use Rattle.fault_handler.specs.Tasks.{page_of};
+ghost use Rattle.fault_handler.specs.Tasks.{page_of, start_of, loaded_from};
 ghost use Rattle.fault_handler.specs.Entries.{keeps_writing};
 ghost use Rattle.fault_handler.specs.Desks.{entry_at, state_of, maps_of, call_of, moving_of, others_fetch};
 ghost use Rattle.fault_handler.specs.Kept.{IsAllowed, is_marked, is_dirty};
@@ -16,7 +16,6 @@ ghost use Rattle.fault_handler.specs.Outcomes.{Gives, FitsAnswer, IsAsked, After
 
 use super::Desk;
 use crate::access::Access;
-use crate::entries::{is_held, may_write};
 use crate::four::{index_of, others_fetch, writing_grant};
 use crate::tasks::{PAGE_BYTES, Task, Work};
 use address_map::{MapRefusal, NotMapped};
@@ -107,7 +106,7 @@ impl Desk {
         ensures outcome { IfOk result (Gives self.new (load_at self.old proc.number count (Some (uid, offset)))) }
         ensures unchanged { OnErr result (self.new ≡ self.old) }
     {
-        if !is_held(self.entries[index_of(proc)].state(uid)) {
+        if !self.entries[index_of(proc)].state(uid).is_held() {
             return Ok(self.refuse(Reply::NoLock));
         }
         if u64::from(self.length_of(uid)) < u64::from(offset) + u64::from(count) {
@@ -131,10 +130,10 @@ impl Desk {
         ensures unchanged { OnErr result (self.new ≡ self.old) }
     {
         let state = self.entries[index_of(proc)].state(uid);
-        if !is_held(state) {
+        if !state.is_held() {
             return Ok(self.refuse(Reply::NoLock));
         }
-        if !may_write(state) {
+        if !state.may_write() {
             return Ok(self.refuse(Reply::WrongMode));
         }
         let end = u64::from(offset) + bytes.bytes().len() as u64;
@@ -174,6 +173,30 @@ impl Desk {
         }
     }
 
+    /// A load or store whose page is resident, with the bytes that a load takes from it. Takes no memory.
+    pub(super) fn perform(&mut self, proc: ProcId, task: Task, loaded: Option<ByteList>) -> Access
+        requires resident { IsResident self.old.cache.pages task.uid (page_of task) }
+        requires loaded { IfSome (page_at self.old.cache.pages task.uid (page_of task)) (λ r. loaded ≡ loaded_from r.bytes (start_of task) task.work) }
+        requires allowed { IsAllowed self.old.entries proc.number task }
+        ensures { Gives self.new (page_access self.old proc.number task) result }
+    {
+        match loaded {
+            Some(bytes) => {
+                self.use_page(task.uid, task.page());
+                self.done(Reply::Bytes(bytes))
+            }
+            None => match &task.work {
+                Work::Store(bytes) => self.store_resident(
+                    proc,
+                    task.uid,
+                    task.offset,
+                    bytes.bytes(),
+                ),
+                Work::Load(_) => unreachable!(),
+            },
+        }
+    }
+
     /// A load from a resident page.
     fn load_resident(
         &mut self,
@@ -187,7 +210,7 @@ impl Desk {
         ensures outcome { IfOk result (Gives self.new (page_access self.old proc.number (task_at uid offset (Work.Load count)))) }
         ensures unchanged { OnErr result (self.new ≡ self.old) }
     {
-        let _process = proc.number();
+        self.kept(proc);
         let page = offset / PAGE_BYTES;
         let bytes = self
             .pages
@@ -275,7 +298,7 @@ impl Desk {
         ensures dirty { is_dirty (page_at self.now.cache.pages result.0 result.1) ≡ result.2 }
         ensures still { is_marked (page_at self.now.cache.pages result.0 result.1) ≡ false }
     {
-        let _process = proc.number();
+        self.kept(proc);
         match self.pages.victim() {
             Some(name) => match self.pages.flags(name.0, name.1) {
                 Some(flags) => (name.0, name.1, flags.dirty),
@@ -315,7 +338,7 @@ impl Desk {
     fn length(&self, proc: ProcId, uid: Uid) -> Access
         ensures outcome { Gives self.now (length_by self.now uid (is_held (state_of self.now proc.number uid))) result }
     {
-        if is_held(self.entries[index_of(proc)].state(uid)) {
+        if self.entries[index_of(proc)].state(uid).is_held() {
             self.done(Reply::Size(self.length_of(uid)))
         } else {
             self.refuse(Reply::NoLock)
@@ -327,7 +350,7 @@ impl Desk {
         ensures outcome { Gives self.new (map_by self.old proc.number uid (is_held (state_of self.old proc.number uid))) result }
     {
         let at = index_of(proc);
-        if !is_held(self.entries[at].state(uid)) {
+        if !self.entries[at].state(uid).is_held() {
             return self.refuse(Reply::NoLock);
         }
         let room = self.room_of(uid);

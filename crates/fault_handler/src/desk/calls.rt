@@ -1,5 +1,6 @@
 //! The further calls by which locking and unlocking read and change a desk.
 ghost use Rattle.std.specs.Prelude.{◌≡◌, ◌⊎◌, ◌≤◌, ◌<◌, ◌*◌, ℕ, true, false, length, Some, None, IsSome, IsOk, is_some, IfOk, IfSome, OnOk, OnErr};
+ghost use Rattle.std.specs.Global.{Global};
 ghost use Rattle.uid_names.specs.declared.mode.TheConstants.{MAX_ROOM};
 ghost use Rattle.dom_history.specs.Locks.{is_free, is_held};
 ghost use Rattle.page_cache.specs.Caches.{IsResident, page_at};
@@ -25,8 +26,10 @@ use std::alloc::Global;
 use uid_names::{NoMemory, ProcId, Uid};
 
 impl Desk {
-    /// The allocator that the desk was made with.
-    pub fn allocator(&self) -> Global {
+    /// The allocator that the desk was made with: the one that there is. Takes no memory.
+    pub fn allocator(&self) -> Global
+        ensures only { (other : Global) → result ≡ other }
+    {
         self.alloc
     }
 

@@ -34,7 +34,7 @@ impl Desk {
         requires writes { keeps_writing (entry_at self.old.entries proc.number uid) ≡ true }
         ensures { self.new ≡ with_stored self.old uid page start bytes.now }
     {
-        let _process = proc.number();
+        self.kept(proc);
         self.pages.store(uid, page, start, bytes);
     }
 

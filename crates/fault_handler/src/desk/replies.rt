@@ -1,19 +1,22 @@
 //! How a load or store goes on where a home answers, or where a link fault ends its call.
-ghost use Rattle.std.specs.Prelude.{◌≡◌, ◌≤◌, true, length, nat_lt, IfOk, IfSome};
+ghost use Rattle.std.specs.Prelude.{◌≡◌, ◌≤◌, true, length, nat_lt, IfOk, IfSome, OnErr};
 ghost use Rattle.ring_messages.specs.Ranges.{IsBody};
+ghost use Rattle.fault_handler.specs.Tasks.{start_of, loaded_from};
 ghost use Rattle.fault_handler.specs.Transits.{coming, going};
 ghost use Rattle.fault_handler.specs.Desks.{task_of, moving_of, base_of};
+ghost use Rattle.fault_handler.specs.Changes.{with_raised, with_room_settled};
+ghost use Rattle.fault_handler.specs.Drops.{anew_of};
 ghost use Rattle.fault_handler.specs.PageReplies.{page_came_of, page_by_stamp, room_taken, room_stale, access_failed_of};
 ghost use Rattle.fault_handler.specs.Conditions.{IsOf, IsIdle, IsAccessing, IsWhole, fits_move};
 ghost use Rattle.fault_handler.specs.Outcomes.{Gives, FitsWork, IsAsked, AfterAccess};
 
 use super::Desk;
 use crate::access::Access;
-use crate::four::transit_of;
+use crate::four::{index_of, transit_of};
 use crate::transits::Transit;
 use dom_history::{Dropped, Reply};
 use ring_messages::Body;
-use uid_names::{NoMemory, ProcId, Uid};
+use uid_names::{ByteList, NoMemory, ProcId, Uid};
 
 impl Desk {
     /// Whether a body is an answer to the request that the load or store of a process sent. Takes no
@@ -32,7 +35,9 @@ impl Desk {
         }
     }
 
-    /// Goes on with a load or store at the reply that fits its open call. It is never refused.
+    /// Goes on with a load or store at the reply that fits its open call. It is never refused. Without
+    /// memory nothing changes, but where a home took the page that makes room: then that page is on its
+    /// way no more, and the load or store is open no more.
     pub fn page_came(&mut self, proc: ProcId, body: &Body) -> Result<Access, NoMemory>
         requires own { IsOf self.old proc }
         requires access { IsAccessing self.old proc.number }
@@ -42,6 +47,7 @@ impl Desk {
         ensures never { IfOk result (λ answer. IfSome (task_of self.old proc.number) (λ task. FitsWork task.work answer)) }
         ensures asks { IfOk result IsAsked }
         ensures next { IfOk result (AfterAccess self.new proc.number) }
+        ensures left { OnErr result (self.new ≡ anew_of self.old proc.number body.now) }
         ensures node { self.new.node ≡ self.old.node }
     {
         self.kept(proc);
@@ -55,6 +61,7 @@ impl Desk {
         requires range { IsBody proc.node body.now }
         ensures outcome { IfOk result (Gives self.new (page_came_of self.old proc.number body.now)) }
         ensures whole { IsWhole body.now }
+        ensures left { OnErr result (self.new ≡ anew_of self.old proc.number body.now) }
         ensures node { self.new.node ≡ self.old.node }
     {
         let Some(transit) = transit_of(&self.moving, proc) else {
@@ -67,6 +74,18 @@ impl Desk {
             Body::Stored { stamp } => self.page_taken(proc, transit, *stamp),
             Body::Stale { stamp } => Ok(self.page_stale(proc, transit, *stamp)),
             _ => unreachable!(),
+        }
+    }
+
+    /// The bytes that the open load of a process takes from this page; None of a store.
+    fn loaded(&self, proc: ProcId, page: &[u8; 1024]) -> Result<Option<ByteList>, NoMemory>
+        requires { IsAccessing self.now proc.number }
+        ensures { IfOk result (λ loaded. IfSome (task_of self.now proc.number) (λ task. loaded ≡ loaded_from page.now (start_of task) task.work)) }
+    {
+        self.kept(proc);
+        match &self.tasks[index_of(proc)] {
+            Some(task) => task.loaded(self.alloc, page),
+            None => unreachable!(),
         }
     }
 
@@ -85,16 +104,19 @@ impl Desk {
         ensures outcome { IfOk result (λ answer. IfSome (task_of self.old proc.number) (λ task.
             Gives self.new (page_by_stamp self.old proc.number task stamp bytes.now (nat_lt stamp (base_of self.old.seen task.uid))) answer)) }
         ensures whole { length bytes.now ≡ 1024 }
+        ensures unchanged { OnErr result (self.new ≡ self.old) }
         ensures node { self.new.node ≡ self.old.node }
     {
-        let _process = proc.number();
+        self.kept(proc);
         if stamp < self.seen.of(uid).unwrap_or(0) {
             let none = Dropped::new(self.alloc);
             return Ok(Access::Need(uid.home(), Body::PageIn { uid, page }, none));
         }
-        self.raise(uid, stamp);
+        // What wants memory comes first.
+        let loaded = self.loaded(proc, bytes)?;
         let task = self.arrive(proc, uid, page, bytes)?;
-        self.page_access(proc, task)
+        self.raise(uid, stamp);
+        Ok(self.perform(proc, task, loaded))
     }
 
     /// The home took the page that makes room: the access is made anew.
@@ -104,6 +126,7 @@ impl Desk {
         requires stamp { 1 ≤ stamp }
         ensures outcome { IfOk result (λ answer. IfSome (task_of self.old proc.number) (λ task.
             Gives self.new (room_taken self.old proc.number task transit.uid transit.page stamp) answer)) }
+        ensures left { OnErr result (self.new ≡ with_raised (with_room_settled self.old proc.number transit.uid transit.page true) transit.uid stamp) }
         ensures node { self.new.node ≡ self.old.node }
     {
         let task = self.settle_room(proc, transit.uid, transit.page, true);
@@ -119,7 +142,7 @@ impl Desk {
         ensures outcome { IfSome (task_of self.old proc.number) (λ task. Gives self.new (room_stale self.old task transit.uid transit.page stamp) result) }
         ensures node { self.new.node ≡ self.old.node }
     {
-        let _process = proc.number();
+        self.kept(proc);
         let none = Dropped::new(self.alloc);
         self.raise(transit.uid, stamp);
         let body = self.page_out(transit.uid, transit.page);

@@ -150,3 +150,24 @@ fn all_pages_of_an_object_are_dropped(rt: HostRuntime) -> Result<(), Fail> {
     ];
     play(&rt, steps.as_slice())
 }
+
+#[test]
+fn a_seen_stamp_can_be_forgotten(rt: HostRuntime) -> Result<(), Fail> {
+    let mut desk = desk(&rt)?;
+    let uid = object(1)?;
+    desk.know(uid, 7, 1, 0)?;
+    desk.forget_seen(uid);
+    assert!(rt; desk.seen(uid).is_none());
+    Ok(())
+}
+
+#[test]
+fn a_process_has_its_own_open_call(rt: HostRuntime) -> Result<(), Fail> {
+    let mut desk = desk(&rt)?;
+    let first = proc(&desk, 1)?;
+    let call = Some(OpenCall::Lock(object(1)?, Mode::Read));
+    desk.set_open_call(first, call);
+    assert!(rt; desk.open_call(first) == call);
+    assert!(rt; desk.open_call(proc(&desk, 2)?).is_none());
+    Ok(())
+}

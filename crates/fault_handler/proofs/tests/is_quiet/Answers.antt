@@ -1,4 +1,4 @@
-use Rattle.std.proofs.Common.{◌≡◌, sym, ◌∙◌}
+use Rattle.std.proofs.Common.{sym, ◌∙◌}
 use Rattle.std.proofs.lemmas.Bool.{OnTrue_from}
 use Rattle.fault_handler.proofs.Nothing.{none-dirty, nothing}
 use Rattle.fault_handler.proofs.tests.is_quiet.Goals as goal

@@ -1,5 +1,4 @@
-use Rattle.std.proofs.Common.{◌≡◌, Option, None, Some, true, refl, sym, ◌∙◌}
-use Rattle.std.specs.Option.{is_none}
+use Rattle.std.proofs.Common.{sym, ◌∙◌}
 use Rattle.std.proofs.lemmas.Bool.{OnTrue_from}
 use Rattle.fault_handler.proofs.Nothing.{none-marked, nothing}
 use Rattle.fault_handler.proofs.tests.is_still.Goals as goal

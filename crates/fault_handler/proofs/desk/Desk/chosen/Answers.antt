@@ -1,4 +1,4 @@
-use Rattle.std.proofs.Common.{◌∙◌, sym, arith}
+use Rattle.std.proofs.Common.{◌∙◌, sym}
 use Rattle.fault_handler.specs.Insides.{desk_of}
 use Rattle.fault_handler.proofs.Reached.{no-victim, page_at-chosen, chosen-still}
 use Rattle.fault_handler.proofs.Choice.{victim-there}
@@ -7,7 +7,7 @@ use Rattle.fault_handler.proofs.desk.Desk.chosen.Goals as goal
 pub unreachable-requires-in-None : goal.unreachable-requires-in-None
 unreachable-requires-in-None c =
     let asked = rw (← c.self.view_is) at c.requires in
-    let there = victim-there (desk_of c.self.inside) c.args.proc.number c.self.invariant (record { least = omega arith; most = omega arith }) asked.idle.no_page asked.full in
+    let there = victim-there (desk_of c.self.inside) c.args.proc.number c.self.invariant c.kept.ensures.process asked.idle.no_page asked.full in
     no-victim c.self.inside.pages.pages there (sym c.in-None.is ∙ c.victim.ensures.victim)
 
 pub returns-clause-chosen : goal.returns-clause-chosen

@@ -1,32 +1,23 @@
-use Rattle.std.proofs.Common.{◌∙◌, ap, arith}
+use Rattle.std.proofs.Common.{◌∙◌, ap}
 use Rattle.fault_handler.specs.Changes.{with_sent_again}
-use Rattle.fault_handler.specs.Kept.{IsProc, IsDesk}
 use Rattle.fault_handler.proofs.Reached.{IsSome-marked}
 use Rattle.fault_handler.proofs.Replying.{seen-going, marked-going, gives-again}
 use Rattle.fault_handler.proofs.desk.Desk.page_stale.Goals as goal
 
 pub raise-requires-clause-known : goal.raise-requires-clause-known
 raise-requires-clause-known c =
-    let is : IsDesk c.args.self.now = rw (← c.self.view_is) c.self.invariant in
-    let proc : IsProc c.args.proc.number = record { least = omega arith; most = omega arith } in
-    seen-going c.args.self.now c.args.proc.number is proc c.args.transit.uid c.args.transit.page c.requires.access c.requires.going
+    seen-going c.args.self.now c.args.proc.number c.kept.ensures.desk c.kept.ensures.process c.args.transit.uid c.args.transit.page c.requires.access c.requires.going
 
 pub page_out-body-requires : goal.page_out-body-requires
 page_out-body-requires c =
-    let is : IsDesk c.args.self.now = rw (← c.self.view_is) c.self.invariant in
-    let proc : IsProc c.args.proc.number = record { least = omega arith; most = omega arith } in
-    rw c.raise.ensures (IsSome-marked _ (marked-going c.args.self.now c.args.proc.number is proc c.args.transit.uid c.args.transit.page c.requires.access c.requires.going))
+    rw c.raise.ensures (IsSome-marked _ (marked-going c.args.self.now c.args.proc.number c.kept.ensures.desk c.kept.ensures.process c.args.transit.uid c.args.transit.page c.requires.access c.requires.going))
 
 pub send_again-requires : goal.send_again-requires
 send_again-requires c =
-    let is : IsDesk c.args.self.now = rw (← c.self.view_is) c.self.invariant in
-    let proc : IsProc c.args.proc.number = record { least = omega arith; most = omega arith } in
-    rw c.raise.ensures (marked-going c.args.self.now c.args.proc.number is proc c.args.transit.uid c.args.transit.page c.requires.access c.requires.going)
+    rw c.raise.ensures (marked-going c.args.self.now c.args.proc.number c.kept.ensures.desk c.kept.ensures.process c.args.transit.uid c.args.transit.page c.requires.access c.requires.going)
 
 pub returns-clause-outcome : goal.returns-clause-outcome
 returns-clause-outcome c =
-    let is : IsDesk c.args.self.now = rw (← c.self.view_is) c.self.invariant in
-    let proc : IsProc c.args.proc.number = record { least = omega arith; most = omega arith } in
     let sent = c.send_again.ensures ∙ ap (λ d. with_sent_again d c.args.transit.uid c.args.transit.page) c.raise.ensures in
-    gives-again c.args.self.now c.args.proc.number is proc c.args.transit.uid c.args.transit.page c.requires.access c.requires.going
+    gives-again c.args.self.now c.args.proc.number c.kept.ensures.desk c.kept.ensures.process c.args.transit.uid c.args.transit.page c.requires.access c.requires.going
     c.send_again.new.self c.args.stamp c.home.result c.page_out-body.result c.new-none.result sent c.home.ensures.value (rw c.raise.ensures at c.page_out-body.ensures) c.new-none.ensures

@@ -4,7 +4,7 @@ use Rattle.fault_handler.specs.Conditions.{IsAccessing}
 use Rattle.fault_handler.specs.Kept.{IsProc}
 use Rattle.fault_handler.specs.Insides.{desk_of}
 use Rattle.fault_handler.proofs.TransitKeeps.{IsDesk-with_room_settled, IsIdle-with_room_settled}
-use Rattle.fault_handler.proofs.Replying.{allowed-settled, seen-going}
+use Rattle.fault_handler.proofs.Replying.{open-allowed, seen-going}
 use Rattle.fault_handler.proofs.desk.Desk.settle_room.Goals as goal
 
 pub invariant_of-self : goal.invariant_of-self
@@ -26,7 +26,7 @@ returns-clause-allowed c =
     let there : task_of (desk_of c.self.inside) c.args.proc.number ≡ Some c.ended.result = rw (← at) c.ended.ensures.task in
     let asked = rw (← c.self.view_is) at c.requires in
     let proc : IsProc c.args.proc.number = record { least = omega arith; most = omega arith } in
-    rw (← c.self.view_is) (allowed-settled (desk_of c.self.inside) c.args.proc.number c.self.invariant proc c.args.uid c.args.page asked.access asked.sent c.ended.result there)
+    rw (← c.self.view_is) (open-allowed (desk_of c.self.inside) c.args.proc.number c.self.invariant proc asked.access c.ended.result there)
 
 pub returns-clause-seen : goal.returns-clause-seen
 returns-clause-seen c =

@@ -1,4 +1,4 @@
-use Rattle.std.proofs.Common.{◌≡◌, ◌+◌, ◌-◌, ◌∙◌, ap, take, drop, arith}
+use Rattle.std.proofs.Common.{◌∙◌, refl}
 use Rattle.fault_handler.proofs.Shown.{IsResident-unshown, bytes-shown, loaded}
 use Rattle.fault_handler.proofs.pages.Pages.load.Goals as goal
 
@@ -7,7 +7,5 @@ frame_of-requires c = IsResident-unshown c.self.inside.cache.pages c.args.uid c.
 
 pub returns-clause-bytes : goal.returns-clause-bytes
 returns-clause-bytes c =
-    let pages = c.self.inside.cache.pages in
-    let count : (c.args.start + c.args.count) - c.args.start ≡ c.args.count = omega arith in
     rw (← c.self.view_is)
-    (loaded c.from_slice.result _ c.args.start c.args.count c.bytes-bytes.result.now _ (bytes-shown pages c.args.uid c.args.page ∙ rw c.frame_of.ensures.in_it at c.bytes-bytes.ensures) (ap (λ n. take n (drop c.args.start c.bytes-bytes.result.now)) count) c.from_slice.ensures)
+    (loaded c.part.result _ c.args.start c.args.count c.bytes-bytes.result.now _ (bytes-shown c.self.inside.cache.pages c.args.uid c.args.page ∙ rw c.frame_of.ensures.in_it at c.bytes-bytes.ensures) refl c.part.ensures.bytes)
