@@ -1,5 +1,5 @@
 -- Each step at a home's answer is good, and so is what a link fault leaves.
-use Rattle.std.proofs.Common.{◌≡◌, ◌≢◌, ℕ, ◌≤◌, Bool, true, false, List, [], Option, Some, None, IsSome, inl, inr, refl, sym, ap, subst, ◌∙◌, arith}
+use Rattle.std.proofs.Common.{◌≡◌, ◌≢◌, ℕ, ◌≤◌, Bool, true, false, List, [], Option, Some, None, is_some, IsSome, inl, inr, refl, sym, ap, subst, ◌∙◌, arith}
 use Rattle.std.specs.Prelude.{◌==◌, not, ◌&&◌}
 use Rattle.std.proofs.lemmas.Bool.{cases_eq}
 use Rattle.std.proofs.lemmas.Bool.Decides.{nat_tests}
@@ -33,6 +33,7 @@ use Rattle.fault_handler.proofs.LockKeeps.{IsDesk-with_state, IsDesk-with_call}
 use Rattle.lock_validate.specs.Releases.{release_of}
 use Rattle.lock_validate.specs.Answers.{after_drop, dropped_of, is_seen, is_fresh, learned, granted, gone, forgetting, removed, lock_answer_of, page_answer_of, length_answer_of, answered, answer_came_of}
 use Rattle.lock_validate.specs.Faults.{failed_by, call_failed_of}
+use Rattle.lock_validate.specs.Drops.{IsOutdated}
 use Rattle.lock_validate.specs.Standing.{KeepsOthers, LockStands, WriterStands, ReleaseStands, CallStands, Stands, answers_lock, answers_write, answers}
 use Rattle.fault_handler.proofs.Nothing.{unkept-unmarked}
 use Rattle.lock_validate.proofs.Good.{IsGood, IsCalm, ended-good, free-unheld, keeping-set}
@@ -42,6 +43,10 @@ use Rattle.lock_validate.proofs.Releasing.{release_of-good}
 pub left-true : (a b : Bool) → (a && b) ≡ true → a ≡ true
 left-true true b h = refl
 left-true false b h = absurd (cc)
+
+pub right-true : (a b : Bool) → (a && b) ≡ true → b ≡ true
+right-true true b h = h
+right-true false b h = absurd (cc)
 
 not-false : (b : Bool) → not b ≡ false → b ≡ true
 not-false true h = refl
@@ -92,6 +97,15 @@ none-keeps d p u own others =
 pub alone-unkept : (d : DeskState) (p : ℕ) (u : ObjectName) → keeps (entry_at d.entries p u) ≡ false → (others : Bool) → others ≡ others_keep d.entries p u → not others ≡ true → any_keeps d.entries u ≡ false
 alone-unkept d p u own others same alone = none-keeps d p u own (sym same ∙ not-true others alone)
 
+-- pages are outdated where a grant to a process that is Free on their object says so
+pub outdated-pages : (d : DeskState) (p : ℕ) (u : ObjectName) (stamp : ℕ) (drop : Bool) → LockStands d p u → drop ≡ (not (others_keep d.entries p u) && not (is_seen stamp (stamp_of u d.seen))) → drop ≡ true → IsOutdated d u stamp
+outdated-pages d p u stamp drop stands same asked =
+    let own : keeps (entry_at d.entries p u) ≡ false = unheld-unkept (entry_at d.entries p u) (free-unheld (state_of d p u) stands.free) in
+    let both : (not (others_keep d.entries p u) && not (is_seen stamp (stamp_of u d.seen))) ≡ true = sym same ∙ asked in (
+      none-keeps d p u own (not-true (others_keep d.entries p u) (left-true (not (others_keep d.entries p u)) (not (is_seen stamp (stamp_of u d.seen))) both)),
+      not-true (is_seen stamp (stamp_of u d.seen)) (right-true (not (others_keep d.entries p u)) (not (is_seen stamp (stamp_of u d.seen))) both),
+    )
+
 -- of an object that another process keeps a stamp was seen
 others-seen : (d : DeskState) (p : ℕ) (u : ObjectName) → IsDesk d → others_keep d.entries p u ≡ true → IsSome (stamp_of u d.seen)
 others-seen d p u is others =
@@ -126,6 +140,27 @@ seen-after_drop false u d = refl
 entries-after_drop : (b : Bool) (u : ObjectName) (d : DeskState) → (after_drop b d u).entries ≡ d.entries
 entries-after_drop true u d = refl
 entries-after_drop false u d = refl
+
+-- where no stamp of an object was seen, before or after pages were dropped, a grant says that pages are outdated
+pub unseen-outdated : (d : DeskState) (u : ObjectName) (stamp : ℕ) (drop : Bool) → IsDesk d → is_some (stamp_of u (after_drop drop d u).seen) ≡ false → IsOutdated d u stamp
+unseen-outdated d u stamp drop is none = (
+  by_cases
+      (any_keeps d.entries u)
+      (any_keeps d.entries u ≡ false)
+      (λ some.
+      let found = any-of (λ q. keeps (entry_at d.entries q u)) some in
+      let seen : is_some (stamp_of u d.seen) ≡ true = is.known.kept found.0 found.1 u found.2 in
+      absurd (let e : true ≡ false = sym seen ∙ unseen in cc))
+      (λ h. h),
+  not_seen (stamp_of u d.seen) unseen,
+)
+  where
+    unseen : is_some (stamp_of u d.seen) ≡ false
+    unseen = ap (λ s. is_some (stamp_of u s)) (sym (seen-after_drop drop u d)) ∙ none
+
+    not_seen : (o : Option ℕ) → is_some o ≡ false → is_seen stamp o ≡ false
+    not_seen None h = refl
+    not_seen (Some s) h = absurd (cc)
 
 -- a stamp that was set is seen
 set-seen : (d : DeskState) (u : ObjectName) (stamp : ℕ) → IsSome (stamp_of u (with_seen d u stamp).seen)

@@ -17,7 +17,7 @@ use Rattle.fault_handler.specs.declared.open_call.OpenCall.{OpenCall}
 use Rattle.fault_handler.specs.declared.open_call.OpenCall.TheVariants.{Access, Lock, PageOut, AttrOut, Unlock, Remove}
 use Rattle.fault_handler.specs.Entries.{entry_of, keeps, entries_after}
 use Rattle.fault_handler.specs.Lengths.{known_of, changed_length}
-use Rattle.fault_handler.specs.Desks.{DeskState, at, entry_at, entries_of, state_of, call_of, any_keeps, others_keep, other_transit}
+use Rattle.fault_handler.specs.Desks.{DeskState, at, entry_at, entries_of, call_of, any_keeps, others_keep, other_transit}
 use Rattle.fault_handler.specs.Changes.{with_call, with_state, with_raised, with_sent_length, page_done_of}
 use Rattle.fault_handler.specs.Kept.{IsProc, IsDesk}
 use Rattle.fault_handler.proofs.Fours.{at-put_other, any-at, any-of}
@@ -26,8 +26,7 @@ use Rattle.lock_validate.specs.Releases.{length_first, page_first, transit_first
 use Rattle.lock_validate.specs.Answers.{is_seen, dropped_of, lock_answer_of, page_answer_of, length_answer_of, answered, answer_came_of}
 use Rattle.lock_validate.specs.Standing.{LockStands, ReleaseStands, CallStands, Stands, answers_lock, answers_release, answers}
 use Rattle.lock_validate.specs.Drops.{dropped_in, MayDropAt, MayDrop}
-use Rattle.lock_validate.proofs.Good.{free-unheld}
-use Rattle.lock_validate.proofs.Answering.{left-true, not-true, unheld-unkept, none-keeps, released-unkept, closed-desk, closed-stands}
+use Rattle.lock_validate.proofs.Answering.{not-true, outdated-pages, released-unkept, closed-desk, closed-stands}
 
 module _ (d : DeskState) (p : ℕ) (u : ObjectName) where
   lock_by-drops : (m : Mode) (held unsettled full is_node : Bool) → dropped_in (lock_by d p u m held unsettled full is_node).step ≡ []
@@ -90,10 +89,6 @@ may-if d call body e u false at_it = tt
 none-may : (d : DeskState) (call : Option OpenCall) (body : Body) (names : List (ObjectName × ℕ)) → names ≡ [] → MayDrop d call body names
 none-may d call body names none = subst (MayDrop d call body) (sym none) tt
 
-right-true : (a b : Bool) → (a && b) ≡ true → b ≡ true
-right-true true b h = h
-right-true false b h = absurd (cc)
-
 module _ (d : DeskState) (p : ℕ) (is : IsDesk d) (proc : IsProc p) where
   -- no process kept the object of which the process is Free now
   unkept-before : (u : ObjectName) → keeps (entry_at d.entries p u) ≡ false → any_keeps (with_state d p u Free 0).entries u ≡ false → any_keeps d.entries u ≡ false
@@ -116,13 +111,8 @@ module _ (d : DeskState) (p : ℕ) (is : IsDesk d) (proc : IsProc p) where
 
   lock-drops : (u : ObjectName) (m : Mode) (body : Body) → LockStands d p u → answers_lock body ≡ true → MayDrop d (Some (Lock u m)) body (dropped_in (lock_answer_of d p u m body).step)
   lock-drops u m (bodies.Granted grant stamp kind room n) stands fits =
-      let alone = not (others_keep d.entries p u) in
-      let other = not (is_seen stamp (stamp_of u d.seen)) in
-      may-if d (Some (Lock u m)) (bodies.Granted grant stamp kind room n) d u (alone && other)
-      (λ h. (
-        none-keeps d p u (unheld-unkept (entry_at d.entries p u) (free-unheld (state_of d p u) stands.free)) (not-true (others_keep d.entries p u) (left-true alone other h)),
-        not-true (is_seen stamp (stamp_of u d.seen)) (right-true alone other h),
-      ))
+      let drop = not (others_keep d.entries p u) && not (is_seen stamp (stamp_of u d.seen)) in
+      may-if d (Some (Lock u m)) (bodies.Granted grant stamp kind room n) d u drop (outdated-pages d p u stamp drop stands refl)
   lock-drops u m (bodies.Conflict q n) stands fits = tt
   lock-drops u m bodies.NoObject stands fits = may-if d (Some (Lock u m)) bodies.NoObject d u (not (any_keeps d.entries u)) (λ h. not-true (any_keeps d.entries u) h)
   lock-drops u m body stands fits = absurd (cc)
@@ -137,11 +127,16 @@ module _ (d : DeskState) (p : ℕ) (is : IsDesk d) (proc : IsProc p) where
   length-drops u n delete (bodies.Stale stamp) = none-may d (Some (AttrOut u n delete)) (bodies.Stale stamp) _ (release_of-drops (with_raised d u stamp) p u delete)
   length-drops u n delete body = none-may d (Some (AttrOut u n delete)) body _ (release_of-drops d p u delete)
 
+  -- no process keeps an object that was removed, where none does once the process is Free on it
+  pub removed-may : (u : ObjectName) (body : Body) → ReleaseStands d p u → answers_release body ≡ true → any_keeps (with_state d p u Free 0).entries u ≡ false → MayDropAt d (Some (Remove u)) body
+  removed-may u bodies.Done stands fits after = unkept-before u (released-unkept (entry_at d.entries p u) stands.noted) after
+  removed-may u body stands fits after = absurd (cc)
+
   removed-drops : (u : ObjectName) (body : Body) → ReleaseStands d p u → answers_release body ≡ true → MayDrop d (Some (Remove u)) body (dropped_in (answered d p (Some (Remove u)) body).step)
   removed-drops u bodies.Done stands fits =
       let e = with_state d p u Free 0 in
       may-if d (Some (Remove u)) bodies.Done e u (not (any_keeps e.entries u))
-      (λ h. unkept-before u (released-unkept (entry_at d.entries p u) stands.noted) (not-true (any_keeps e.entries u) h))
+      (λ h. removed-may u bodies.Done stands fits (not-true (any_keeps e.entries u) h))
   removed-drops u body stands fits = absurd (cc)
 
   answered-drops : (call : Option OpenCall) (body : Body) → CallStands d p call → answers call body ≡ true → MayDrop d call body (dropped_in (answered d p call body).step)
@@ -154,7 +149,7 @@ module _ (d : DeskState) (p : ℕ) (is : IsDesk d) (proc : IsProc p) where
   answered-drops (Some (Remove u)) body stands fits = removed-drops u body stands.0 fits
 
 -- the same on the desk on which the call is open
-may-open : (d : DeskState) (p : ℕ) (call : Option OpenCall) (body : Body) → MayDropAt (with_call d p None) call body → MayDropAt d call body
+pub may-open : (d : DeskState) (p : ℕ) (call : Option OpenCall) (body : Body) → MayDropAt (with_call d p None) call body → MayDropAt d call body
 may-open d p (Some (Lock u m)) (bodies.Granted grant stamp kind room n) may_at = may_at
 may-open d p (Some (Lock u m)) bodies.NoObject may_at = may_at
 may-open d p (Some (Remove u)) bodies.Done may_at = may_at

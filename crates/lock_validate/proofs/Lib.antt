@@ -9,3 +9,4 @@ pub mod AccessBeside
 pub mod StepBeside
 pub mod AllStanding
 pub mod Dropping
+pub mod DroppedOrder

@@ -9,34 +9,42 @@ use Rattle.lock_validate.specs.Standing.{AfterStep, IsAsked}
 use Rattle.lock_validate.proofs.Good.{IsGood}
 use Rattle.lock_validate.proofs.Nodes.{IsPlain}
 
-module _ (s : Stepped) (new : DeskState) (p : ℕ) where
-  pub next-given : (step : Step) → IsGood p s → Gives new s step → AfterStep new p step
-  next-given step good gives = subst (λ (t : Stepped). AfterStep t.desk p t.step) gives good.next
-
-  pub asks-given : (step : Step) → IsGood p s → Gives new s step → IsAsked step
-  asks-given step good gives = subst (λ (t : Stepped). IsAsked t.step) gives good.asks
+module _ (s : Stepped) (new : DeskState) where
+  pub next-given : (p : ℕ) (step : Step) → IsGood p s → Gives new s step → AfterStep new p step
+  next-given p step good gives = subst (λ (t : Stepped). AfterStep t.desk p t.step) gives good.next
 
   pub node-given : (step : Step) (n : ℕ) → s.desk.node ≡ n → Gives new s step → new.node ≡ n
   node-given step n same gives = ap (λ (t : Stepped). t.desk.node) (sym gives) ∙ same
 
-  module _ {E : Type 0} where
-    pub next-ok : (r : Result Step E) → IsGood p s → IfOk r (Gives new s) → IfOk r (AfterStep new p)
-    next-ok (Ok step) good gives = next-given step good gives
-    next-ok (Err e) good gives = tt
+  asks-given : (p : ℕ) (step : Step) → IsGood p s → Gives new s step → IsAsked step
+  asks-given p step good gives = subst (λ (t : Stepped). IsAsked t.step) gives good.asks
 
-    pub asks-ok : (r : Result Step E) → IsGood p s → IfOk r (Gives new s) → IfOk r IsAsked
-    asks-ok (Ok step) good gives = asks-given step good gives
-    asks-ok (Err e) good gives = tt
+  fits-given : (step : Step) (op : Op) → FitsStep op s.step → Gives new s step → FitsStep op step
+  fits-given step op fits gives = subst (λ (t : Stepped). FitsStep op t.step) gives fits
 
-    pub fits-ok : (r : Result Step E) (op : Op) → FitsStep op s.step → IfOk r (Gives new s) → IfOk r (FitsStep op)
-    fits-ok (Ok step) op fits gives = subst (λ (t : Stepped). FitsStep op t.step) gives fits
-    fits-ok (Err e) op fits gives = tt
+-- what the contract of a call says beside the outcome, of a process of a node and its operation
+pub record IsTold {E : Type 0} (new : DeskState) (p n : ℕ) (op : Option Op) (r : Result Step E) : Type 0 where
+  pub fits : IfSome op (λ o. IfOk r (FitsStep o))
+  pub asks : IfOk r IsAsked
+  pub next : IfOk r (AfterStep new p)
+  pub node : OnOk r (new.node ≡ n)
 
-    pub node-ok : (r : Result Step E) (n : ℕ) → s.desk.node ≡ n → IfOk r (Gives new s) → OnOk r (new.node ≡ n)
-    node-ok (Ok step) n same gives = node-given step n same gives
-    node-ok (Err e) n same gives = tt
+module _ {E : Type 0} (s : Stepped) (new : DeskState) (p n : ℕ) where
+  fits-told : (op : Option Op) (r : Result Step E) → IfSome op (λ o. IsPlain n o s) → IfOk r (Gives new s) → IfSome op (λ o. IfOk r (FitsStep o))
+  fits-told None r plain gives = tt
+  fits-told (Some op) (Ok step) plain gives = fits-given s new step op plain.fits gives
+  fits-told (Some op) (Err e) plain gives = tt
 
-    -- where the operation is known by another thing
-    pub fits-some : (r : Result Step E) (o : Option Op) (n : ℕ) → IfSome o (λ op. IsPlain n op s) → IfOk r (Gives new s) → IfSome o (λ op. IfOk r (FitsStep op))
-    fits-some r None n plain gives = tt
-    fits-some r (Some op) n plain gives = fits-ok r op plain.fits gives
+  -- where the definition's step is good
+  pub told : (op : Option Op) (r : Result Step E) → IsGood p s → s.desk.node ≡ n → IfSome op (λ o. IsPlain n o s) → IfOk r (Gives new s) → IsTold new p n op r
+  told op (Ok step) good same plain gives = record {
+    fits = fits-told op (Ok step) plain gives;
+    asks = asks-given s new p step good gives;
+    next = next-given s new p step good gives;
+    node = node-given s new step n same gives;
+  }
+  told op (Err e) good same plain gives = record { fits = fits-told op (Err e) plain gives; asks = tt; next = tt; node = tt }
+
+  -- where the operation is known
+  pub told-of : (op : Op) (r : Result Step E) → IsGood p s → IsPlain n op s → IfOk r (Gives new s) → IsTold new p n (Some op) r
+  told-of op r good plain gives = told (Some op) r good plain.node plain gives

@@ -17,10 +17,15 @@ dropped_in (Send home body dropped) = dropped
 dropped_in (Wait u k dropped) = dropped
 dropped_in (End reply dropped) = dropped
 
+-- a grant with this stamp tells that cached pages are outdated: the stamp is not the seen one, and no process of the
+-- node keeps the object
+abbrev pub IsOutdated : DeskState → ObjectName → ℕ → Type 0
+IsOutdated d u stamp = (any_keeps d.entries u ≡ false) × (is_seen stamp (stamp_of u d.seen) ≡ false)
+
 -- an answer at which pages may be dropped: a grant whose stamp is not the seen one, or one by which the object is
 -- known to be gone; in either case no process of the node keeps the object
 abbrev pub MayDropAt : DeskState → Option OpenCall → Body → Type 0
-MayDropAt d (Some (Lock u m)) (Granted grant stamp kind room n) = (any_keeps d.entries u ≡ false) × (is_seen stamp (stamp_of u d.seen) ≡ false)
+MayDropAt d (Some (Lock u m)) (Granted grant stamp kind room n) = IsOutdated d u stamp
 MayDropAt d (Some (Lock u m)) NoObject = any_keeps d.entries u ≡ false
 MayDropAt d (Some (Remove u)) Done = any_keeps d.entries u ≡ false
 MayDropAt d call body = ⊥

@@ -1,5 +1,5 @@
 //! How a lock, an unlock or a removal goes on where a home answers.
-ghost use Rattle.std.specs.Prelude.{◌≡◌, ℕ, ◌≤◌, ◌++◌, true, false, not, ◌&&◌, IfOk, IfSome, OnOk, IsSome, Some, None, map};
+ghost use Rattle.std.specs.Prelude.{◌≡◌, ℕ, ◌≤◌, ◌++◌, true, false, not, ◌&&◌, IsOk, IfOk, IfSome, OnOk, OnErr, IsSome, is_some, Some, None, map};
 ghost use Rattle.version_stamps.specs.Stamps.{stamp_of};
 ghost use Rattle.page_cache.specs.Caches.{page_at};
 ghost use Rattle.ring_messages.specs.Ranges.{IsBody, IsRoom, IsLength};
@@ -12,7 +12,8 @@ ghost use Rattle.lock_validate.specs.Steps.{Gives};
 ghost use Rattle.lock_validate.specs.Releases.{release_of};
 ghost use Rattle.lock_validate.specs.Answers.{is_seen, is_fresh, after_drop, dropped_of, learned, granted, gone, forgetting, removed, lock_answer_of, page_answer_of, length_answer_of, answered, answer_came_of};
 ghost use Rattle.lock_validate.specs.Fitting.{operation_of, FitsStep};
-ghost use Rattle.lock_validate.specs.Standing.{AfterStep, IsAsked, Stands, CallStands, LockStands, WriterStands, answers_write, answers};
+ghost use Rattle.lock_validate.specs.Standing.{AfterStep, IsAsked, Stands, CallStands, LockStands, WriterStands, answers_lock, answers_write, answers};
+ghost use Rattle.lock_validate.specs.Drops.{IsOutdated, MayDropAt};
 
 use crate::releases::release;
 use crate::sends::end;
@@ -22,14 +23,15 @@ use fault_handler::{Desk, LockState, OpenCall};
 use ring_messages::Body;
 use uid_names::{Mode, NoMemory, ProcId, Uid};
 
-/// Goes on with the reply to the process's open call, which is open no more. Where there is no memory, of
-/// the desk only what each desk keeps is known.
+/// Goes on with the reply to the process's open call, which is open no more. Wants memory only at an answer
+/// at which pages may be dropped; where there is none, of the desk only what each desk keeps is known.
 pub fn answer_came(desk: &mut Desk, proc: ProcId, body: &Body) -> Result<Step, NoMemory>
     requires own { IsOf desk.old proc }
     requires stands { Stands desk.old proc.number }
     requires fits { answers (call_of desk.old proc.number) body.now ≡ true }
     requires range { IsBody proc.node body.now }
     ensures outcome { IfOk result (Gives desk.new (answer_came_of desk.old proc.number body.now)) }
+    ensures memory { OnErr result (MayDropAt desk.old (call_of desk.old proc.number) body.now) }
     ensures fits { IfSome (operation_of (call_of desk.old proc.number)) (λ op. IfOk result (FitsStep op)) }
     ensures asks { IfOk result IsAsked }
     ensures next { IfOk result (AfterStep desk.new proc.number) }
@@ -51,7 +53,8 @@ fn answered(desk: &mut Desk, proc: ProcId, call: OpenCall, body: &Body) -> Resul
     requires stands { CallStands desk.old proc.number (Some call) }
     requires fits { answers (Some call) body.now ≡ true }
     requires range { IsBody proc.node body.now }
-    ensures { IfOk result (Gives desk.new (answered desk.old proc.number (Some call) body.now)) }
+    ensures outcome { IfOk result (Gives desk.new (answered desk.old proc.number (Some call) body.now)) }
+    ensures memory { OnErr result (MayDropAt desk.old (Some call) body.now) }
 {
     match call {
         OpenCall::Lock(uid, mode) => lock_answered(desk, proc, uid, mode, body),
@@ -82,8 +85,10 @@ fn lock_answered(
     requires own { IsOf desk.old proc }
     requires kept { IsDesk desk.old }
     requires stands { LockStands desk.old proc.number uid }
+    requires fits { answers_lock body.now ≡ true }
     requires range { IsBody proc.node body.now }
-    ensures { IfOk result (Gives desk.new (lock_answer_of desk.old proc.number uid mode body.now)) }
+    ensures outcome { IfOk result (Gives desk.new (lock_answer_of desk.old proc.number uid mode body.now)) }
+    ensures memory { OnErr result (MayDropAt desk.old (Some (OpenCall.Lock uid mode)) body.now) }
 {
     match body {
         Body::Granted {
@@ -102,7 +107,8 @@ fn lock_answered(
             granted(desk, proc, uid, mode, given)
         }
         Body::Conflict { proc: holder, mode } => Ok(end(desk, Reply::Conflict(*holder, *mode))),
-        _ => gone(desk, proc, uid),
+        Body::NoObject => gone(desk, proc, uid),
+        _ => unreachable!(),
     }
 }
 
@@ -130,7 +136,8 @@ fn granted(
     requires stamp { 1 ≤ given.stamp }
     requires room { IsRoom given.room }
     requires length { IsLength given.length }
-    ensures { IfOk result (Gives desk.new (granted desk.old proc.number uid mode given.grant given.stamp given.room given.length (not (others_keep desk.old.entries proc.number uid)) (stamp_of uid desk.old.seen))) }
+    ensures outcome { IfOk result (Gives desk.new (granted desk.old proc.number uid mode given.grant given.stamp given.room given.length (not (others_keep desk.old.entries proc.number uid)) (stamp_of uid desk.old.seen))) }
+    ensures memory { OnErr result (IsOutdated desk.old uid given.stamp) }
 {
     let outdated = are_outdated(desk, proc, uid, given.stamp);
     let fresh = is_length_fresh(desk, proc, uid, given.stamp);
@@ -179,13 +186,14 @@ fn is_fresh(stamp: u64, seen: Option<u64>) -> bool
 }
 
 /// Takes what a grant tells: the room, the length and the stamp, or where they are not fresh a stamp that is
-/// above the seen one alone.
+/// above the seen one alone. Wants memory only where no stamp of the object was seen.
 fn learn(desk: &mut Desk, uid: Uid, given: Given, fresh: bool) -> Result<(), NoMemory>
     requires seen { fresh ≡ false → IsSome (stamp_of uid desk.old.seen) }
     requires stamp { 1 ≤ given.stamp }
     requires room { IsRoom given.room }
     requires length { IsLength given.length }
-    ensures { OnOk result (desk.new ≡ learned fresh desk.old uid given.stamp given.room given.length) }
+    ensures learned { OnOk result (desk.new ≡ learned fresh desk.old uid given.stamp given.room given.length) }
+    ensures memory { OnErr result (is_some (stamp_of uid desk.old.seen) ≡ false) }
 {
     if fresh {
         return desk.know(uid, given.stamp, given.room, given.length);
@@ -194,12 +202,13 @@ fn learn(desk: &mut Desk, uid: Uid, given: Given, fresh: bool) -> Result<(), NoM
     Ok(())
 }
 
-/// Drops all pages of an object where that is asked for, and tells which they were.
+/// Drops all pages of an object where that is asked for, and tells which they were. Takes no memory else.
 fn drop_pages(desk: &mut Desk, uid: Uid, asked: bool) -> Result<Dropped, NoMemory>
     requires clean { asked ≡ true → (k : ℕ) → is_dirty (page_at desk.old.cache.pages uid k) ≡ false }
     requires still { asked ≡ true → (k : ℕ) → is_marked (page_at desk.old.cache.pages uid k) ≡ false }
     ensures dropped { IfOk result (λ dropped. dropped ≡ dropped_of asked desk.old uid) }
     ensures desk { OnOk result (desk.new ≡ after_drop asked desk.old uid) }
+    ensures memory { OnErr result (asked ≡ true) }
 {
     let mut dropped = Dropped::new(desk.allocator());
     if asked {
@@ -224,7 +233,8 @@ fn gone(desk: &mut Desk, proc: ProcId, uid: Uid) -> Result<Step, NoMemory>
     requires own { IsOf desk.old proc }
     requires kept { IsDesk desk.old }
     requires given_up { keeps (entry_at desk.old.entries proc.number uid) ≡ false }
-    ensures { IfOk result (Gives desk.new (gone desk.old uid (any_keeps desk.old.entries uid))) }
+    ensures outcome { IfOk result (Gives desk.new (gone desk.old uid (any_keeps desk.old.entries uid))) }
+    ensures memory { OnErr result (any_keeps desk.old.entries uid ≡ false) }
 {
     let gone = !desk.others_keep(proc, uid);
     let dropped = drop_pages(desk, uid, gone)?;
@@ -236,7 +246,8 @@ fn removed(desk: &mut Desk, proc: ProcId, uid: Uid) -> Result<Step, NoMemory>
     requires own { IsOf desk.old proc }
     requires kept { IsDesk desk.old }
     requires given_up { keeps (entry_at desk.old.entries proc.number uid) ≡ false }
-    ensures { IfOk result (Gives desk.new (removed desk.old uid (any_keeps desk.old.entries uid))) }
+    ensures outcome { IfOk result (Gives desk.new (removed desk.old uid (any_keeps desk.old.entries uid))) }
+    ensures memory { OnErr result (any_keeps desk.old.entries uid ≡ false) }
 {
     let last = !desk.others_keep(proc, uid);
     let dropped = drop_pages(desk, uid, last)?;
@@ -260,7 +271,8 @@ fn page_answered(
     requires writer { WriterStands desk.old proc.number uid delete }
     requires fits { answers_write body.now ≡ true }
     requires range { IsBody proc.node body.now }
-    ensures { IfOk result (Gives desk.new (page_answer_of desk.old proc.number uid delete body.now)) }
+    ensures done { IsOk result }
+    ensures outcome { IfOk result (Gives desk.new (page_answer_of desk.old proc.number uid delete body.now)) }
 {
     match body {
         Body::Stored { stamp } => {
@@ -291,7 +303,8 @@ fn length_answered(
     requires writer { WriterStands desk.old proc.number uid delete }
     requires fits { answers_write body.now ≡ true }
     requires range { IsBody proc.node body.now }
-    ensures { IfOk result (Gives desk.new (length_answer_of desk.old proc.number uid length delete body.now)) }
+    ensures done { IsOk result }
+    ensures outcome { IfOk result (Gives desk.new (length_answer_of desk.old proc.number uid length delete body.now)) }
 {
     match body {
         Body::Stored { stamp } => {
@@ -316,7 +329,8 @@ fn settled(
     requires stamp { 1 ≤ stamp }
     requires idle { IsIdle desk.old proc.number }
     requires writes { keeps_writing (entry_at desk.old.entries proc.number uid) ≡ true }
-    ensures { IfOk result (Gives desk.new (release_of (with_raised desk.old uid stamp) proc.number uid delete)) }
+    ensures done { IsOk result }
+    ensures outcome { IfOk result (Gives desk.new (release_of (with_raised desk.old uid stamp) proc.number uid delete)) }
 {
     desk.raise_seen(uid, stamp);
     release(desk, proc, uid, delete)

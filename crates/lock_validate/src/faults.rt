@@ -1,7 +1,6 @@
 //! A link fault ends the call of a lock, an unlock or a removal.
 ghost use Rattle.std.specs.Prelude.{◌≡◌, Some, None, IfSome};
 ghost use Rattle.dom_history.specs.Fitting.{Fits};
-ghost use Rattle.dom_history.specs.Locks.{mode_of};
 ghost use Rattle.fault_handler.specs.Desks.{call_of};
 ghost use Rattle.fault_handler.specs.Conditions.{IsOf, IsIdle};
 ghost use Rattle.lock_validate.specs.Faults.{failed, failed_by, call_failed_of};
@@ -48,7 +47,7 @@ fn failed_by(desk: &mut Desk, proc: ProcId, call: OpenCall) -> Reply
         }
         OpenCall::AttrOut(..) => Reply::Kept,
         OpenCall::Unlock(uid) => {
-            let mode = mode_of(desk.state(proc, uid));
+            let mode = desk.state(proc, uid).mode();
             desk.set_state(proc, uid, LockState::Releasing(mode), 0);
             Reply::Doubt
         }
@@ -57,15 +56,5 @@ fn failed_by(desk: &mut Desk, proc: ProcId, call: OpenCall) -> Reply
             Reply::Doubt
         }
         OpenCall::Access => unreachable!(),
-    }
-}
-
-/// The mode that a lock in this state may still have at the home.
-fn mode_of(state: LockState) -> Mode
-    ensures { result ≡ mode_of state }
-{
-    match state {
-        LockState::Held(mode) | LockState::Taking(mode) | LockState::Releasing(mode) => mode,
-        LockState::Free | LockState::Deleting => Mode::Write,
     }
 }

@@ -1,14 +1,16 @@
 //! Laws of locking, unlocking and removal at a desk. Each stands on a function without a body, so that
 //! the check proves it.
-ghost use Rattle.std.specs.Prelude.{◌≡◌, ◌≢◌, ℕ, true, []};
+ghost use Rattle.std.specs.Prelude.{◌≡◌, ◌≢◌, ℕ, true, None, []};
 ghost use Rattle.uid_names.specs.Names.{ObjectName};
 ghost use Rattle.uid_names.specs.declared.mode.Mode.{Mode};
 ghost use Rattle.dom_history.specs.declared.op.Op.{Op};
+ghost use Rattle.dom_history.specs.Events.{ArePagesRising};
 ghost use Rattle.ring_messages.specs.declared.body.Body.{Body};
 ghost use Rattle.ring_messages.specs.Ranges.{IsBody};
-ghost use Rattle.fault_handler.specs.Desks.{DeskState, call_of};
+ghost use Rattle.fault_handler.specs.Desks.{DeskState, call_of, moving_of};
 ghost use Rattle.fault_handler.specs.Kept.{IsProc, IsDesk};
-ghost use Rattle.fault_handler.specs.Conditions.{IsIdle};
+ghost use Rattle.fault_handler.specs.Conditions.{IsIdle, IsAccessing, fits_move};
+ghost use Rattle.fault_handler.specs.Drops.{dropped_in as dropped_by};
 ghost use Rattle.lock_validate.specs.Locking.{begin_lock_of};
 ghost use Rattle.lock_validate.specs.Releases.{begin_unlock_of, begin_delete_of, go_on_of};
 ghost use Rattle.lock_validate.specs.Answers.{answer_came_of};
@@ -96,6 +98,18 @@ pub fn pages_are_dropped_where_no_process_keeps_the_object()
     ensures goes_on { (d : DeskState) (p : ℕ) (op : Op) → dropped_in (go_on_of d p op).step ≡ [] }
     ensures answered { (d : DeskState) (p : ℕ) (body : Body) → IsDesk d → IsProc p → Stands d p →
         answers (call_of d p) body ≡ true → MayDrop d (call_of d p) body (dropped_in (answer_came_of d p body).step) }
+{}
+
+/// The pages that an answer drops rise strictly, by object and then by number, as those of an event do; so
+/// does what a load or store drops.
+pub fn dropped_pages_rise()
+    ensures answered { (d : DeskState) (p : ℕ) (body : Body) → IsDesk d →
+        ArePagesRising (dropped_in (answer_came_of d p body).step) }
+    ensures accesses { (d : DeskState) (p : ℕ) (op : Op) → IsDesk d → IsProc p → moving_of d p ≡ None →
+        ArePagesRising (dropped_by (access_of d p op).answer) }
+    ensures page_came { (d : DeskState) (p to : ℕ) (body : Body) → IsDesk d → IsProc p → IsAccessing d p →
+        fits_move (moving_of d p) body ≡ true → IsBody to body →
+        ArePagesRising (dropped_by (page_came_of d p body).answer) }
 {}
 
 /// Each process's open call stands again after a call of one, unless it is that of a load or store.

@@ -8,6 +8,8 @@ pub mod locking;
 pub mod releases;
 mod sends;
 pub mod step;
+#[cfg(test)]
+mod tests;
 
 pub use answers::answer_came;
 pub use faults::call_failed;

@@ -1,5 +1,5 @@
 //! How a lock begins.
-ghost use Rattle.std.specs.Prelude.{◌≡◌, IfOk, OnOk, nat_le, length, false};
+ghost use Rattle.std.specs.Prelude.{◌≡◌, IsOk, IfOk, OnOk, nat_le, length, false};
 ghost use Rattle.dom_history.specs.declared.op.Op.{Op};
 ghost use Rattle.dom_history.specs.Locks.{is_held, is_unsettled};
 ghost use Rattle.fault_handler.specs.Desks.{entries_of, state_of};
@@ -19,10 +19,11 @@ use uid_names::{Mode, NoMemory, ProcId, Uid};
 /// On how many objects a process is not Free at most.
 const MOST_LOCKS: u8 = 8;
 
-/// Begins a lock. Where there is no memory, of the desk only what each desk keeps is known.
+/// Begins a lock. Takes no memory.
 pub fn begin_lock(desk: &mut Desk, proc: ProcId, uid: Uid, mode: Mode) -> Result<Step, NoMemory>
     requires own { IsOf desk.old proc }
     requires idle { IsIdle desk.old proc.number }
+    ensures done { IsOk result }
     ensures outcome { IfOk result (Gives desk.new (begin_lock_of desk.old proc.number uid mode)) }
     ensures fits { IfOk result (FitsStep (Op.Lock uid mode)) }
     ensures asks { IfOk result IsAsked }

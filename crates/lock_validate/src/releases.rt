@@ -1,6 +1,6 @@
 //! Unlocks and removals: what is sent home before them, in this order: the lowest dirty page, and so on
 //! until none is dirty; then a changed length; then the release or the removal.
-ghost use Rattle.std.specs.Prelude.{◌≡◌, true, IfOk, OnOk, Some, None};
+ghost use Rattle.std.specs.Prelude.{◌≡◌, true, IsOk, IfOk, OnOk, Some, None};
 ghost use Rattle.dom_history.specs.declared.op.Op.{Op};
 ghost use Rattle.dom_history.specs.Locks.{is_free, is_held};
 ghost use Rattle.dom_history.specs.Replies.{may_write, may_delete};
@@ -23,10 +23,11 @@ use fault_handler::{Desk, LockState, OpenCall};
 use ring_messages::Body;
 use uid_names::{Mode, NoMemory, ProcId, Uid};
 
-/// Begins an unlock. Where there is no memory, of the desk only what each desk keeps is known.
+/// Begins an unlock. Takes no memory.
 pub fn begin_unlock(desk: &mut Desk, proc: ProcId, uid: Uid) -> Result<Step, NoMemory>
     requires own { IsOf desk.old proc }
     requires idle { IsIdle desk.old proc.number }
+    ensures done { IsOk result }
     ensures outcome { IfOk result (Gives desk.new (begin_unlock_of desk.old proc.number uid)) }
     ensures fits { IfOk result (FitsStep (Op.Unlock uid)) }
     ensures asks { IfOk result IsAsked }
@@ -43,7 +44,8 @@ fn unlock_by(desk: &mut Desk, proc: ProcId, uid: Uid, state: LockState) -> Resul
     requires idle { IsIdle desk.old proc.number }
     requires kept { IsDesk desk.old }
     requires state { state ≡ state_of desk.old proc.number uid }
-    ensures { IfOk result (Gives desk.new (unlock_by desk.old proc.number uid (is_free state) (is_held state) (may_write state))) }
+    ensures done { IsOk result }
+    ensures outcome { IfOk result (Gives desk.new (unlock_by desk.old proc.number uid (is_free state) (is_held state) (may_write state))) }
 {
     match state {
         LockState::Free => Ok(end(desk, Reply::NotHeld)),
@@ -58,10 +60,11 @@ fn unlock_by(desk: &mut Desk, proc: ProcId, uid: Uid, state: LockState) -> Resul
     }
 }
 
-/// Begins a removal. Where there is no memory, of the desk only what each desk keeps is known.
+/// Begins a removal. Takes no memory.
 pub fn begin_delete(desk: &mut Desk, proc: ProcId, uid: Uid) -> Result<Step, NoMemory>
     requires own { IsOf desk.old proc }
     requires idle { IsIdle desk.old proc.number }
+    ensures done { IsOk result }
     ensures outcome { IfOk result (Gives desk.new (begin_delete_of desk.old proc.number uid)) }
     ensures fits { IfOk result (FitsStep (Op.Delete uid)) }
     ensures asks { IfOk result IsAsked }
@@ -78,7 +81,8 @@ fn delete_by(desk: &mut Desk, proc: ProcId, uid: Uid, state: LockState) -> Resul
     requires idle { IsIdle desk.old proc.number }
     requires kept { IsDesk desk.old }
     requires state { state ≡ state_of desk.old proc.number uid }
-    ensures { IfOk result (Gives desk.new (delete_by desk.old proc.number uid (is_held state) (may_delete state))) }
+    ensures done { IsOk result }
+    ensures outcome { IfOk result (Gives desk.new (delete_by desk.old proc.number uid (is_held state) (may_delete state))) }
 {
     match state {
         LockState::Held(Mode::Write) => release(desk, proc, uid, true),
@@ -88,12 +92,12 @@ fn delete_by(desk: &mut Desk, proc: ProcId, uid: Uid, state: LockState) -> Resul
     }
 }
 
-/// Goes on with an unlock or a removal that waited: its tests are made anew. Where there is no memory, of
-/// the desk only what each desk keeps is known.
+/// Goes on with an unlock or a removal that waited: its tests are made anew. Takes no memory.
 pub fn go_on(desk: &mut Desk, proc: ProcId, op: &Op) -> Result<Step, NoMemory>
     requires own { IsOf desk.old proc }
     requires idle { IsIdle desk.old proc.number }
     requires passes { MayGoOn desk.old proc.number op.now }
+    ensures done { IsOk result }
     ensures outcome { IfOk result (Gives desk.new (go_on_of desk.old proc.number op.now)) }
     ensures fits { IfOk result (FitsStep op.now) }
     ensures asks { IfOk result IsAsked }
@@ -125,7 +129,8 @@ pub(crate) fn release(
     requires own { IsOf desk.old proc }
     requires idle { IsIdle desk.old proc.number }
     requires writes { keeps_writing (entry_at desk.old.entries proc.number uid) ≡ true }
-    ensures { IfOk result (Gives desk.new (release_of desk.old proc.number uid delete)) }
+    ensures done { IsOk result }
+    ensures outcome { IfOk result (Gives desk.new (release_of desk.old proc.number uid delete)) }
 {
     if let Some(page) = desk.other_transit(proc, uid) {
         return Ok(Step::Wait(uid, page, Dropped::new(desk.allocator())));
@@ -150,7 +155,8 @@ fn send_page(
     requires writes { keeps_writing (entry_at desk.old.entries proc.number uid) ≡ true }
     requires resident { IsResident desk.old.cache.pages uid page }
     requires alone { other_transit desk.old.moving proc.number uid ≡ None }
-    ensures { IfOk result (Gives desk.new (page_first desk.old proc.number uid delete (Some page))) }
+    ensures done { IsOk result }
+    ensures outcome { IfOk result (Gives desk.new (page_first desk.old proc.number uid delete (Some page))) }
 {
     let body = desk.send_page(proc, uid, page)?;
     let call = OpenCall::PageOut(uid, page, delete);

@@ -1,30 +1,21 @@
-use Rattle.std.proofs.Common.{◌≡◌, false, refl, sym, ◌∙◌}
-use Rattle.std.specs.Prelude.{not}
+use Rattle.std.proofs.Common.{◌≡◌, false, is_some, sym, subst, ◌∙◌}
+use Rattle.std.proofs.lemmas.Result.{err_from_is_err_and}
 use Rattle.version_stamps.specs.Stamps.{stamp_of}
-use Rattle.fault_handler.specs.Desks.{others_keep, state_of, entry_at}
-use Rattle.fault_handler.specs.Entries.{keeps}
-use Rattle.lock_validate.specs.Answers.{is_seen}
+use Rattle.fault_handler.specs.Desks.{DeskState}
 use Rattle.fault_handler.proofs.Nothing.{unkept-clean, unkept-unmarked}
-use Rattle.lock_validate.proofs.Good.{free-unheld}
-use Rattle.lock_validate.proofs.Answering.{left-true, unheld-unkept, alone-unkept, stale-seen, learned-seen}
+use Rattle.lock_validate.proofs.Answering.{outdated-pages, unseen-outdated, stale-seen, learned-seen}
 use Rattle.lock_validate.proofs.answers.granted.Goals as goal
 
 -- No process keeps the object, so none of its pages is dirty or on its way home.
 pub drop_pages-requires-clause-clean : goal.drop_pages-requires-clause-clean
 drop_pages-requires-clause-clean c outdated =
-    let d = c.args.desk.now in
-    let p = c.args.proc.number in
-    let own : keeps (entry_at d.entries p c.args.uid) ≡ false = unheld-unkept (entry_at d.entries p c.args.uid) (free-unheld (state_of d p c.args.uid) c.requires.stands.free) in
-    let alone = left-true (not (others_keep d.entries p c.args.uid)) (not (is_seen c.args.given.stamp (stamp_of c.args.uid d.seen))) (sym c.are_outdated-outdated.ensures ∙ outdated) in
-    unkept-clean d c.args.uid c.requires.kept (alone-unkept d p c.args.uid own (others_keep d.entries p c.args.uid) refl alone)
+    unkept-clean c.args.desk.now c.args.uid c.requires.kept
+    (outdated-pages c.args.desk.now c.args.proc.number c.args.uid c.args.given.stamp c.are_outdated-outdated.result c.requires.stands c.are_outdated-outdated.ensures outdated).0
 
 pub drop_pages-requires-clause-still : goal.drop_pages-requires-clause-still
 drop_pages-requires-clause-still c outdated =
-    let d = c.args.desk.now in
-    let p = c.args.proc.number in
-    let own : keeps (entry_at d.entries p c.args.uid) ≡ false = unheld-unkept (entry_at d.entries p c.args.uid) (free-unheld (state_of d p c.args.uid) c.requires.stands.free) in
-    let alone = left-true (not (others_keep d.entries p c.args.uid)) (not (is_seen c.args.given.stamp (stamp_of c.args.uid d.seen))) (sym c.are_outdated-outdated.ensures ∙ outdated) in
-    unkept-unmarked d c.args.uid c.requires.kept (alone-unkept d p c.args.uid own (others_keep d.entries p c.args.uid) refl alone)
+    unkept-unmarked c.args.desk.now c.args.uid c.requires.kept
+    (outdated-pages c.args.desk.now c.args.proc.number c.args.uid c.args.given.stamp c.are_outdated-outdated.result c.requires.stands c.are_outdated-outdated.ensures outdated).0
 
 -- Where the grant is not fresh a stamp was seen before.
 pub learn-requires-clause-seen : goal.learn-requires-clause-seen
@@ -35,5 +26,17 @@ learn-requires-clause-seen c stale =
 -- What a grant tells was taken.
 pub set_state-requires-clause-seen : goal.set_state-requires-clause-seen
 set_state-requires-clause-seen c held =
-    rw c.in_ok-learn.ensures
+    rw c.in_ok-learn.ensures.learned
     (learned-seen c.is_length_fresh-fresh.result c.drop_pages.new.desk c.args.uid c.args.given.stamp c.args.given.room c.args.given.length)
+
+-- Without memory there were outdated pages to drop, or no stamp was seen.
+pub returns-in_err-dropped-clause-memory : goal.returns-in_err-dropped-clause-memory
+returns-in_err-dropped-clause-memory c =
+    rw (err_from_is_err_and c.from_residual.result c.from_residual.ensures.1).1
+    (outdated-pages c.args.desk.now c.args.proc.number c.args.uid c.args.given.stamp c.are_outdated-outdated.result c.requires.stands c.are_outdated-outdated.ensures c.in_err-dropped.ensures.memory)
+
+pub returns-in_err-learn-clause-memory : goal.returns-in_err-learn-clause-memory
+returns-in_err-learn-clause-memory c =
+    rw (err_from_is_err_and c.from_residual-in_err-learn.result c.from_residual-in_err-learn.ensures.1).1
+    (unseen-outdated c.args.desk.now c.args.uid c.args.given.stamp c.are_outdated-outdated.result c.requires.kept
+    (subst (λ (e : DeskState). is_some (stamp_of c.args.uid e.seen) ≡ false) c.in_ok-dropped.ensures.desk c.in_err-learn.ensures.memory))

@@ -19,6 +19,6 @@ pub returns-clause-node : goal.returns-clause-node
 returns-clause-node c =
     let d = c.args.desk.now in
     let p = c.args.proc.number in
-    node-given (begin_lock_of d p c.args.uid c.args.mode) c.lock_by.new.desk p c.lock_by.result d.node
+    node-given (begin_lock_of d p c.args.uid c.args.mode) c.lock_by.new.desk c.lock_by.result d.node
     (lock_by-plain d p c.args.uid c.args.mode (is_held (state_of d p c.args.uid)) (is_unsettled (state_of d p c.args.uid)) (nat_le 8 (length (entries_of d p))) (nat_le c.args.uid.home d.nodes)).node
     (rw (← c.state-state.ensures.value) c.lock_by.ensures)

@@ -7,39 +7,17 @@ use Rattle.lock_validate.specs.Steps.{Gives}
 use Rattle.lock_validate.specs.Releases.{begin_delete_of}
 use Rattle.lock_validate.proofs.Nodes.{delete_by-plain}
 use Rattle.lock_validate.proofs.Releasing.{begin_delete_of-good}
-use Rattle.lock_validate.proofs.Outcomes.{next-ok, asks-ok, fits-ok, node-ok}
+use Rattle.lock_validate.proofs.Outcomes.{told-of}
 use Rattle.lock_validate.proofs.releases.begin_delete.Goals as goal
 
-pub returns-clause-fits : goal.returns-clause-fits
-returns-clause-fits c =
+pub returns : goal.returns
+returns c =
     let d = c.args.desk.now in
     let p = c.args.proc.number in
-    let gives : IfOk c.delete_by.result (Gives c.delete_by.new.desk (begin_delete_of d p c.args.uid)) = rw (← c.state-state.ensures.value) c.delete_by.ensures in
-    fits-ok (begin_delete_of d p c.args.uid) c.delete_by.new.desk p c.delete_by.result (ops.Delete c.args.uid)
-    (delete_by-plain d p c.args.uid (is_held (state_of d p c.args.uid)) (may_delete (state_of d p c.args.uid))).fits
-    gives
-
-pub returns-clause-asks : goal.returns-clause-asks
-returns-clause-asks c =
-    let d = c.args.desk.now in
-    let p = c.args.proc.number in
-    let gives : IfOk c.delete_by.result (Gives c.delete_by.new.desk (begin_delete_of d p c.args.uid)) = rw (← c.state-state.ensures.value) c.delete_by.ensures in
-    asks-ok (begin_delete_of d p c.args.uid) c.delete_by.new.desk p c.delete_by.result
-    (begin_delete_of-good d p c.args.uid c.state-state.ensures.kept (record { least = omega arith; most = omega arith }) c.requires.idle) gives
-
-pub returns-clause-next : goal.returns-clause-next
-returns-clause-next c =
-    let d = c.args.desk.now in
-    let p = c.args.proc.number in
-    let gives : IfOk c.delete_by.result (Gives c.delete_by.new.desk (begin_delete_of d p c.args.uid)) = rw (← c.state-state.ensures.value) c.delete_by.ensures in
-    next-ok (begin_delete_of d p c.args.uid) c.delete_by.new.desk p c.delete_by.result
-    (begin_delete_of-good d p c.args.uid c.state-state.ensures.kept (record { least = omega arith; most = omega arith }) c.requires.idle) gives
-
-pub returns-clause-node : goal.returns-clause-node
-returns-clause-node c =
-    let d = c.args.desk.now in
-    let p = c.args.proc.number in
-    let gives : IfOk c.delete_by.result (Gives c.delete_by.new.desk (begin_delete_of d p c.args.uid)) = rw (← c.state-state.ensures.value) c.delete_by.ensures in
-    node-ok (begin_delete_of d p c.args.uid) c.delete_by.new.desk p c.delete_by.result d.node
-    (delete_by-plain d p c.args.uid (is_held (state_of d p c.args.uid)) (may_delete (state_of d p c.args.uid))).node
-    gives
+    let u = c.args.uid in
+    let gives : IfOk c.delete_by.result (Gives c.delete_by.new.desk (begin_delete_of d p u)) = rw (← c.state-state.ensures.value) c.delete_by.ensures.outcome in
+    let told = told-of (begin_delete_of d p u) c.delete_by.new.desk p d.node (ops.Delete u) c.delete_by.result
+    (begin_delete_of-good d p u c.state-state.ensures.kept (record { least = omega arith; most = omega arith }) c.requires.idle)
+    (delete_by-plain d p u (is_held (state_of d p u)) (may_delete (state_of d p u)))
+    gives in
+    record { done = c.delete_by.ensures.done; outcome = gives; fits = told.fits; asks = told.asks; next = told.next; node = told.node }

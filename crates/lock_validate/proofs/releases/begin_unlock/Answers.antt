@@ -7,39 +7,17 @@ use Rattle.lock_validate.specs.Steps.{Gives}
 use Rattle.lock_validate.specs.Releases.{begin_unlock_of}
 use Rattle.lock_validate.proofs.Nodes.{unlock_by-plain}
 use Rattle.lock_validate.proofs.Releasing.{begin_unlock_of-good}
-use Rattle.lock_validate.proofs.Outcomes.{next-ok, asks-ok, fits-ok, node-ok}
+use Rattle.lock_validate.proofs.Outcomes.{told-of}
 use Rattle.lock_validate.proofs.releases.begin_unlock.Goals as goal
 
-pub returns-clause-fits : goal.returns-clause-fits
-returns-clause-fits c =
+pub returns : goal.returns
+returns c =
     let d = c.args.desk.now in
     let p = c.args.proc.number in
-    let gives : IfOk c.unlock_by.result (Gives c.unlock_by.new.desk (begin_unlock_of d p c.args.uid)) = rw (← c.state-state.ensures.value) c.unlock_by.ensures in
-    fits-ok (begin_unlock_of d p c.args.uid) c.unlock_by.new.desk p c.unlock_by.result (ops.Unlock c.args.uid)
-    (unlock_by-plain d p c.args.uid (is_free (state_of d p c.args.uid)) (is_held (state_of d p c.args.uid)) (may_write (state_of d p c.args.uid))).fits
-    gives
-
-pub returns-clause-asks : goal.returns-clause-asks
-returns-clause-asks c =
-    let d = c.args.desk.now in
-    let p = c.args.proc.number in
-    let gives : IfOk c.unlock_by.result (Gives c.unlock_by.new.desk (begin_unlock_of d p c.args.uid)) = rw (← c.state-state.ensures.value) c.unlock_by.ensures in
-    asks-ok (begin_unlock_of d p c.args.uid) c.unlock_by.new.desk p c.unlock_by.result
-    (begin_unlock_of-good d p c.args.uid c.state-state.ensures.kept (record { least = omega arith; most = omega arith }) c.requires.idle) gives
-
-pub returns-clause-next : goal.returns-clause-next
-returns-clause-next c =
-    let d = c.args.desk.now in
-    let p = c.args.proc.number in
-    let gives : IfOk c.unlock_by.result (Gives c.unlock_by.new.desk (begin_unlock_of d p c.args.uid)) = rw (← c.state-state.ensures.value) c.unlock_by.ensures in
-    next-ok (begin_unlock_of d p c.args.uid) c.unlock_by.new.desk p c.unlock_by.result
-    (begin_unlock_of-good d p c.args.uid c.state-state.ensures.kept (record { least = omega arith; most = omega arith }) c.requires.idle) gives
-
-pub returns-clause-node : goal.returns-clause-node
-returns-clause-node c =
-    let d = c.args.desk.now in
-    let p = c.args.proc.number in
-    let gives : IfOk c.unlock_by.result (Gives c.unlock_by.new.desk (begin_unlock_of d p c.args.uid)) = rw (← c.state-state.ensures.value) c.unlock_by.ensures in
-    node-ok (begin_unlock_of d p c.args.uid) c.unlock_by.new.desk p c.unlock_by.result d.node
-    (unlock_by-plain d p c.args.uid (is_free (state_of d p c.args.uid)) (is_held (state_of d p c.args.uid)) (may_write (state_of d p c.args.uid))).node
-    gives
+    let u = c.args.uid in
+    let gives : IfOk c.unlock_by.result (Gives c.unlock_by.new.desk (begin_unlock_of d p u)) = rw (← c.state-state.ensures.value) c.unlock_by.ensures.outcome in
+    let told = told-of (begin_unlock_of d p u) c.unlock_by.new.desk p d.node (ops.Unlock u) c.unlock_by.result
+    (begin_unlock_of-good d p u c.state-state.ensures.kept (record { least = omega arith; most = omega arith }) c.requires.idle)
+    (unlock_by-plain d p u (is_free (state_of d p u)) (is_held (state_of d p u)) (may_write (state_of d p u)))
+    gives in
+    record { done = c.unlock_by.ensures.done; outcome = gives; fits = told.fits; asks = told.asks; next = told.next; node = told.node }

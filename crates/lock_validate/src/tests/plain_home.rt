@@ -1,0 +1,197 @@
+//! A plain home of an object: what it keeps is what was sent there, and it decides each request at once.
+use ring_messages::Body;
+use uid_names::{Mode, ObjKind, ProcId, Uid};
+
+/// How many pages an object has room for.
+pub(super) const PAGES: usize = 4;
+
+/// Where in its page the byte is that stores change and loads give.
+const AT: usize = 7;
+
+/// A lock of a process: its mode and number.
+type Row = (ProcId, Mode, u64);
+
+/// An object at its home, and what all nodes made of it.
+#[derive(Drop)]
+pub(super) struct Object {
+    pub uid: Uid,
+    stamp: u64,
+    length: u32,
+    pages: [[u8; 1024]; PAGES],
+    rows: [Option<Row>; 4],
+    /// The byte that was stored last in each page, and the length that the stores gave.
+    pub last: [u8; PAGES],
+    pub end: u32,
+}
+
+/// The offset of the byte of a page.
+pub(super) fn place_of(page: u32) -> u32 {
+    page.saturating_mul(1024).saturating_add(AT as u32)
+}
+
+impl Object {
+    pub fn new(uid: Uid) -> Object {
+        Object {
+            uid,
+            stamp: 1,
+            length: 0,
+            pages: [[0; 1024]; PAGES],
+            rows: [None; 4],
+            last: [0; PAGES],
+            end: 0,
+        }
+    }
+
+    fn page(&self, page: u32) -> Body {
+        match self.pages.get(page as usize) {
+            Some(bytes) => Body::Page {
+                stamp: self.stamp,
+                bytes: *bytes,
+            },
+            None => Body::NoObject,
+        }
+    }
+
+    /// Whether a lock that writes has this number.
+    fn may_write(&self, grant: u64) -> bool {
+        for row in &self.rows {
+            if let Some((_, mode, number)) = row
+                && mode.writes()
+                && *number == grant
+            {
+                return true;
+            }
+        }
+        false
+    }
+
+    /// What refuses a write: no such lock, or another stamp.
+    fn refused(&self, grant: u64, base: u64) -> Option<Body> {
+        if !self.may_write(grant) {
+            return Some(Body::NoGrant);
+        }
+        if base != self.stamp {
+            return Some(Body::Stale { stamp: self.stamp });
+        }
+        None
+    }
+
+    fn raised(&mut self) -> Body {
+        self.stamp = self.stamp.saturating_add(1);
+        Body::Stored { stamp: self.stamp }
+    }
+
+    fn take_page(&mut self, page: u32, bytes: &[u8; 1024]) -> Body {
+        match self.pages.get_mut(page as usize) {
+            Some(old) => *old = *bytes,
+            None => return Body::NoObject,
+        }
+        self.raised()
+    }
+
+    fn take_length(&mut self, length: u32) -> Body {
+        self.length = length;
+        self.raised()
+    }
+
+    /// The lock of another process that a lock conflicts with.
+    fn conflict(&self, proc: ProcId, mode: Mode) -> Option<Row> {
+        for row in &self.rows {
+            if let Some((holder, held, _)) = row
+                && *holder != proc
+                && (mode.writes() || held.writes())
+            {
+                return *row;
+            }
+        }
+        None
+    }
+
+    /// The lock of a process is another from now on.
+    fn set_row(&mut self, proc: ProcId, row: Option<Row>) {
+        if let Some(old) = self.rows.get_mut(usize::from(proc.number()) - 1) {
+            *old = row;
+        }
+    }
+
+    fn lock(&mut self, proc: ProcId, mode: Mode, grant: u64) -> Body {
+        if let Some((holder, held, _)) = self.conflict(proc, mode) {
+            return Body::Conflict {
+                proc: holder,
+                mode: held,
+            };
+        }
+        self.set_row(proc, Some((proc, mode, grant)));
+        Body::Granted {
+            grant,
+            stamp: self.stamp,
+            kind: ObjKind::File,
+            room: PAGES as u32,
+            length: self.length,
+        }
+    }
+
+    fn unlock(&mut self, proc: ProcId) -> Body {
+        self.set_row(proc, None);
+        Body::Done
+    }
+
+    /// What the home decides on a request; a lock that it grants has this number.
+    pub fn decide(&mut self, proc: ProcId, body: &Body, number: u64) -> Body {
+        match body {
+            Body::PageIn { page, .. } => self.page(*page),
+            Body::PageOut {
+                page,
+                grant,
+                base,
+                bytes,
+                ..
+            } => match self.refused(*grant, *base) {
+                Some(refusal) => refusal,
+                None => self.take_page(*page, bytes),
+            },
+            Body::AttrOut {
+                length,
+                grant,
+                base,
+                ..
+            } => match self.refused(*grant, *base) {
+                Some(refusal) => refusal,
+                None => self.take_length(*length),
+            },
+            Body::Lock { mode, .. } => self.lock(proc, *mode, number),
+            Body::Unlock { .. } => self.unlock(proc),
+            _ => Body::NoObject,
+        }
+    }
+
+    fn is_held(&self) -> bool {
+        for row in &self.rows {
+            if row.is_some() {
+                return true;
+            }
+        }
+        false
+    }
+
+    /// Another node changes a page, where no process here holds a lock.
+    pub fn change_elsewhere(&mut self, page: u32, byte: u8) {
+        if self.is_held() {
+            return;
+        }
+        if let Some(bytes) = self.pages.get_mut(page as usize) {
+            bytes[AT] = byte;
+            self.length = self.length.max(place_of(page).saturating_add(1));
+            self.stamp = self.stamp.saturating_add(1);
+        }
+        self.stored(page, byte);
+    }
+
+    /// A byte was stored there.
+    pub fn stored(&mut self, page: u32, byte: u8) {
+        if let Some(last) = self.last.get_mut(page as usize) {
+            *last = byte;
+            self.end = self.end.max(place_of(page).saturating_add(1));
+        }
+    }
+}
