@@ -1,5 +1,5 @@
 -- The conditions of a desk's calls.
-use Rattle.std.specs.Prelude.{◌≡◌, ◌≢◌, ℕ, Bool, true, false, not, ◌&&◌, is_none, Option, Some, None, [], ◌∷◌, length}
+use Rattle.std.specs.Prelude.{◌≡◌, ◌≢◌, ℕ, nat_lt, Bool, true, false, not, ◌&&◌, is_none, Option, Some, None, [], ◌∷◌, length}
 use Rattle.uid_names.specs.Names.{ProcName, ObjectName}
 use Rattle.dom_history.specs.declared.op.Op.{Op}
 use Rattle.dom_history.specs.declared.op.Op.TheVariants.{Load, Store, Length, Map, Unmap}
@@ -10,7 +10,7 @@ use Rattle.fault_handler.specs.declared.transits.Transit.{Transit}
 use Rattle.fault_handler.specs.declared.open_call.OpenCall.{OpenCall}
 use Rattle.fault_handler.specs.declared.open_call.OpenCall.TheVariants.{Access}
 use Rattle.fault_handler.specs.Entries.{keeps, keeps_all}
-use Rattle.fault_handler.specs.Desks.{DeskState, state_of, entry_at, entries_of, call_of, moving_of}
+use Rattle.fault_handler.specs.Desks.{DeskState, state_of, entry_at, entries_of, call_of, moving_of, base_of}
 
 -- a process of the desk's node
 abbrev pub IsOf : DeskState → ProcName → Type 0
@@ -41,6 +41,13 @@ abbrev pub MayWant : Op → Type 0
 MayWant (Load spot count) = Unit {0}
 MayWant (Store spot bytes) = Unit {0}
 MayWant _ = ⊥
+
+-- an answer to a load or store that may want memory: a page comes that is not an old one, or a home took the page that
+-- makes room
+abbrev pub MayWantAt : DeskState → Option Transit → Body → Type 0
+MayWantAt d (Some t) (Page stamp bytes) = nat_lt stamp (base_of d.seen t.uid) ≡ false
+MayWantAt d (Some t) (Stored stamp) = Unit {0}
+MayWantAt d t body = ⊥
 
 -- the open call of the process is that of a load or store
 abbrev pub IsAccessing : DeskState → ℕ → Type 0

@@ -1,5 +1,5 @@
 //! How a load or store goes on where a home answers, or where a link fault ends its call.
-ghost use Rattle.std.specs.Prelude.{◌≡◌, ◌≤◌, true, length, nat_lt, IfOk, IfSome, OnErr};
+ghost use Rattle.std.specs.Prelude.{◌≡◌, ◌≤◌, true, false, length, nat_lt, IfOk, IfSome, OnErr};
 ghost use Rattle.ring_messages.specs.Ranges.{IsBody};
 ghost use Rattle.fault_handler.specs.Tasks.{start_of, loaded_from};
 ghost use Rattle.fault_handler.specs.Transits.{coming, going};
@@ -7,7 +7,7 @@ ghost use Rattle.fault_handler.specs.Desks.{task_of, moving_of, base_of};
 ghost use Rattle.fault_handler.specs.Changes.{with_raised, with_room_settled};
 ghost use Rattle.fault_handler.specs.Drops.{anew_of};
 ghost use Rattle.fault_handler.specs.PageReplies.{page_came_of, page_by_stamp, room_taken, room_stale, access_failed_of};
-ghost use Rattle.fault_handler.specs.Conditions.{IsOf, IsIdle, IsAccessing, IsWhole, fits_move};
+ghost use Rattle.fault_handler.specs.Conditions.{IsOf, IsIdle, IsAccessing, IsWhole, MayWantAt, fits_move};
 ghost use Rattle.fault_handler.specs.Outcomes.{Gives, FitsWork, IsAsked, AfterAccess};
 
 use super::Desk;
@@ -35,7 +35,8 @@ impl Desk {
         }
     }
 
-    /// Goes on with a load or store at the reply that fits its open call. It is never refused. Without
+    /// Goes on with a load or store at the reply that fits its open call. It is never refused. Wants memory
+    /// only at a page that is not an old one, or where a home took the page that makes room. Without
     /// memory nothing changes, but where a home took the page that makes room: then that page is on its
     /// way no more, and the load or store is open no more.
     pub fn page_came(&mut self, proc: ProcId, body: &Body) -> Result<Access, NoMemory>
@@ -47,6 +48,7 @@ impl Desk {
         ensures never { IfOk result (λ answer. IfSome (task_of self.old proc.number) (λ task. FitsWork task.work answer)) }
         ensures asks { IfOk result IsAsked }
         ensures next { IfOk result (AfterAccess self.new proc.number) }
+        ensures memory { OnErr result (MayWantAt self.old (moving_of self.old proc.number) body.now) }
         ensures left { OnErr result (self.new ≡ anew_of self.old proc.number body.now) }
         ensures node { self.new.node ≡ self.old.node }
     {
@@ -61,6 +63,7 @@ impl Desk {
         requires range { IsBody proc.node body.now }
         ensures outcome { IfOk result (Gives self.new (page_came_of self.old proc.number body.now)) }
         ensures whole { IsWhole body.now }
+        ensures memory { OnErr result (MayWantAt self.old (moving_of self.old proc.number) body.now) }
         ensures left { OnErr result (self.new ≡ anew_of self.old proc.number body.now) }
         ensures node { self.new.node ≡ self.old.node }
     {
@@ -104,6 +107,7 @@ impl Desk {
         ensures outcome { IfOk result (λ answer. IfSome (task_of self.old proc.number) (λ task.
             Gives self.new (page_by_stamp self.old proc.number task stamp bytes.now (nat_lt stamp (base_of self.old.seen task.uid))) answer)) }
         ensures whole { length bytes.now ≡ 1024 }
+        ensures memory { OnErr result (nat_lt stamp (base_of self.old.seen uid) ≡ false) }
         ensures unchanged { OnErr result (self.new ≡ self.old) }
         ensures node { self.new.node ≡ self.old.node }
     {
