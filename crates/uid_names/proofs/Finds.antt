@@ -1,6 +1,6 @@
 -- The first that passes a test, what passes one, and numbers in order.
 use Rattle.std.proofs.Common.{◌≡◌, ◌∙◌, ℕ, zero, suc, ◌+◌, ◌-◌, ◌<◌, ◌≤◌, Bool, true, false, List, [], ◌∷◌, drop, length, get_or, refl, ap, sym, drop-cons, inl, inr, arith}
-use Rattle.std.specs.Prelude.{All, ◌&&◌, not, find, filter, map, Some, None, is_some, if◌then◌else◌}
+use Rattle.std.specs.Prelude.{All, ◌&&◌, not, find, filter, Some, None, is_some, if◌then◌else◌}
 use Rattle.std.specs.List.{list_any, range_with_len}
 use Rattle.std.proofs.lemmas.Bool.{cases_lt}
 use Rattle.std.proofs.lemmas.Option.{same_Some}
@@ -63,15 +63,6 @@ filter-filter p q r (x ∷ xs) both = by_test (q x) refl (filter-filter p q r xs
 pub filter-alike : {X : Type 0} (p q : X → Bool) (xs : List X) → ((x : X) → p x ≡ q x) → filter p xs ≡ filter q xs
 filter-alike p q [] alike = refl
 filter-alike p q (x ∷ xs) alike = rw (alike x, filter-alike p q xs alike) refl
-
--- what passes of the images are the images of what passes
-pub filter-map : {X Y : Type 0} (p : Y → Bool) (f : X → Y) (xs : List X) → filter p (map f xs) ≡ map f (filter (λ x. p (f x)) xs)
-filter-map p f [] = refl
-filter-map p f (x ∷ xs) = by_test (p (f x)) refl (filter-map p f xs)
-  where
-    by_test : (b : Bool) → p (f x) ≡ b → filter p (map f xs) ≡ map f (filter (λ y. p (f y)) xs) → filter p (map f (x ∷ xs)) ≡ map f (filter (λ y. p (f y)) (x ∷ xs))
-    by_test true e others = rw (e, others) refl
-    by_test false e others = rw (e, others) refl
 
 -- not not
 pub not-not : (b : Bool) → not (not b) ≡ b

@@ -4,3 +4,7 @@ pub mod Orders
 pub mod Finds
 pub mod InOrder
 pub mod Runs
+pub mod Tables
+pub mod ListLemmas
+pub mod TextTables
+pub mod Codes

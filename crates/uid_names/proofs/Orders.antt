@@ -7,7 +7,7 @@ use Rattle.uid_names.specs.contracts.ids.UidOrd.TheImpl as uid_order
 use Rattle.uid_names.specs.contracts.ids.ProcIdOrd.TheImpl as proc_order
 use Rattle.std.specs.Ordering.{nat_cmp, ordering_then}
 use Rattle.uid_names.proofs.InOrder.{Agrees, Agrees-nat, Agrees-then}
-use Rattle.uid_names.specs.declared.lists.LockRow.{LockRow}
+use Rattle.uid_names.specs.declared.lock_row.LockRow.{LockRow}
 use Rattle.uid_names.specs.Rows.{is_before, is_after, row_lt, same_row}
 
 -- an order by one thing and then by another

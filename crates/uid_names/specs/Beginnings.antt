@@ -2,7 +2,7 @@
 use Rattle.std.specs.Prelude.{◌≡◌, ℕ, ◌+◌, ◌≤◌, ◌==◌, List, [], ◌∷◌, filter, sum_by}
 use Rattle.uid_names.specs.Openings.{Start}
 use Rattle.uid_names.specs.declared.opening.Object.{Object}
-use Rattle.uid_names.specs.declared.opening.TheConstants.{ENTRY_ROOM, VOLUME_ROOM}
+use Rattle.uid_names.specs.declared.limits.TheConstants.{ENTRY_ROOM, VOLUME_ROOM}
 use Rattle.uid_names.specs.declared.mode.ObjKind.TheVariants.{Directory}
 
 -- a node's entry directory, which has the counter 1

@@ -1,5 +1,6 @@
 -- The kinds of frames: the one table of their numbers and names. Requests are below 128.
-use Rattle.std.specs.Prelude.{ℕ, List, [], ◌∷◌, codes}
+use Rattle.std.specs.Prelude.{ℕ, ◌==◌, Option, List, [], ◌∷◌, find, codes}
+use Rattle.uid_names.specs.Texts.{written_so}
 use Rattle.uid_names.specs.declared.frame_kind.FrameKind.{FrameKind}
 use Rattle.uid_names.specs.declared.frame_kind.FrameKind.TheVariants.{PageIn, PageOut, AttrOut, Lock, Unlock, Remove, Make, List as ListRows, Page, Stored, Stale, NoGrant, NoObject, Granted, Conflict, Done, Made, NoSpace, Listed}
 
@@ -50,3 +51,11 @@ abbrev pub all_kinds : List FrameKind
 all_kinds =
     PageIn ∷ PageOut ∷ AttrOut ∷ Lock ∷ Unlock ∷ Remove ∷ Make ∷ ListRows ∷ Page ∷ Stored ∷ Stale ∷ NoGrant ∷ NoObject ∷ Granted
     ∷ Conflict ∷ Done ∷ Made ∷ NoSpace ∷ Listed ∷ []
+
+-- the kind of a number
+abbrev pub kind_of_number : ℕ → Option FrameKind
+kind_of_number n = find (λ k. kind_number k == n) all_kinds
+
+-- the kind of a name
+abbrev pub kind_of_name : List ℕ → Option FrameKind
+kind_of_name = written_so kind_name all_kinds

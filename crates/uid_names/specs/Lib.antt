@@ -8,3 +8,6 @@ pub mod Rows
 pub mod InOrder
 pub mod Beginnings
 pub mod Segments
+pub mod Steps
+pub mod Rooms
+pub mod Tables

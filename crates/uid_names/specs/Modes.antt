@@ -1,5 +1,5 @@
 -- Which modes write, which conflict, and how a mode is written.
-use Rattle.std.specs.Prelude.{ℕ, Bool, true, false, ◌||◌}
+use Rattle.std.specs.Prelude.{ℕ, Bool, true, false, ◌||◌, ◌==◌, Option, List, [], ◌∷◌, find}
 use Rattle.uid_names.specs.Names.{ProcName}
 use Rattle.uid_names.specs.declared.mode.Mode.{Mode}
 use Rattle.uid_names.specs.declared.mode.Mode.TheVariants.{Read, Write}
@@ -9,6 +9,11 @@ use Rattle.uid_names.specs.declared.mode.ObjKind.TheVariants.{File, Directory, L
 abbrev pub mode_writes : Mode → Bool
 mode_writes Read = false
 mode_writes Write = true
+
+-- whether a holder may remove the object: Write alone, and no other mode that writes
+abbrev pub mode_removes : Mode → Bool
+mode_removes Read = false
+mode_removes Write = true
 
 -- two processes conflict unless both only read
 abbrev pub modes_clash : ProcName → Mode → ProcName → Mode → Bool
@@ -24,9 +29,29 @@ abbrev pub mode_code : Mode → ℕ
 mode_code Read = 1
 mode_code Write = 2
 
+-- all modes
+abbrev pub all_modes : List Mode
+all_modes = Read ∷ Write ∷ []
+
+-- the mode of a letter
+abbrev pub mode_of_letter : ℕ → Option Mode
+mode_of_letter letter = find (λ m. mode_letter m == letter) all_modes
+
+-- the mode of a number in a frame
+abbrev pub mode_of_code : ℕ → Option Mode
+mode_of_code code = find (λ m. mode_code m == code) all_modes
+
 -- the number of an object's kind in a frame
 abbrev pub object_code : ObjKind → ℕ
 object_code File = 1
 object_code Directory = 2
 object_code Link = 3
 object_code Mail = 4
+
+-- all kinds of objects
+abbrev pub all_objects : List ObjKind
+all_objects = File ∷ Directory ∷ Link ∷ Mail ∷ []
+
+-- the kind of objects of a number in a frame
+abbrev pub object_of_code : ℕ → Option ObjKind
+object_of_code code = find (λ k. object_code k == code) all_objects

@@ -1,10 +1,23 @@
 -- What contracts see of the name of a process and of an object.
-use Rattle.std.specs.Prelude.{ℕ, Bool, ◌==◌, ◌&&◌, ◌||◌, nat_lt, ◌≤◌, ◌<◌, ◌+◌, ◌*◌, ◌^◌}
+use Rattle.std.specs.Prelude.{ℕ, Bool, ◌==◌, ◌&&◌, ◌||◌, nat_lt, ◌≤◌, ◌<◌, ◌+◌, ◌-◌, ◌*◌, ◌^◌}
+use Rattle.uid_names.specs.declared.limits.TheConstants.{MAX_NODES, NODE_PROCESSES}
 
 -- a process: its node, and its number there
 pub record ProcName : Type 0 where
   pub node : ℕ
   pub number : ℕ
+
+-- the number of a node, and that of a process at its node
+abbrev pub IsNodeNumber : ℕ → Type 0
+IsNodeNumber n = (1 ≤ n) × (n ≤ MAX_NODES)
+
+abbrev pub IsProcNumber : ℕ → Type 0
+IsProcNumber n = (1 ≤ n) × (n ≤ NODE_PROCESSES)
+
+-- the ranges of a process's name
+pub record IsProcName (p : ProcName) : Type 0 where
+  pub node : IsNodeNumber p.node
+  pub number : IsProcNumber p.number
 
 -- an object: the number that its home's counter gave, and its home
 pub record ObjectName : Type 0 where
@@ -26,6 +39,10 @@ pub record IsName (u : ObjectName) : Type 0 where
 -- the 64 bits of a name: the counter in the 44 high ones, the home in the 20 low ones
 abbrev pub number_of : ObjectName → ℕ
 number_of u = u.counter * 2 ^ 20 + u.home
+
+-- the place of a process among all: by node, and then by number, from 0
+abbrev pub place_of_process : ProcName → ℕ
+place_of_process p = (p.node - 1) * NODE_PROCESSES + (p.number - 1)
 
 abbrev pub same_proc : ProcName → ProcName → Bool
 same_proc p q = (p.node == q.node) && (p.number == q.number)

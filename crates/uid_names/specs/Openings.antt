@@ -2,6 +2,7 @@
 use Rattle.std.specs.Prelude.{◌≡◌, ℕ, ◌≤◌, false, List, [], ◌∷◌, ◌++◌, All}
 use Rattle.uid_names.specs.Names.{ObjectName, same_uid}
 use Rattle.uid_names.specs.declared.opening.Object.{Object}
+use Rattle.uid_names.specs.declared.limits.TheConstants.{MAX_ROOM}
 
 -- the number of nodes, the greatest room, and the declared objects
 pub record Start : Type 0 where
@@ -31,7 +32,7 @@ pub record IsStart (s : Start) : Type 0 where
   pub nodes_low : 1 ≤ s.nodes
   pub nodes_high : s.nodes ≤ 8
   pub greatest_low : 1 ≤ s.greatest
-  pub greatest_high : s.greatest ≤ 1024
+  pub greatest_high : s.greatest ≤ MAX_ROOM
   pub objects : All (IsDeclarable s.nodes s.greatest) s.objects
   pub apart : AreNamedApart s.objects
 

@@ -2,7 +2,7 @@
 use Rattle.std.specs.Prelude.{Bool, true, not, ◌||◌, ◌&&◌, Option, Some, None, List, filter}
 use Rattle.uid_names.specs.Names.{ProcName, ObjectName, same_proc, same_uid, proc_lt, uid_lt}
 use Rattle.uid_names.specs.Modes.{modes_clash}
-use Rattle.uid_names.specs.declared.lists.LockRow.{LockRow}
+use Rattle.uid_names.specs.declared.lock_row.LockRow.{LockRow}
 use Rattle.uid_names.specs.declared.mode.Mode.{Mode}
 
 -- the row stands before that of p on u: by object, then by process

@@ -1,6 +1,6 @@
 //! The kinds of frames that nodes send each other.
 ghost use Rattle.std.specs.Prelude.{◌≡◌, ◌≢◌, ◌<◌, ◌↔◌, IsTrue, MatchOption};
-ghost use Rattle.uid_names.specs.FrameKinds.{kind_number, kind_name};
+ghost use Rattle.uid_names.specs.FrameKinds.{kind_number, kind_name, kind_of_number, kind_of_name};
 ghost use Rattle.uid_names.specs.declared.frame_kind.FrameKind.{FrameKind};
 
 /// A kind of frame: eight requests to a home, and the eleven replies.
@@ -57,7 +57,8 @@ impl FrameKind {
 
     /// The kind of this number.
     pub fn from_number(number: u8) -> Option<FrameKind>
-        ensures { MatchOption result ((k : FrameKind) → number ≢ kind_number k) (λ k. number ≡ kind_number k) }
+        ensures value { result ≡ kind_of_number number }
+        ensures number { MatchOption result ((k : FrameKind) → number ≢ kind_number k) (λ k. number ≡ kind_number k) }
     {
         match number {
             1 => Some(FrameKind::PageIn),
@@ -112,30 +113,10 @@ impl FrameKind {
 
     /// The kind of this name.
     pub fn from_name(name: &[u8]) -> Option<FrameKind>
-        ensures { MatchOption result ((k : FrameKind) → name.now ≢ kind_name k) (λ k. name.now ≡ kind_name k) }
+        ensures value { result ≡ kind_of_name name.now }
+        ensures name { MatchOption result ((k : FrameKind) → name.now ≢ kind_name k) (λ k. name.now ≡ kind_name k) }
     {
-        match name {
-            b"page-in" => Some(FrameKind::PageIn),
-            b"page-out" => Some(FrameKind::PageOut),
-            b"attr-out" => Some(FrameKind::AttrOut),
-            b"lock" => Some(FrameKind::Lock),
-            b"unlock" => Some(FrameKind::Unlock),
-            b"remove" => Some(FrameKind::Remove),
-            b"make" => Some(FrameKind::Make),
-            b"list" => Some(FrameKind::List),
-            b"page" => Some(FrameKind::Page),
-            b"stored" => Some(FrameKind::Stored),
-            b"stale" => Some(FrameKind::Stale),
-            b"no-grant" => Some(FrameKind::NoGrant),
-            b"no-object" => Some(FrameKind::NoObject),
-            b"granted" => Some(FrameKind::Granted),
-            b"conflict" => Some(FrameKind::Conflict),
-            b"done" => Some(FrameKind::Done),
-            b"made" => Some(FrameKind::Made),
-            b"no-space" => Some(FrameKind::NoSpace),
-            b"listed" => Some(FrameKind::Listed),
-            _ => None,
-        }
+        named(name)
     }
 
     /// Whether it is a request to a home; a reply of a home else.
@@ -143,5 +124,33 @@ impl FrameKind {
         ensures { IsTrue result ↔ (kind_number self < 128) }
     {
         self.number() < 128
+    }
+}
+
+/// The kind of this name, by its text.
+fn named(name: &[u8]) -> Option<FrameKind>
+    ensures { MatchOption result ((k : FrameKind) → name.now ≢ kind_name k) (λ k. name.now ≡ kind_name k) }
+{
+    match name {
+        b"page-in" => Some(FrameKind::PageIn),
+        b"page-out" => Some(FrameKind::PageOut),
+        b"attr-out" => Some(FrameKind::AttrOut),
+        b"lock" => Some(FrameKind::Lock),
+        b"unlock" => Some(FrameKind::Unlock),
+        b"remove" => Some(FrameKind::Remove),
+        b"make" => Some(FrameKind::Make),
+        b"list" => Some(FrameKind::List),
+        b"page" => Some(FrameKind::Page),
+        b"stored" => Some(FrameKind::Stored),
+        b"stale" => Some(FrameKind::Stale),
+        b"no-grant" => Some(FrameKind::NoGrant),
+        b"no-object" => Some(FrameKind::NoObject),
+        b"granted" => Some(FrameKind::Granted),
+        b"conflict" => Some(FrameKind::Conflict),
+        b"done" => Some(FrameKind::Done),
+        b"made" => Some(FrameKind::Made),
+        b"no-space" => Some(FrameKind::NoSpace),
+        b"listed" => Some(FrameKind::Listed),
+        _ => None,
     }
 }

@@ -1,8 +1,10 @@
 //! Nodes, processes, objects and places.
 ghost use Rattle.std.specs.Prelude.{◌≡◌, ◌≢◌, ℕ, ◌+◌, ◌-◌, ◌*◌, ◌/◌, ◌%◌, ◌^◌, ◌<◌, ◌≤◌, ◌↔◌, IsTrue, IsSome, IfSome, IsOk, IfOk, OnErr};
-ghost use Rattle.uid_names.specs.Names.{ObjectName, IsName, number_of, same_proc, same_uid, proc_lt, uid_lt};
+ghost use Rattle.uid_names.specs.Names.{ObjectName, IsName, number_of, place_of_process, same_proc, same_uid, proc_lt, uid_lt};
+ghost use Rattle.uid_names.specs.declared.limits.TheConstants.{PROCESSES};
 ghost use Rattle.uid_names.specs.Texts.{text_of};
 
+use crate::limits::NODE_PROCESSES;
 use std::marker::Model;
 use thiserror::Error;
 
@@ -98,6 +100,15 @@ impl ProcId {
         ensures greatest { result ≤ 4 }
     {
         self.number
+    }
+
+    /// Its place among all processes, by node and then by number: 0 to 31.
+    pub fn place(self) -> usize
+        ensures value { result ≡ place_of_process self }
+        ensures bound { result < PROCESSES }
+    {
+        let node = self.node().number() as usize;
+        (node - 1) * NODE_PROCESSES + (self.number as usize - 1)
     }
 
     /// Whether the two are one process.

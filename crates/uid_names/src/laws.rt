@@ -1,11 +1,17 @@
 //! Laws of names. Each stands on a function without a body, so that the check proves it.
-ghost use Rattle.std.specs.Prelude.{◌≡◌, ◌≢◌, ℕ, ◌<◌, ◌^◌, true, false, Some, None, IsTrue, List, nat_lt};
-ghost use Rattle.uid_names.specs.Names.{ObjectName, IsName, number_of, same_uid, uid_lt, Given};
+ghost use Rattle.std.specs.Prelude.{◌≡◌, ◌≢◌, ℕ, ◌<◌, ◌^◌, true, false, if◌then◌else◌, Some, None, IsTrue, List, [], nat_lt};
+ghost use Rattle.uid_names.specs.Modes.{mode_writes, mode_removes, modes_clash, mode_letter, mode_code, mode_of_letter, mode_of_code, object_code, object_of_code};
+ghost use Rattle.uid_names.specs.Tables.{AreRising, row_of, with_row, without_row};
+ghost use Rattle.uid_names.specs.declared.mode.Mode.{Mode};
+ghost use Rattle.uid_names.specs.declared.mode.ObjKind.{ObjKind};
+ghost use Rattle.uid_names.specs.Names.{ProcName, ObjectName, IsName, number_of, same_uid, uid_lt, Given};
 ghost use Rattle.uid_names.specs.Rows.{row_lt, same_row};
 ghost use Rattle.uid_names.specs.Segments.{Stretch, is_free_run, lowest_run};
 ghost use Rattle.uid_names.specs.Texts.{text_of};
-ghost use Rattle.uid_names.specs.declared.lists.LockRow.{LockRow};
+ghost use Rattle.uid_names.specs.declared.lock_row.LockRow.{LockRow};
 ghost use Rattle.uid_names.specs.declared.segment.TheConstants.{SEGMENTS};
+
+use crate::table::UidRow;
 
 /// The text, the number and the value of a name are one to one, and names are in the order of their numbers.
 pub fn names_are_one_to_one()
@@ -13,6 +19,34 @@ pub fn names_are_one_to_one()
     ensures text { (u v : ObjectName) → IsName u → IsName v → text_of u ≡ text_of v → u ≡ v }
     ensures same { (u v : ObjectName) → IsTrue (same_uid u v) → u ≡ v }
     ensures order { (u v : ObjectName) → IsName u → IsName v → uid_lt u v ≡ nat_lt (number_of u) (number_of v) }
+{}
+
+/// A mode that removes writes, and a conflict is one from both sides.
+pub fn modes_agree()
+    ensures removes { (m : Mode) → mode_removes m ≡ true → mode_writes m ≡ true }
+    ensures clash { (p : ProcName) (m : Mode) (q : ProcName) (n : Mode) → modes_clash p m q n ≡ modes_clash q n p m }
+{}
+
+/// A mode is known by its letter and by its number, and a kind of objects by its number; nothing else is read as one.
+pub fn modes_are_read_as_they_are_written()
+    ensures letter { (m : Mode) → mode_of_letter (mode_letter m) ≡ Some m }
+    ensures letters { (n : ℕ) (m : Mode) → mode_of_letter n ≡ Some m → mode_letter m ≡ n }
+    ensures code { (m : Mode) → mode_of_code (mode_code m) ≡ Some m }
+    ensures codes { (n : ℕ) (m : Mode) → mode_of_code n ≡ Some m → mode_code m ≡ n }
+    ensures object { (k : ObjKind) → object_of_code (object_code k) ≡ Some k }
+    ensures objects { (n : ℕ) (k : ObjKind) → object_of_code n ≡ Some k → object_code k ≡ n }
+{}
+
+/// A table keeps its rows in order, one for each object, and a change leaves the rows of the other objects.
+pub fn tables_keep_one_row_of_each_object<R: UidRow>()
+    ensures start { AreRising R.name [] }
+    ensures set { (row : R) (rows : List R) → AreRising R.name rows → AreRising R.name (with_row R.name row rows) }
+    ensures forgotten { (u : ObjectName) (rows : List R) → AreRising R.name rows → AreRising R.name (without_row R.name u rows) }
+    ensures row_set { (row : R) (rows : List R) (u : ObjectName) →
+        row_of R.name u (with_row R.name row rows) ≡ (if same_uid u (R.name row) then Some row else row_of R.name u rows) }
+    ensures row_forgotten { (v : ObjectName) (rows : List R) (u : ObjectName) →
+        row_of R.name u (without_row R.name v rows) ≡ (if same_uid u v then None else row_of R.name u rows) }
+    ensures named { (u : ObjectName) (rows : List R) (row : R) → row_of R.name u rows ≡ Some row → R.name row ≡ u }
 {}
 
 /// Rows of locks are in one order: by rising object, and then by rising process.

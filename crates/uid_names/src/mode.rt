@@ -1,13 +1,10 @@
 //! Modes of locks and kinds of objects. Every layer speaks of modes by these calls alone.
 ghost use Rattle.std.specs.Prelude.{◌≡◌, ◌≢◌, MatchOption};
-ghost use Rattle.uid_names.specs.Modes.{mode_writes, modes_clash, mode_letter, mode_code, object_code};
+ghost use Rattle.uid_names.specs.Modes.{mode_writes, mode_removes, modes_clash, mode_letter, mode_code, mode_of_letter, mode_of_code, object_code, object_of_code};
 ghost use Rattle.uid_names.specs.declared.mode.Mode.{Mode};
 ghost use Rattle.uid_names.specs.declared.mode.ObjKind.{ObjKind};
 
 use crate::ids::ProcId;
-
-/// The greatest room of an object, in pages.
-pub const MAX_ROOM: u32 = 1024;
 
 /// How a lock is held.
 #[derive(Clone, Copy, Debug, PartialEq, Eq, PartialOrd, Ord, Hash)]
@@ -37,9 +34,20 @@ impl Mode {
         }
     }
 
+    /// Whether a holder may remove the object: Write alone, and no other mode that writes.
+    pub fn removes(self) -> bool
+        ensures { result ≡ mode_removes self }
+    {
+        match self {
+            Mode::Read => false,
+            Mode::Write => true,
+        }
+    }
+
     /// The mode of this letter.
     pub fn from_letter(letter: u8) -> Option<Mode>
-        ensures { MatchOption result ((m : Mode) → letter ≢ mode_letter m) (λ m. letter ≡ mode_letter m) }
+        ensures value { result ≡ mode_of_letter letter }
+        ensures letter { MatchOption result ((m : Mode) → letter ≢ mode_letter m) (λ m. letter ≡ mode_letter m) }
     {
         match letter {
             b'r' => Some(Mode::Read),
@@ -60,7 +68,8 @@ impl Mode {
 
     /// The mode of this number in a frame.
     pub fn from_code(code: u8) -> Option<Mode>
-        ensures { MatchOption result ((m : Mode) → code ≢ mode_code m) (λ m. code ≡ mode_code m) }
+        ensures value { result ≡ mode_of_code code }
+        ensures code { MatchOption result ((m : Mode) → code ≢ mode_code m) (λ m. code ≡ mode_code m) }
     {
         match code {
             1 => Some(Mode::Read),
@@ -102,7 +111,8 @@ impl ObjKind {
 
     /// The kind of this number in a frame.
     pub fn from_code(code: u8) -> Option<ObjKind>
-        ensures { MatchOption result ((k : ObjKind) → code ≢ object_code k) (λ k. code ≡ object_code k) }
+        ensures value { result ≡ object_of_code code }
+        ensures code { MatchOption result ((k : ObjKind) → code ≢ object_code k) (λ k. code ≡ object_code k) }
     {
         match code {
             1 => Some(ObjKind::File),

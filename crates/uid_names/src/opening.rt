@@ -4,16 +4,11 @@ ghost use Rattle.uid_names.specs.Openings.{IsUnnamed, IsStart, with_object};
 ghost use Rattle.uid_names.specs.Beginnings.{entry_directory};
 
 use crate::ids::{NodeId, Uid};
-use crate::lists::NoMemory;
-use crate::mode::{MAX_ROOM, ObjKind};
+use crate::limits::{ENTRY_ROOM, MAX_ROOM};
+use crate::mode::ObjKind;
+use crate::no_memory::NoMemory;
 use std::alloc::Global;
 use std::marker::Model;
-
-/// The room of a node's entry directory, in pages.
-pub const ENTRY_ROOM: u32 = 8;
-
-/// The greatest sum of the rooms of a node's objects, in pages.
-pub const VOLUME_ROOM: u32 = 16_384;
 
 /// An object, with what is fixed when it is made. The room is in pages.
 #[derive(Clone, Copy, Debug, PartialEq, Eq)]

@@ -1,7 +1,7 @@
 //! Segments: the address space of a process is mapped by whole ones.
 ghost use Rattle.std.specs.Prelude.{◌≡◌, ◌≤◌};
 ghost use Rattle.uid_names.specs.Segments.{segments};
-ghost use Rattle.uid_names.specs.declared.mode.TheConstants.{MAX_ROOM};
+ghost use Rattle.uid_names.specs.declared.limits.TheConstants.{MAX_ROOM};
 
 /// How many segments an address space has.
 pub const SEGMENTS: u16 = 256;

@@ -124,9 +124,71 @@ fn lists_keep_what_is_pushed(rt: HostRuntime) -> Result<(), Fail> {
     };
     let mut rows = LockRows::new(rt.alloc());
     rows.push(row)?;
+    assert_eq!(rt;
+        ItemList::from_vec(vec![in rt.alloc(); row]?).items(),
+        [row].as_slice()
+    );
     assert!(rt; row.is_of(row.proc, row.uid));
     assert!(rt; row.is_before(row.uid, proc(2, 1)?) && row.is_after(row.uid, proc(1, 3)?));
     assert!(rt; row.conflicts(proc(2, 1)?, Mode::Write) && !row.conflicts(row.proc, Mode::Write));
     assert_eq!(rt; rows.copy(rt.alloc())?.items(), [row].as_slice());
+    Ok(())
+}
+
+/// A row of a table: an object's stamp, say.
+#[derive(Clone, Copy, Debug, PartialEq, Eq)]
+struct Row {
+    uid: Uid,
+    stamp: u64,
+}
+
+impl UidRow for Row {
+    ghost use Rattle.uid_names.specs.declared.tests.Row.{Row};
+
+    ghost name = { λ row. row.uid };
+
+    fn uid(&self) -> Uid {
+        self.uid
+    }
+}
+
+#[test]
+fn a_table_has_one_row_of_each_object(rt: HostRuntime) -> Result<(), Fail> {
+    let (first, second) = (Uid::from_parts(2, node(1)?), Uid::from_parts(4, node(1)?));
+    let mut table = UidTable::new(rt.alloc());
+    table.set(Row {
+        uid: second,
+        stamp: 8,
+    })?;
+    table.set(Row {
+        uid: first,
+        stamp: 6,
+    })?;
+    table.set(Row {
+        uid: second,
+        stamp: 9,
+    })?;
+    assert_eq!(rt;
+        table.of(second),
+        Some(Row {
+            uid: second,
+            stamp: 9
+        })
+    );
+    if table.of(first).is_some() {
+        table.replace(Row {
+            uid: first,
+            stamp: 7,
+        });
+    }
+    assert_eq!(rt;
+        table.of(first),
+        Some(Row {
+            uid: first,
+            stamp: 7
+        })
+    );
+    table.forget(second);
+    assert_eq!(rt; table.of(second), None);
     Ok(())
 }
