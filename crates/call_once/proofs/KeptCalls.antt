@@ -1,8 +1,10 @@
 -- The calls that are kept in slots, one slot for each process.
-use Rattle.std.proofs.Common.{◌≡◌, ℕ, suc, zero, ◌+◌, ◌<◌, ◌≢◌, true, false, List, [], ◌∷◌, length, get_or, set, replicate, refl, ap, arith}
-use Rattle.std.specs.Prelude.{Option, Some, None, if◌then◌else◌}
+use Rattle.std.proofs.Common.{◌≡◌, ℕ, suc, zero, ◌+◌, ◌<◌, ◌≢◌, Bool, true, false, List, [], ◌∷◌, length, get_or, set, replicate, refl, ap, subst, arith}
+use Rattle.std.specs.Prelude.{All, Option, Some, None, if◌then◌else◌}
 use Rattle.std.proofs.lemmas.List.{get_or_default}
+use Rattle.std.proofs.lemmas.List.Elements.{All-cons, All-head, All-tail}
 use Rattle.std.proofs.lemmas.Bool.Decides.{nat_tests}
+use Rattle.uid_names.proofs.InOrder.{chosen}
 use Rattle.uid_names.specs.Names.{ProcName, same_proc, proc_lt}
 use Rattle.call_once.specs.declared.served.Kept.{Kept}
 use Rattle.call_once.specs.Calls.{Call, call_of, with_call}
@@ -72,6 +74,23 @@ calls_in-replicate first (suc n) = calls_in-replicate (suc first) n
 pub call_of-with_call : {B : Type 0} (call : Call B) (calls : List (Call B)) (p : ProcName) → call_of p (with_call call calls) ≡ (if same_proc call.proc p then Some call else call_of p calls)
 call_of-with_call call [] p = refl
 call_of-with_call call (other ∷ calls) p = grind (arith, nat_tests, call_of-with_call call calls p)
+
+-- what holds of each call and of the one that is kept holds of all of them afterwards
+pub with_call-all : {B : Type 0} (P : Call B → Type 0) (new : Call B) (calls : List (Call B)) → P new → All P calls → All P (with_call new calls)
+with_call-all P new [] one all = All-cons P new [] one all
+with_call-all P new (call ∷ calls) one all =
+    chosen (All P) (proc_lt call.proc new.proc)
+    (All-cons P call (with_call new calls) (All-head P call calls all) (with_call-all P new calls one (All-tail P call calls all)))
+    (chosen (All P) (same_proc call.proc new.proc) (All-cons P new calls one (All-tail P call calls all)) (All-cons P new (call ∷ calls) one all))
+
+-- what holds of each call holds of the last one of a process
+pub call_of-all : {B : Type 0} (P : Call B → Type 0) (calls : List (Call B)) (p : ProcName) (found : Call B) → All P calls → call_of p calls ≡ Some found → P found
+call_of-all P [] p found all is = absurd cc
+call_of-all P (call ∷ calls) p found all is = by (same_proc call.proc p) is (call_of-all P calls p found (All-tail P call calls all))
+  where
+    by : (b : Bool) → (if b then Some call else call_of p calls) ≡ Some found → (call_of p calls ≡ Some found → P found) → P found
+    by true is others = let same : call ≡ found = cc in subst P same (All-head P call calls all)
+    by false is others = others is
 
 -- the call that was read from the slot of a process is its last one
 pub call_of-read : {B : Type 0} (slots : List (Option (Kept B))) (calls : List (Call B)) (place : ℕ) (p : ProcName) (slot : Option (Kept B)) → calls_in 0 slots ≡ calls → proc_at place ≡ p → place < length slots → slot ≡ get_or slots place slot → call_of p calls ≡ call_in p slot

@@ -1,12 +1,13 @@
 -- Where the last call of a process is kept.
 use Rattle.std.specs.Prelude.{ℕ, suc, ◌+◌, ◌/◌, ◌%◌, Option, Some, None, List, [], ◌∷◌}
 use Rattle.uid_names.specs.Names.{ProcName}
+use Rattle.uid_names.specs.declared.limits.TheConstants.{NODE_PROCESSES}
 use Rattle.call_once.specs.Calls.{Call}
 use Rattle.call_once.specs.declared.served.Kept.{Kept}
 
--- the process at a place: there are four at each node
+-- the process at a place
 abbrev pub proc_at : ℕ → ProcName
-proc_at place = record { node = place / 4 + 1; number = place % 4 + 1 }
+proc_at place = record { node = place / NODE_PROCESSES + 1; number = place % NODE_PROCESSES + 1 }
 
 -- the call in the slot of a process
 abbrev pub call_in : {B : Type 0} → ProcName → Option (Kept B) → Option (Call B)

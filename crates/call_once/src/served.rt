@@ -6,10 +6,7 @@ ghost use Rattle.call_once.specs.Slots.{proc_at, call_in};
 
 use std::alloc::Global;
 use std::marker::Model;
-use uid_names::{NoMemory, ProcId};
-
-/// How many processes there are: four at each of eight nodes.
-const PROCESSES: usize = 32;
+use uid_names::{NoMemory, PROCESSES, ProcId};
 
 /// How the number of a call stands to the last one that was answered.
 #[derive(Clone, Copy, Debug, PartialEq, Eq)]
@@ -41,21 +38,23 @@ impl<B> Model for Served<B> {
 
     ghost Value = { List (Call B) };
 
+    ghost use Rattle.uid_names.specs.declared.limits.TheConstants.{PROCESSES};
     ghost use Rattle.call_once.specs.Slots.{calls_in};
 
     ghost view = { λ s. calls_in 0 s.slots.items };
 
-    ghost invariant = { λ s. length s.slots.items ≡ 32 };
+    ghost invariant = { λ s. length s.slots.items ≡ PROCESSES };
 }
 
-/// The place of a process among all of them, by node and then by number.
+/// The place of a process, at which that one stands.
 fn place_of(proc: ProcId) -> usize
     ensures place { proc_at result ≡ proc }
-    ensures bound { result < 32 }
+    ensures bound { result < PROCESSES }
 {
-    let node = proc.node().number() as usize;
-    let number = proc.number() as usize;
-    4 * (node - 1) + (number - 1)
+    // Their ranges.
+    let _node = proc.node().number();
+    let _number = proc.number();
+    proc.place()
 }
 
 impl<B: Drop> Served<B> {

@@ -1,14 +1,9 @@
 //! What no clause says: that room is made for each process, and that the calls do as they say at owned answers.
 use super::*;
+use samples::proc;
 use std::process::Abort;
 use std::test::Fail;
-use uid_names::{ByteList, NodeId, ProcId};
-
-/// The process of this number at a node.
-fn proc(node: u8, number: u8) -> Result<ProcId, Fail> {
-    let node = NodeId::new(node).ok_or("no node")?;
-    Ok(ProcId::new(node, number).ok_or("no process")?)
-}
+use uid_names::ByteList;
 
 #[test]
 fn a_number_acts_once(rt: HostRuntime) -> Result<(), Fail> {

@@ -1,3 +1,4 @@
+pub mod Conflicts
 pub mod Places
 pub mod Keeps
 pub mod LookUps

@@ -10,7 +10,7 @@ use Rattle.uid_names.specs.contracts.ids.ProcIdOrd.TheImpl as proc_order
 use Rattle.uid_names.proofs.InOrder.{IsSearch, searched, find-found, remove-place, without-none, set-place, insert-place}
 use Rattle.uid_names.proofs.Orders.{Agrees-row, row_lt-trans, is_before-trans, is_before-apart, later_apart}
 use Rattle.lock_manager.specs.declared.grants.Grant.{Grant}
-use Rattle.lock_manager.specs.Grants.{AreRising, grant_lt, grant_of, place_of, grants_without, grants_with}
+use Rattle.lock_manager.specs.Grants.{AreGrantsRising, grant_lt, grant_of, place_of, grants_without, grants_with}
 
 module _ (p : ProcName) (u : ObjectName) where
   -- the grant stands before that of p on u
@@ -30,13 +30,13 @@ module _ (p : ProcName) (u : ObjectName) where
   later a b = later_apart a.row b.row u p
 
   -- what a binary search by the object and the process answers
-  pub found-search : (grants : List Grant) (r : Result ℕ ℕ) → AreRising grants → IsSearchInRange r (length grants)
+  pub found-search : (grants : List Grant) (r : Result ℕ ℕ) → AreGrantsRising grants → IsSearchInRange r (length grants)
       → IsBinarySearchResult (λ g. ordering_then (uid_order.ghosts.cmp g.row.uid u) (proc_order.ghosts.cmp g.row.proc p)) grants r → IsSearch before is_it grants r
   found-search grants r rising bound found =
       searched grant_lt before is_it (λ g. ordering_then (uid_order.ghosts.cmp g.row.uid u) (proc_order.ghosts.cmp g.row.proc p)) (λ g. Agrees-row p u g.row) (λ a b. is_before-trans a.row b.row u p) later grants rising r bound found
 
   -- the grant at its place is that of p on u, where there is one
-  pub grant_of-found : (grants : List Grant) → AreRising grants → (at : ℕ) (g : Grant) → at ≡ place_of p u grants → at < length grants → g ≡ get_or grants at g → is_some (grant_of p u grants) ≡ true → grant_of p u grants ≡ Some g
+  pub grant_of-found : (grants : List Grant) → AreGrantsRising grants → (at : ℕ) (g : Grant) → at ≡ place_of p u grants → at < length grants → g ≡ get_or grants at g → is_some (grant_of p u grants) ≡ true → grant_of p u grants ≡ Some g
   grant_of-found = find-found grant_lt before is_it apart later
 
   -- where there is no grant of p on u, none is left out
@@ -44,7 +44,7 @@ module _ (p : ProcName) (u : ObjectName) where
   grants_without-none = without-none is_it
 
   -- the grant of p on u goes out at its place
-  pub remove-place_of : (grants : List Grant) → AreRising grants → is_some (grant_of p u grants) ≡ true → remove grants (place_of p u grants) ≡ grants_without p u grants
+  pub remove-place_of : (grants : List Grant) → AreGrantsRising grants → is_some (grant_of p u grants) ≡ true → remove grants (place_of p u grants) ≡ grants_without p u grants
   remove-place_of = remove-place grant_lt before is_it apart later
 
 -- grants are in one order
@@ -56,5 +56,5 @@ pub insert-place_of : (new : Grant) (grants : List Grant) → insert grants (pla
 insert-place_of = insert-place grant_lt grant_lt-trans
 
 -- a grant takes the place of that of its process on its object
-pub set-place_of : (new : Grant) (grants : List Grant) → AreRising grants → is_some (grant_of new.row.proc new.row.uid grants) ≡ true → set grants (place_of new.row.proc new.row.uid grants) new ≡ grants_with new (grants_without new.row.proc new.row.uid grants)
+pub set-place_of : (new : Grant) (grants : List Grant) → AreGrantsRising grants → is_some (grant_of new.row.proc new.row.uid grants) ≡ true → set grants (place_of new.row.proc new.row.uid grants) new ≡ grants_with new (grants_without new.row.proc new.row.uid grants)
 set-place_of new = set-place grant_lt grant_lt-trans new (is_it new.row.proc new.row.uid) (apart new.row.proc new.row.uid) (later new.row.proc new.row.uid)

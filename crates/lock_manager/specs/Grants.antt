@@ -5,7 +5,7 @@ use Rattle.uid_names.specs.Names.{ProcName, ObjectName, same_uid}
 use Rattle.uid_names.specs.Modes.{mode_writes}
 use Rattle.uid_names.specs.InOrder.{AreInOrder, put_in_order}
 use Rattle.uid_names.specs.Rows.{is_before, row_lt, same_row, is_in_conflict}
-use Rattle.uid_names.specs.declared.lists.LockRow.{LockRow}
+use Rattle.uid_names.specs.declared.lock_row.LockRow.{LockRow}
 use Rattle.uid_names.specs.declared.mode.Mode.{Mode}
 use Rattle.lock_manager.specs.declared.grants.Grant.{Grant}
 
@@ -14,8 +14,8 @@ abbrev pub grant_lt : Grant → Grant → Bool
 grant_lt a b = row_lt a.row b.row
 
 -- each grant stands before the later ones
-abbrev pub AreRising : List Grant → Type 0
-AreRising = AreInOrder grant_lt
+abbrev pub AreGrantsRising : List Grant → Type 0
+AreGrantsRising = AreInOrder grant_lt
 
 -- the rows of grants
 abbrev pub rows_of : List Grant → List LockRow

@@ -2,7 +2,7 @@
 ghost use Rattle.std.specs.Prelude.{◌≡◌, ◌<◌, ◌≤◌, filter, is_ok, is_some, length, vec_len, vec_capacity, MatchResult, OnOk, OnErr};
 ghost use Rattle.std.specs.List.{list_any};
 ghost use Rattle.uid_names.specs.Rows.{rows_after};
-ghost use Rattle.lock_manager.specs.Grants.{AreRising, rows_of, is_on, grant_of, place_of, conflict_of, writes_under, grants_with, grants_without};
+ghost use Rattle.lock_manager.specs.Grants.{AreGrantsRising, rows_of, is_on, grant_of, place_of, conflict_of, writes_under, grants_with, grants_without};
 
 use uid_names::{LockRow, Mode, NoMemory, NodeId, ProcId, Uid};
 
@@ -15,7 +15,7 @@ pub struct Grant {
 
 /// Where the grant of a process on an object stands; Err where it would.
 pub(crate) fn search(grants: &[Grant], proc: ProcId, uid: Uid) -> Result<usize, usize>
-    requires { AreRising grants.now }
+    requires { AreGrantsRising grants.now }
     ensures place { MatchResult result
         (λ at. at ≡ place_of proc uid grants.now)
         (λ at. at ≡ place_of proc uid grants.now) }
@@ -27,7 +27,7 @@ pub(crate) fn search(grants: &[Grant], proc: ProcId, uid: Uid) -> Result<usize, 
 
 /// The grants on an object.
 pub(crate) fn on_object(grants: &[Grant], uid: Uid) -> &[Grant]
-    requires { AreRising grants.now }
+    requires { AreGrantsRising grants.now }
     ensures { result.now ≡ filter (is_on uid) grants.now }
 {
     let first = grants.partition_point(|grant| grant.row.uid.is_below(uid));
@@ -43,7 +43,7 @@ pub(crate) fn conflict(
     uid: Uid,
     mode: Mode,
 ) -> Option<(ProcId, Mode)>
-    requires { AreRising grants.now }
+    requires { AreGrantsRising grants.now }
     ensures { result ≡ conflict_of proc uid mode grants.now }
 {
     for grant in on_object(grants, uid) {
@@ -67,7 +67,7 @@ pub(crate) fn any_writes(grants: &[Grant], number: u64, node: NodeId) -> bool
 
 /// Puts a grant where it belongs, in place of that of its process on its object.
 pub(crate) fn put(grants: &mut Vec<Grant>, grant: Grant) -> Result<(), NoMemory>
-    requires { AreRising grants.old.items }
+    requires { AreGrantsRising grants.old.items }
     ensures ok { OnOk result (grants.new.items
         ≡ grants_with grant (grants_without grant.row.proc grant.row.uid grants.old.items)) }
     ensures err { OnErr result (grants.new.items ≡ grants.old.items) }
@@ -84,7 +84,7 @@ pub(crate) fn put(grants: &mut Vec<Grant>, grant: Grant) -> Result<(), NoMemory>
 
 /// The grants whose rows stand behind a row, or all of them.
 pub(crate) fn behind(grants: &[Grant], after: Option<(Uid, ProcId)>) -> &[Grant]
-    requires { AreRising grants.now }
+    requires { AreGrantsRising grants.now }
     ensures { rows_of result.now ≡ rows_after after (rows_of grants.now) }
 {
     match after {

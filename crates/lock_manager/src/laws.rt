@@ -1,17 +1,23 @@
 //! Laws of lock tables. Each stands on a function without a body, so that the check proves it.
-ghost use Rattle.std.specs.Prelude.{◌≡◌, ◌+◌, ◌&&◌, [], Some, None, if◌then◌else◌};
+ghost use Rattle.std.specs.Prelude.{◌≡◌, ◌+◌, ◌&&◌, false, [], Some, None, if◌then◌else◌};
 ghost use Rattle.uid_names.specs.Names.{ProcName, ObjectName, same_proc, same_uid};
-ghost use Rattle.uid_names.specs.declared.lists.LockRow.{LockRow};
+ghost use Rattle.uid_names.specs.declared.lock_row.LockRow.{LockRow};
 ghost use Rattle.uid_names.specs.Rows.{same_row};
-ghost use Rattle.lock_manager.specs.Grants.{grant_of};
-ghost use Rattle.lock_manager.specs.Tables.{Table, IsTable, with_grant, without_grant, without_object};
+ghost use Rattle.uid_names.specs.Modes.{modes_clash};
+ghost use Rattle.lock_manager.specs.declared.grants.Grant.{Grant};
+ghost use Rattle.lock_manager.specs.Grants.{grant_of, conflict_of};
+ghost use Rattle.lock_manager.specs.Tables.{Table, IsTable, with_grant, without_grant, without_grants_on};
 
-/// Grants stay in order and their numbers stay apart, whatever is granted and ended.
+use crate::locks::Locks;
+
+/// Grants stay in order, their numbers apart and their locks without conflict, whatever is granted and
+/// ended.
 pub fn changes_keep_tables()
     ensures start { IsTable (record { grants = []; last = 0 }) }
-    ensures granted { (row : LockRow) (table : Table) → IsTable table → IsTable (with_grant row table) }
+    ensures granted { (row : LockRow) (table : Table) → IsTable table →
+        conflict_of row.proc row.uid row.mode table.grants ≡ None → IsTable (with_grant row table) }
     ensures released { (p : ProcName) (u : ObjectName) (table : Table) → IsTable table → IsTable (without_grant p u table) }
-    ensures dropped { (u : ObjectName) (table : Table) → IsTable table → IsTable (without_object u table) }
+    ensures dropped { (u : ObjectName) (table : Table) → IsTable table → IsTable (without_grants_on u table) }
 {}
 
 /// What a process holds on an object changes only where that is granted or ended.
@@ -22,5 +28,20 @@ pub fn changes_leave_the_others()
     ensures released { (q : ProcName) (v : ObjectName) (table : Table) (p : ProcName) (u : ObjectName) →
         grant_of p u (without_grant q v table).grants ≡ (if same_proc p q && same_uid u v then None else grant_of p u table.grants) }
     ensures dropped { (v : ObjectName) (table : Table) (p : ProcName) (u : ObjectName) →
-        grant_of p u (without_object v table).grants ≡ (if same_uid u v then None else grant_of p u table.grants) }
+        grant_of p u (without_grants_on v table).grants ≡ (if same_uid u v then None else grant_of p u table.grants) }
 {}
+
+/// Two processes that hold an object do not conflict.
+pub fn holders_do_not_conflict()
+    ensures { (table : Table) (p q : ProcName) (u : ObjectName) (a b : Grant) → IsTable table →
+        grant_of p u table.grants ≡ Some a → grant_of q u table.grants ≡ Some b → same_proc p q ≡ false →
+        modes_clash p a.row.mode q b.row.mode ≡ false }
+{}
+
+/// Threads may hand each other lock tables.
+pub fn lock_tables_may_cross_threads() {
+    may_cross_threads::<Locks>();
+}
+
+/// Threads may hand each other values of this type.
+fn may_cross_threads<T: Send>() {}

@@ -8,4 +8,4 @@ pub mod locks;
 mod tests;
 
 pub use grants::Grant;
-pub use locks::{AskRefusal, Locks, MOST_LISTED, ROOM};
+pub use locks::{AskRefusal, Locks, ROOM};

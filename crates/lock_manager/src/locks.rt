@@ -5,19 +5,18 @@ ghost use Rattle.uid_names.specs.Names.{ProcName};
 ghost use Rattle.uid_names.specs.declared.mode.Mode.{Mode};
 ghost use Rattle.uid_names.specs.Rows.{rows_after};
 ghost use Rattle.lock_manager.specs.Grants.{rows_of, grant_of, held_in, is_writing, conflict_of};
-ghost use Rattle.lock_manager.specs.Tables.{with_grant, without_grant, without_object};
+ghost use Rattle.lock_manager.specs.Tables.{with_grant, without_grant, without_grants_on};
 
 use crate::grants::{Grant, any_writes, behind, conflict, on_object, put, search};
 use std::alloc::Global;
 use std::marker::Model;
 use thiserror::Error;
-use uid_names::{LockRow, LockRows, Mode, NoMemory, NodeId, ProcId, Uid};
+use uid_names::{
+    LISTED_ROWS, LockRow, LockRows, Mode, NoMemory, NodeId, PROCESS_LOCKS, PROCESSES, ProcId, Uid,
+};
 
-/// How many rows there is room for from the start: eight of each of 32 processes.
-pub const ROOM: usize = 256;
-
-/// How many rows one list has at most.
-pub const MOST_LISTED: usize = 64;
+/// How many rows there is room for from the start: those of all processes.
+pub const ROOM: usize = PROCESSES * PROCESS_LOCKS;
 
 /// Why a lock is not granted.
 #[derive(Clone, Copy, Debug, PartialEq, Eq, Error)]
@@ -50,7 +49,7 @@ impl Model for Locks {
 }
 
 impl Locks {
-    /// No lock is held, and no number was given. Makes room for 256 rows.
+    /// No lock is held, and no number was given. Makes room for `ROOM` rows.
     pub fn new(alloc: Global) -> Result<Locks, NoMemory>
         ensures { IfOk result (λ locks. locks ≡ record { grants = []; last = 0 }) }
     {
@@ -59,7 +58,7 @@ impl Locks {
     }
 
     /// Grants a lock under the next number, in place of what the process holds on the object.
-    /// Conflict where another process holds the object in conflict; NoMemory only where 256 rows stand.
+    /// Conflict where another process holds the object in conflict; NoMemory only where `ROOM` rows stand.
     /// Where it is refused, nothing changes.
     pub fn ask(&mut self, proc: ProcId, uid: Uid, mode: Mode) -> Result<u64, AskRefusal>
         requires { self.old.last < 2 ^ 64 - 1 }
@@ -106,7 +105,7 @@ impl Locks {
 
     /// Ends all that is held on an object. Takes no memory.
     pub fn drop_object(&mut self, uid: Uid)
-        ensures { self.new ≡ without_object uid self.old }
+        ensures { self.new ≡ without_grants_on uid self.old }
     {
         self.grants.retain(|grant| !uid.is(grant.row.uid));
     }
@@ -132,28 +131,28 @@ impl Locks {
         any_writes(on_object(&self.grants, uid), grant, node)
     }
 
-    /// The first 64 rows, or the first 64 behind one, and whether more follow.
+    /// The first rows, or the first behind one, as many as an answer lists, and whether more follow.
     pub fn list(
         &self,
         alloc: Global,
         after: Option<(Uid, ProcId)>,
     ) -> Result<(LockRows, bool), NoMemory>
         ensures rows { IfOk result (λ listed.
-            listed.0 ≡ take MOST_LISTED (rows_after after (rows_of self.now.grants))) }
+            listed.0 ≡ take LISTED_ROWS (rows_after after (rows_of self.now.grants))) }
         ensures more { IfOk result (λ listed.
-            listed.1 ≡ nat_lt MOST_LISTED (length (rows_after after (rows_of self.now.grants)))) }
+            listed.1 ≡ nat_lt LISTED_ROWS (length (rows_after after (rows_of self.now.grants)))) }
     {
         let grants = behind(&self.grants, after);
         let rows = first_rows(alloc, grants)?;
-        Ok((rows, grants.len() > MOST_LISTED))
+        Ok((rows, grants.len() > LISTED_ROWS))
     }
 }
 
-/// The rows of the first 64 grants.
+/// The rows of the first grants, as many as an answer lists.
 fn first_rows(alloc: Global, grants: &[Grant]) -> Result<LockRows, NoMemory>
-    ensures { IfOk result (λ rows. rows ≡ take MOST_LISTED (rows_of grants.now)) }
+    ensures { IfOk result (λ rows. rows ≡ take LISTED_ROWS (rows_of grants.now)) }
 {
-    let count = MOST_LISTED.min(grants.len());
+    let count = LISTED_ROWS.min(grants.len());
     let mut rows = LockRows::new(alloc);
     for grant in &grants[..count] {
         rows.push(grant.row)?;

@@ -2,25 +2,11 @@
 ghost use Rattle.std.specs.Prelude.{◌+◌, ◌-◌, ◌^◌, ◌<◌, ◌≤◌};
 
 use super::*;
+use samples::{Draws, object, proc};
 use std::alloc::Global;
 use std::process::Abort;
 use std::test::Fail;
-use uid_names::{LockRow, Mode, NodeId, ProcId, Uid, clash};
-
-/// The process of this number at a node.
-fn proc(node: u8, number: u8) -> Result<ProcId, Fail> {
-    let node = NodeId::new(node).ok_or("no node")?;
-    Ok(ProcId::new(node, number).ok_or("no process")?)
-}
-
-/// The object of this counter at a home.
-fn object(counter: u64, home: u8) -> Result<Uid, Fail>
-    requires low { 1 ≤ counter }
-    requires high { counter < 2 ^ 44 }
-{
-    let home = NodeId::new(home).ok_or("no node")?;
-    Ok(Uid::from_parts(counter, home))
-}
+use uid_names::{LISTED_ROWS, LockRow, Mode, NodeId, ProcId, Uid, clash};
 
 /// All rows, as lists of 64 tell them.
 fn all_rows(alloc: Global, locks: &Locks) -> Result<Vec<LockRow>, Fail> {
@@ -105,24 +91,6 @@ impl Plain {
     }
 }
 
-/// Numbers that look random, the same in each run.
-#[derive(Drop)]
-struct Draws(u64);
-
-impl Draws {
-    /// A number below n.
-    fn below(&mut self, n: u64) -> u64
-        requires { 0 < n }
-        ensures { result < n }
-    {
-        self.0 = self
-            .0
-            .wrapping_mul(6_364_136_223_846_793_005)
-            .wrapping_add(1_442_695_040_888_963_407);
-        (self.0 >> 33) % n
-    }
-}
-
 /// One call of each, drawn at random, on both tables.
 fn play(
     rt: &impl Abort,
@@ -189,7 +157,7 @@ fn locks_agree_with_a_plain_list(rt: HostRuntime) -> Result<(), Fail> {
         grants: Vec::new(rt.alloc()),
         last: 0,
     };
-    let mut draws = Draws(1);
+    let mut draws = Draws::new(1);
     let mut most = 0;
     for _ in 0..4000u64 {
         play(&rt, &mut locks, &mut plain, &mut draws)?;
@@ -198,6 +166,6 @@ fn locks_agree_with_a_plain_list(rt: HostRuntime) -> Result<(), Fail> {
         most = rows.len().max(most);
     }
     // Some lists did not fit into one.
-    assert!(rt; most > 2 * MOST_LISTED);
+    assert!(rt; most > 2 * LISTED_ROWS);
     Ok(())
 }

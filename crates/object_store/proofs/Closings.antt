@@ -6,6 +6,7 @@ use Rattle.std.proofs.lemmas.Bool.{ltb-true, leb-true}
 use Rattle.std.proofs.lemmas.List.{get_or_default}
 use Rattle.std.proofs.lemmas.List.Sums.{sum_by_push, sum_by-remove}
 use Rattle.uid_names.specs.Names.{ObjectName}
+use Rattle.uid_names.specs.declared.limits.TheConstants.{MAX_ROOM, VOLUME_ROOM, PAGE_BYTES}
 use Rattle.uid_names.specs.declared.mode.ObjKind.{ObjKind}
 use Rattle.page_store.specs.Volumes.{Volume, with_page, without_object}
 use Rattle.object_store.specs.declared.attributes.Attr.{Attr}
@@ -34,15 +35,15 @@ on-success (Err e) holds fine = cc
 
 -- the fields after a making
 pub made : (home : HomeState) (kind : ObjKind) (room taken : ℕ) (attr : Attr) (items : List ObjectRow) → IsHome home → taken ≡ rooms home.objects
-    → 1 ≤ room → room ≤ 1024 → home.greatest < 2 ^ 44 - 1 → taken + room ≤ 16384
+    → 1 ≤ room → room ≤ MAX_ROOM → taken + room ≤ VOLUME_ROOM
     → attr ≡ fresh kind room → items ≡ home.objects ++ record { counter = home.greatest + 1; attr = attr } ∷ []
     → IsHome (record home { objects = items; greatest = home.greatest + 1 }) × (taken + room ≡ rooms items)
-made home kind room taken attr items kept sum low high counter fits is added =
+made home kind room taken attr items kept sum low high fits is added =
     let new : HomeState = record home { objects = items; greatest = home.greatest + 1 } in
     let row : Attr → ObjectRow = λ a. record { counter = home.greatest + 1; attr = a } in
     let same : items ≡ home.objects ++ row (fresh kind room) ∷ [] = added ∙ ap (λ (a : Attr). home.objects ++ row a ∷ []) is in
     closed new (after_make home kind room) (taken + room) (ap (λ (os : List ObjectRow). record home { objects = os; greatest = home.greatest + 1 }) same)
-    (IsHome-after_make home kind room kept low high counter (omega arith)) (rw sum_by_push (omega arith))
+    (IsHome-after_make home kind room kept low high (omega arith)) (rw sum_by_push (omega arith))
 
 -- the object's attributes by its place
 placed-attr : (home : HomeState) (uid : ObjectName) (at : ℕ) (row : ObjectRow) → IsHome home → StandsAt home uid at → row ≡ get_or home.objects at row → attr_at home.objects uid.counter ≡ Some row.attr
@@ -78,10 +79,10 @@ page_write-Ok attr page base stamp is =
     (ltb-true page attr.room taken.0, taken.1)
 
 -- a length that is written is within the room
-length_write-Ok : (attr : Attr) (length base stamp : ℕ) → length_write (Some attr) length base ≡ Ok stamp → (length ≤ 1024 * attr.room) × (stamp ≡ attr.stamp + 1)
+length_write-Ok : (attr : Attr) (length base stamp : ℕ) → length_write (Some attr) length base ≡ Ok stamp → (length ≤ PAGE_BYTES * attr.room) × (stamp ≡ attr.stamp + 1)
 length_write-Ok attr length base stamp is =
-    let taken = write_to-Ok (nat_le length (1024 * attr.room)) attr.stamp base stamp is in
-    (leb-true length (1024 * attr.room) taken.0, taken.1)
+    let taken = write_to-Ok (nat_le length (PAGE_BYTES * attr.room)) attr.stamp base stamp is in
+    (leb-true length (PAGE_BYTES * attr.room) taken.0, taken.1)
 
 -- the rows with an object's row written
 written : (change : Attr → Attr) (home : HomeState) (uid : ObjectName) (at : ℕ) (row : ObjectRow) (attr : Attr) → IsHome home → StandsAt home uid at → row ≡ get_or home.objects at row
@@ -99,17 +100,17 @@ one-row rows at r s lt p q = p ∙ get_or_default rows at r s lt ∙ sym q
 -- the fields after a write of a page
 pub page_written : (home : HomeState) (uid : ObjectName) (at taken page base stamp : ℕ) (bytes : List ℕ) (seen row : ObjectRow) (pages : Volume) → IsHome home → taken ≡ rooms home.objects
     → StandsAt home uid at → seen ≡ get_or home.objects at seen → row ≡ get_or home.objects at row
-    → Ok stamp ≡ page_write (Some seen.attr) page base → pages ≡ with_page home.pages uid.counter page bytes
+    → length bytes ≡ PAGE_BYTES → Ok stamp ≡ page_write (Some seen.attr) page base → pages ≡ with_page home.pages uid.counter page bytes
     → let new = record home { objects = set home.objects at (record { counter = row.counter; attr = record row.attr { stamp = stamp } }); pages = pages } in
     (new ≡ after_page home uid.counter page bytes) × (IsHome new × (taken ≡ rooms new.objects))
-page_written home uid at taken page base stamp bytes seen row pages kept sum stands was is answer put =
+page_written home uid at taken page base stamp bytes seen row pages kept sum stands was is whole answer put =
     let one : seen ≡ row = one-row home.objects at seen row stands.within was is in
     let rule = page_write-Ok row.attr page base stamp (sym (answer ∙ ap (λ (r : ObjectRow). page_write (Some r.attr) page base) one)) in
     let new : HomeState = record home { objects = set home.objects at (record { counter = row.counter; attr = record row.attr { stamp = stamp } }); pages = pages } in
     let rows = written stamped home uid at row (record row.attr { stamp = stamp }) kept stands is (ap (λ n. record row.attr { stamp = n }) rule.1) in
     let same : new ≡ after_page home uid.counter page bytes = λ i. record home { objects = rows i; pages = put i } in
     let below : page < room_of (attr_at home.objects uid.counter) = rw (placed-attr home uid at row kept stands is) rule.0 in
-    (same, closed new (after_page home uid.counter page bytes) taken same (IsHome-after_page home uid.counter page bytes kept below) (sum ∙ sym (rooms-with_change stamped uid.counter home.objects (λ attr. refl))))
+    (same, closed new (after_page home uid.counter page bytes) taken same (IsHome-after_page home uid.counter page bytes kept below whole) (sum ∙ sym (rooms-with_change stamped uid.counter home.objects (λ attr. refl))))
 
 -- the fields after a write of the length
 pub length_written : (home : HomeState) (uid : ObjectName) (at taken length base stamp : ℕ) (seen row : ObjectRow) → IsHome home → taken ≡ rooms home.objects
@@ -122,5 +123,5 @@ length_written home uid at taken length base stamp seen row kept sum stands was 
     let new : HomeState = record home { objects = set home.objects at (record { counter = row.counter; attr = record row.attr { length = length; stamp = stamp } }) } in
     let rows = written (resized length) home uid at row (record row.attr { length = length; stamp = stamp }) kept stands is (ap (λ n. record row.attr { length = length; stamp = n }) rule.1) in
     let same : new ≡ after_length home uid.counter length = λ i. record home { objects = rows i } in
-    let within : length ≤ 1024 * room_of (attr_at home.objects uid.counter) = rw (placed-attr home uid at row kept stands is) rule.0 in
+    let within : length ≤ PAGE_BYTES * room_of (attr_at home.objects uid.counter) = rw (placed-attr home uid at row kept stands is) rule.0 in
     (same, closed new (after_length home uid.counter length) taken same (IsHome-after_length home uid.counter length kept within) (sum ∙ sym (rooms-with_change (resized length) uid.counter home.objects (λ attr. refl))))

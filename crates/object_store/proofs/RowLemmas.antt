@@ -13,7 +13,7 @@ use Rattle.std.proofs.lemmas.List.Sums.{sum_by-cons}
 use Rattle.object_store.specs.declared.attributes.Attr.{Attr}
 use Rattle.object_store.specs.declared.attributes.ObjectRow.{ObjectRow}
 use Rattle.object_store.specs.Objects.{attr_at, room_of, rooms, with_change, changed_if, without_row}
-use Rattle.object_store.specs.Kept.{AreRising, AreRows, IsAttr}
+use Rattle.object_store.specs.Kept.{AreCountersRising, AreRowsUpTo, IsAttr}
 use Rattle.object_store.specs.Places.{IsRowAt}
 
 -- two counters, one above the other, are not equal
@@ -25,7 +25,7 @@ before : (a b : ℕ) → a < b → (a == b) ≡ false
 before a b lt = grind (arith, nat_tests)
 
 -- each counter is above the one that the first is above
-above : (low : ℕ) (rows : List ObjectRow) (at : ℕ) (d : ObjectRow) → AreRising low rows → at < length rows → low < (get_or rows at d).counter
+above : (low : ℕ) (rows : List ObjectRow) (at : ℕ) (d : ObjectRow) → AreCountersRising low rows → at < length rows → low < (get_or rows at d).counter
 above low [] at d rising lt = absurd (omega arith)
 above low (row ∷ rest) zero d rising lt = rising.0
 above low (row ∷ rest) (suc at) d rising lt =
@@ -34,28 +34,28 @@ above low (row ∷ rest) (suc at) d rising lt =
     omega arith
 
 -- the first counter is below that of a later row
-first-before : (low counter at : ℕ) (row : ObjectRow) (rest : List ObjectRow) (d : ObjectRow) → AreRising low (row ∷ rest) → suc at < length (row ∷ rest)
+first-before : (low counter at : ℕ) (row : ObjectRow) (rest : List ObjectRow) (d : ObjectRow) → AreCountersRising low (row ∷ rest) → suc at < length (row ∷ rest)
     → (get_or rest at d).counter ≡ counter → row.counter < counter
 first-before low counter at row rest d rising lt is =
     let later : row.counter < (get_or rest at d).counter = above row.counter rest at d rising.1 (omega arith) in
     omega arith
 
 -- no row is found under a counter that is not above the lower bound
-pub attr_at-low : (low counter : ℕ) (rows : List ObjectRow) → AreRising low rows → counter ≤ low → attr_at rows counter ≡ None
+pub attr_at-low : (low counter : ℕ) (rows : List ObjectRow) → AreCountersRising low rows → counter ≤ low → attr_at rows counter ≡ None
 attr_at-low low counter [] rising le = refl
 attr_at-low low counter (row ∷ rest) rising le =
     let first : low < row.counter = rising.0 in
     rw (behind counter row.counter (omega arith)) (attr_at-low row.counter counter rest rising.1 (omega arith))
 
 -- no row is found under a counter above the greatest
-pub attr_at-high : (greatest counter : ℕ) (rows : List ObjectRow) → AreRows greatest rows → greatest < counter → attr_at rows counter ≡ None
+pub attr_at-high : (greatest counter : ℕ) (rows : List ObjectRow) → AreRowsUpTo greatest rows → greatest < counter → attr_at rows counter ≡ None
 attr_at-high greatest counter [] within lt = refl
 attr_at-high greatest counter (row ∷ rest) within lt =
     let first : row.counter ≤ greatest = within.0 in
     rw (before row.counter counter (omega arith)) (attr_at-high greatest counter rest within.2 lt)
 
 -- the attributes of the row at its place
-pub attr_at-IsRowAt : (low counter at : ℕ) (rows : List ObjectRow) (d : ObjectRow) → AreRising low rows → at < length rows → (get_or rows at d).counter ≡ counter
+pub attr_at-IsRowAt : (low counter at : ℕ) (rows : List ObjectRow) (d : ObjectRow) → AreCountersRising low rows → at < length rows → (get_or rows at d).counter ≡ counter
     → attr_at rows counter ≡ Some (get_or rows at d).attr
 attr_at-IsRowAt low counter at [] d rising lt is = absurd (omega arith)
 attr_at-IsRowAt low counter zero (row ∷ rest) d rising lt is = rw (eq-eqb row.counter counter is) refl
@@ -63,7 +63,7 @@ attr_at-IsRowAt low counter (suc at) (row ∷ rest) d rising lt is =
     rw (before row.counter counter (first-before low counter at row rest d rising lt is)) (attr_at-IsRowAt row.counter counter at rest d rising.1 (omega arith) is)
 
 -- what the rows answer to a counter does not fall along them
-answers-rise : (low counter : ℕ) (rows : List ObjectRow) → AreRising low rows → IsNonDecreasingBy (λ row. ordering_index (nat_cmp row.counter counter)) rows
+answers-rise : (low counter : ℕ) (rows : List ObjectRow) → AreCountersRising low rows → IsNonDecreasingBy (λ row. ordering_index (nat_cmp row.counter counter)) rows
 answers-rise low counter [] rising i j d le lt = absurd (omega arith)
 answers-rise low counter (row ∷ rest) rising zero zero d le lt = omega arith
 answers-rise low counter (row ∷ rest) rising zero (suc j) d le lt = step row.counter (get_or rest j d).counter (above row.counter rest j d rising.1 (omega arith))
@@ -95,7 +95,7 @@ equal : (a b : ℕ) → nat_cmp a b ≡ Equal → a ≡ b
 equal a b is = grind (arith, nat_tests)
 
 -- what a binary search by the counter answers
-pub placed : (rows : List ObjectRow) (counter : ℕ) (r : Result ℕ ℕ) (o : Option ℕ) → AreRising 0 rows → IsSearchInRange r (length rows)
+pub placed : (rows : List ObjectRow) (counter : ℕ) (r : Result ℕ ℕ) (o : Option ℕ) → AreCountersRising 0 rows → IsSearchInRange r (length rows)
     → IsBinarySearchResult (λ row. nat_cmp row.counter counter) rows r → o ≡ result_ok r → MatchOption o (attr_at rows counter ≡ None) (IsRowAt rows counter)
 placed rows counter (Ok at) o rising bound found is = rw is (record { within = bound; named = λ d. equal _ _ (found d); found = λ d. attr_at-IsRowAt 0 counter at rows d rising bound (equal _ _ (found d)) })
 placed rows counter (Err at) o rising bound found is =
@@ -103,14 +103,14 @@ placed rows counter (Err at) o rising bound found is =
     rw is (attr_at-between counter at rows parts.0 parts.1)
 
 -- the change of an object is a write of its row
-pub with_change-IsRowAt : (change : Attr → Attr) (low counter at : ℕ) (rows : List ObjectRow) (d : ObjectRow) → AreRising low rows → at < length rows → (get_or rows at d).counter ≡ counter
+pub with_change-IsRowAt : (change : Attr → Attr) (low counter at : ℕ) (rows : List ObjectRow) (d : ObjectRow) → AreCountersRising low rows → at < length rows → (get_or rows at d).counter ≡ counter
     → with_change change counter rows ≡ set rows at (record (get_or rows at d) { attr = change (get_or rows at d).attr })
 with_change-IsRowAt change low counter at [] d rising lt is = absurd (omega arith)
 with_change-IsRowAt change low counter zero (row ∷ rest) d rising lt is =
     rw (eq-eqb row.counter counter is)
     (ap (λ (rows : List ObjectRow). record row { attr = change row.attr } ∷ rows) (unchanged row.counter rest rising.1 (omega arith)))
   where
-    unchanged : (low : ℕ) (rows : List ObjectRow) → AreRising low rows → counter ≤ low → with_change change counter rows ≡ rows
+    unchanged : (low : ℕ) (rows : List ObjectRow) → AreCountersRising low rows → counter ≤ low → with_change change counter rows ≡ rows
     unchanged low [] rising le = refl
     unchanged low (r ∷ rows) rising le =
         let first : low < r.counter = rising.0 in
@@ -120,13 +120,13 @@ with_change-IsRowAt change low counter (suc at) (row ∷ rest) d rising lt is =
     (ap (λ (rows : List ObjectRow). row ∷ rows) (with_change-IsRowAt change row.counter counter at rest d rising.1 (omega arith) is))
 
 -- the rows without an object are those without its row
-pub without_row-IsRowAt : (low counter at : ℕ) (rows : List ObjectRow) (d : ObjectRow) → AreRising low rows → at < length rows → (get_or rows at d).counter ≡ counter
+pub without_row-IsRowAt : (low counter at : ℕ) (rows : List ObjectRow) (d : ObjectRow) → AreCountersRising low rows → at < length rows → (get_or rows at d).counter ≡ counter
     → without_row counter rows ≡ remove rows at
 without_row-IsRowAt low counter at [] d rising lt is = absurd (omega arith)
 without_row-IsRowAt low counter zero (row ∷ rest) d rising lt is =
     rw (eq-eqb row.counter counter is) (all-stay row.counter rest rising.1 (omega arith))
   where
-    all-stay : (low : ℕ) (rows : List ObjectRow) → AreRising low rows → counter ≤ low → without_row counter rows ≡ rows
+    all-stay : (low : ℕ) (rows : List ObjectRow) → AreCountersRising low rows → counter ≤ low → without_row counter rows ≡ rows
     all-stay low [] rising le = refl
     all-stay low (r ∷ rows) rising le =
         let first : low < r.counter = rising.0 in
@@ -136,47 +136,47 @@ without_row-IsRowAt low counter (suc at) (row ∷ rest) d rising lt is =
     (ap (λ (rows : List ObjectRow). row ∷ rows) (without_row-IsRowAt row.counter counter at rest d rising.1 (omega arith) is))
 
 -- a lower bound that is lower still
-AreRising-lower : (low lower : ℕ) (rows : List ObjectRow) → lower ≤ low → AreRising low rows → AreRising lower rows
-AreRising-lower low lower [] le rising = tt
-AreRising-lower low lower (row ∷ rest) le rising =
+AreCountersRising-lower : (low lower : ℕ) (rows : List ObjectRow) → lower ≤ low → AreCountersRising low rows → AreCountersRising lower rows
+AreCountersRising-lower low lower [] le rising = tt
+AreCountersRising-lower low lower (row ∷ rest) le rising =
     let first : low < row.counter = rising.0 in
     (omega arith, rising.1)
 
 -- a row behind all others keeps the order
-pub AreRising-push : (low greatest : ℕ) (rows : List ObjectRow) (row : ObjectRow) → low ≤ greatest → AreRising low rows → AreRows greatest rows → greatest < row.counter
-    → AreRising low (rows ++ row ∷ [])
-AreRising-push low greatest [] row le rising within lt = (omega arith, tt)
-AreRising-push low greatest (r ∷ rows) row le rising within lt = (rising.0, AreRising-push r.counter greatest rows row within.0 rising.1 within.2 lt)
+pub AreCountersRising-push : (low greatest : ℕ) (rows : List ObjectRow) (row : ObjectRow) → low ≤ greatest → AreCountersRising low rows → AreRowsUpTo greatest rows → greatest < row.counter
+    → AreCountersRising low (rows ++ row ∷ [])
+AreCountersRising-push low greatest [] row le rising within lt = (omega arith, tt)
+AreCountersRising-push low greatest (r ∷ rows) row le rising within lt = (rising.0, AreCountersRising-push r.counter greatest rows row within.0 rising.1 within.2 lt)
 
 -- a row behind all others has the greatest counter
-pub AreRows-push : (greatest : ℕ) (rows : List ObjectRow) (row : ObjectRow) → AreRows greatest rows → greatest ≤ row.counter → IsAttr row.attr → AreRows row.counter (rows ++ row ∷ [])
-AreRows-push greatest [] row within le attr = (omega arith, attr, tt)
-AreRows-push greatest (r ∷ rows) row within le attr =
+pub AreRowsUpTo-push : (greatest : ℕ) (rows : List ObjectRow) (row : ObjectRow) → AreRowsUpTo greatest rows → greatest ≤ row.counter → IsAttr row.attr → AreRowsUpTo row.counter (rows ++ row ∷ [])
+AreRowsUpTo-push greatest [] row within le attr = (omega arith, attr, tt)
+AreRowsUpTo-push greatest (r ∷ rows) row within le attr =
     let first : r.counter ≤ greatest = within.0 in
-    (omega arith, within.1, AreRows-push greatest rows row within.2 le attr)
+    (omega arith, within.1, AreRowsUpTo-push greatest rows row within.2 le attr)
 
 -- a change of attributes keeps the order
-pub AreRising-with_change : (change : Attr → Attr) (low counter : ℕ) (rows : List ObjectRow) → AreRising low rows → AreRising low (with_change change counter rows)
-AreRising-with_change change low counter [] rising = tt
-AreRising-with_change change low counter (row ∷ rest) rising = (rising.0, AreRising-with_change change row.counter counter rest rising.1)
+pub AreCountersRising-with_change : (change : Attr → Attr) (low counter : ℕ) (rows : List ObjectRow) → AreCountersRising low rows → AreCountersRising low (with_change change counter rows)
+AreCountersRising-with_change change low counter [] rising = tt
+AreCountersRising-with_change change low counter (row ∷ rest) rising = (rising.0, AreCountersRising-with_change change row.counter counter rest rising.1)
 
 -- rows above the counter stay as they are
-unchanged : (change : Attr → Attr) (low counter : ℕ) (rows : List ObjectRow) → AreRising low rows → counter ≤ low → with_change change counter rows ≡ rows
+unchanged : (change : Attr → Attr) (low counter : ℕ) (rows : List ObjectRow) → AreCountersRising low rows → counter ≤ low → with_change change counter rows ≡ rows
 unchanged change low counter [] rising le = refl
 unchanged change low counter (row ∷ rest) rising le =
     let first : low < row.counter = rising.0 in
     rw (behind counter row.counter (omega arith)) (ap (λ (rows : List ObjectRow). row ∷ rows) (unchanged change row.counter counter rest rising.1 (omega arith)))
 
 -- a change that keeps the ranges of one object keeps them of all
-pub AreRows-with_change : (change : Attr → Attr) (low greatest counter : ℕ) (rows : List ObjectRow) → AreRising low rows → AreRows greatest rows
-    → ((attr : Attr) → attr_at rows counter ≡ Some attr → IsAttr attr → IsAttr (change attr)) → AreRows greatest (with_change change counter rows)
-AreRows-with_change change low greatest counter [] rising within keeps = tt
-AreRows-with_change change low greatest counter (row ∷ rest) rising within keeps =
+pub AreRowsUpTo-with_change : (change : Attr → Attr) (low greatest counter : ℕ) (rows : List ObjectRow) → AreCountersRising low rows → AreRowsUpTo greatest rows
+    → ((attr : Attr) → attr_at rows counter ≡ Some attr → IsAttr attr → IsAttr (change attr)) → AreRowsUpTo greatest (with_change change counter rows)
+AreRowsUpTo-with_change change low greatest counter [] rising within keeps = tt
+AreRowsUpTo-with_change change low greatest counter (row ∷ rest) rising within keeps =
     elim (row.counter == counter) as (λ b.
     (row.counter == counter) ≡ b → ((attr : Attr) → (if b then Some row.attr else attr_at rest counter) ≡ Some attr → IsAttr attr → IsAttr (change attr))
-    → (row.counter ≤ greatest) × IsAttr (changed_if b change row.attr) × AreRows greatest (with_change change counter rest)) [
+    → (row.counter ≤ greatest) × IsAttr (changed_if b change row.attr) × AreRowsUpTo greatest (with_change change counter rest)) [
       | true ↦ λ is keeps. (within.0, keeps row.attr refl within.1, rw (unchanged change row.counter counter rest rising.1 (at-most row.counter counter is)) within.2)
-      | false ↦ λ is keeps. (within.0, within.1, AreRows-with_change change row.counter greatest counter rest rising.1 within.2 keeps)
+      | false ↦ λ is keeps. (within.0, within.1, AreRowsUpTo-with_change change row.counter greatest counter rest rising.1 within.2 keeps)
     ] refl keeps
   where
     at-most : (a b : ℕ) → (a == b) ≡ true → b ≤ a
@@ -220,22 +220,22 @@ room-with_change change counter q rows keeps = ap room_of (attr_at-with_change c
     room-mapped false (Some attr) = refl
 
 -- the order stays without a row
-pub AreRising-without_row : (low counter : ℕ) (rows : List ObjectRow) → AreRising low rows → AreRising low (without_row counter rows)
-AreRising-without_row low counter [] rising = tt
-AreRising-without_row low counter (row ∷ rest) rising =
+pub AreCountersRising-without_row : (low counter : ℕ) (rows : List ObjectRow) → AreCountersRising low rows → AreCountersRising low (without_row counter rows)
+AreCountersRising-without_row low counter [] rising = tt
+AreCountersRising-without_row low counter (row ∷ rest) rising =
     let first : low < row.counter = rising.0 in
-    let later : AreRising row.counter (without_row counter rest) = AreRising-without_row row.counter counter rest rising.1 in
-    elim (row.counter == counter) as (λ b. AreRising low (cond (not b) (row ∷ without_row counter rest) (without_row counter rest))) [
-      | true ↦ AreRising-lower row.counter low (without_row counter rest) (omega arith) later
+    let later : AreCountersRising row.counter (without_row counter rest) = AreCountersRising-without_row row.counter counter rest rising.1 in
+    elim (row.counter == counter) as (λ b. AreCountersRising low (cond (not b) (row ∷ without_row counter rest) (without_row counter rest))) [
+      | true ↦ AreCountersRising-lower row.counter low (without_row counter rest) (omega arith) later
       | false ↦ (first, later)
     ]
 
 -- the ranges stay without a row
-pub AreRows-without_row : (greatest counter : ℕ) (rows : List ObjectRow) → AreRows greatest rows → AreRows greatest (without_row counter rows)
-AreRows-without_row greatest counter [] within = tt
-AreRows-without_row greatest counter (row ∷ rest) within =
-    let later : AreRows greatest (without_row counter rest) = AreRows-without_row greatest counter rest within.2 in
-    elim (row.counter == counter) as (λ b. AreRows greatest (cond (not b) (row ∷ without_row counter rest) (without_row counter rest))) [
+pub AreRowsUpTo-without_row : (greatest counter : ℕ) (rows : List ObjectRow) → AreRowsUpTo greatest rows → AreRowsUpTo greatest (without_row counter rows)
+AreRowsUpTo-without_row greatest counter [] within = tt
+AreRowsUpTo-without_row greatest counter (row ∷ rest) within =
+    let later : AreRowsUpTo greatest (without_row counter rest) = AreRowsUpTo-without_row greatest counter rest within.2 in
+    elim (row.counter == counter) as (λ b. AreRowsUpTo greatest (cond (not b) (row ∷ without_row counter rest) (without_row counter rest))) [
       | true ↦ later
       | false ↦ (within.0, within.1, later)
     ]
@@ -297,7 +297,7 @@ attr_at-without_row counter q (row ∷ rest) =
     ] refl
 
 -- what is found after a making
-pub attr_at-push : (greatest q : ℕ) (rows : List ObjectRow) (row : ObjectRow) → AreRows greatest rows → greatest < row.counter
+pub attr_at-push : (greatest q : ℕ) (rows : List ObjectRow) (row : ObjectRow) → AreRowsUpTo greatest rows → greatest < row.counter
     → attr_at (rows ++ row ∷ []) q ≡ (if q == row.counter then Some row.attr else attr_at rows q)
 attr_at-push greatest q [] row within lt = ap (λ (b : Bool). if b then Some row.attr else None) (turned row.counter q)
 attr_at-push greatest q (r ∷ rows) row within lt =
@@ -305,13 +305,13 @@ attr_at-push greatest q (r ∷ rows) row within lt =
     beside row.counter q r.counter (Some row.attr) (Some r.attr) _ _ (before r.counter row.counter (omega arith)) (attr_at-push greatest q rows row within.2 lt)
 
 -- the attributes of a row are in their ranges
-pub IsAttr-get_or : (greatest : ℕ) (rows : List ObjectRow) (at : ℕ) (d : ObjectRow) → at < length rows → AreRows greatest rows → IsAttr (get_or rows at d).attr
+pub IsAttr-get_or : (greatest : ℕ) (rows : List ObjectRow) (at : ℕ) (d : ObjectRow) → at < length rows → AreRowsUpTo greatest rows → IsAttr (get_or rows at d).attr
 IsAttr-get_or greatest [] at d lt within = absurd (omega arith)
 IsAttr-get_or greatest (row ∷ rest) zero d lt within = within.1
 IsAttr-get_or greatest (row ∷ rest) (suc at) d lt within = IsAttr-get_or greatest rest at d (omega arith) within.2
 
 -- there are no more objects than pages
-pub length-le-rooms : (greatest : ℕ) (rows : List ObjectRow) → AreRows greatest rows → length rows ≤ rooms rows
+pub length-le-rooms : (greatest : ℕ) (rows : List ObjectRow) → AreRowsUpTo greatest rows → length rows ≤ rooms rows
 length-le-rooms greatest [] within = omega arith
 length-le-rooms greatest (row ∷ rest) within =
     let later = length-le-rooms greatest rest within.2 in

@@ -1,6 +1,6 @@
 -- What reads and writes of an object answer.
 use Rattle.std.specs.Prelude.{◌≡◌, ℕ, ◌+◌, ◌*◌, ◌≤◌, ◌==◌, nat_lt, nat_le, Bool, true, false, Option, Some, None, Result, Ok, Err, IsOk}
-use Rattle.page_store.specs.declared.pages.TheConstants.{PAGE_BYTES}
+use Rattle.uid_names.specs.declared.limits.TheConstants.{PAGE_BYTES}
 use Rattle.object_store.specs.declared.attributes.Attr.{Attr}
 use Rattle.object_store.specs.declared.refusals.WriteRefusal.{WriteRefusal}
 use Rattle.object_store.specs.declared.refusals.WriteRefusal.TheVariants.{NoObject, Stale, NoMemory}

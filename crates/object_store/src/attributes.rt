@@ -4,8 +4,7 @@ ghost use Rattle.object_store.specs.Objects.{fresh};
 ghost use Rattle.object_store.specs.Rules.{page_write, length_write, write_on, TellsStamp};
 
 use crate::refusals::WriteRefusal;
-use page_store::PAGE_BYTES;
-use uid_names::ObjKind;
+use uid_names::{ObjKind, PAGE_BYTES};
 
 /// The attributes of an object: its kind, its room in pages, its length in bytes, and a stamp that is
 /// 1 when the object is made and rises by 1 at each write.

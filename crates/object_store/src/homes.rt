@@ -14,10 +14,10 @@ ghost use Rattle.object_store.specs.Places.{StandsAt};
 use crate::attributes::{Attr, ObjectRow};
 use crate::refusals::{MakeFault, NoObject, WriteRefusal};
 use crate::rows::{first_rows, position, sum_of_rooms};
-use page_store::{PAGE_BYTES, Pages};
+use page_store::Pages;
 use std::alloc::Global;
 use std::marker::Model;
-use uid_names::{MAX_ROOM, NoMemory, NodeId, ObjKind, Opening, Uid, VOLUME_ROOM};
+use uid_names::{MAX_ROOM, NoMemory, NodeId, ObjKind, Opening, PAGE_BYTES, Uid, VOLUME_ROOM};
 
 /// The objects of a node and their pages.
 #[derive(Drop)]

@@ -8,6 +8,9 @@ ghost use Rattle.object_store.specs.Objects.{attr_at, changed_if, fresh, stamped
 ghost use Rattle.object_store.specs.HomeStates.{HomeState, attr_of, after_make, after_remove, after_page, after_length};
 ghost use Rattle.object_store.specs.Kept.{IsAttr, IsHome};
 
+use crate::homes::Home;
+use page_store::Pages;
+
 /// A change of a home changes the attributes of the object that it names, and of no other.
 pub fn changes_are_local()
     ensures make { (home : HomeState) (kind : ObjKind) (room q : ℕ) → IsHome home →
@@ -27,3 +30,11 @@ pub fn changes_are_local()
 pub fn attributes_are_in_range()
     ensures { (home : HomeState) (uid : ObjectName) (attr : Attr) → IsHome home → attr_of home uid ≡ Some attr → IsAttr attr }
 {}
+
+/// Threads may hand each other homes, where they may the pages.
+pub fn homes_may_cross_threads<P: Pages + Send>() {
+    may_cross_threads::<Home<P>>();
+}
+
+/// Threads may hand each other values of this type.
+fn may_cross_threads<T: Send>() {}

@@ -1,7 +1,7 @@
 //! The rows of a home: how they begin, and how one is found.
 ghost use Rattle.std.specs.Prelude.{◌≡◌, ◌^◌, ◌<◌, None, IfOk, MatchOption};
 ghost use Rattle.object_store.specs.Objects.{attr_at, rooms};
-ghost use Rattle.object_store.specs.Kept.{AreRising};
+ghost use Rattle.object_store.specs.Kept.{AreCountersRising};
 ghost use Rattle.uid_names.specs.Beginnings.{at_home};
 ghost use Rattle.object_store.specs.Beginnings.{opened, first_rows};
 ghost use Rattle.object_store.specs.Places.{IsRowAt};
@@ -40,7 +40,7 @@ pub(crate) fn first_rows(
 
 /// Where the row with this counter stands.
 pub(crate) fn position(rows: &[ObjectRow], counter: u64) -> Option<usize>
-    requires { AreRising 0 rows.now }
+    requires { AreCountersRising 0 rows.now }
     ensures { MatchOption result (attr_at rows.now counter ≡ None) (IsRowAt rows.now counter) }
 {
     rows.binary_search_by_key(&counter, |row| row.counter).ok()

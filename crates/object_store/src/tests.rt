@@ -2,11 +2,12 @@
 ghost use Rattle.std.specs.Prelude.{◌≡◌, ◌+◌, ◌-◌, ◌^◌, ◌<◌, ◌≤◌};
 
 use super::*;
-use page_store::{ListPages, PAGE_BYTES, Pages};
+use page_store::{ListPages, Pages};
+use samples::Draws;
 use std::alloc::{AllocError, Global};
 use std::process::Abort;
 use std::test::Fail;
-use uid_names::{NodeId, ObjKind, Opening, Uid, VOLUME_ROOM};
+use uid_names::{NodeId, ObjKind, Opening, PAGE_BYTES, Uid, VOLUME_ROOM};
 
 /// The bytes of the pages that a test writes.
 type Page = [u8; PAGE_BYTES];
@@ -182,28 +183,25 @@ impl Plain {
     }
 }
 
-/// The next number below a bound, by a linear congruential generator.
-fn draw(seed: &mut u64, below: u32) -> u32
+/// A number below a bound.
+fn draw(draws: &mut Draws, below: u32) -> u32
     requires { 0 < below }
     ensures { result < below }
 {
-    *seed = seed
-        .wrapping_mul(6_364_136_223_846_793_005)
-        .wrapping_add(1_442_695_040_888_963_407);
-    ((*seed >> 40) % u64::from(below)) as u32
+    draws.below(u64::from(below)) as u32
 }
 
 /// A name to ask for: mostly that of an object that is there, and else of one that is not, or is
 /// another home's.
-fn draw_uid(seed: &mut u64, plain: &Plain, node: NodeId, other: NodeId) -> Uid {
-    let home = if draw(seed, 16) == 0 { other } else { node };
-    if draw(seed, 4) > 0 {
-        let place = draw(seed, 16) as usize;
+fn draw_uid(draws: &mut Draws, plain: &Plain, node: NodeId, other: NodeId) -> Uid {
+    let home = if draw(draws, 16) == 0 { other } else { node };
+    if draw(draws, 4) > 0 {
+        let place = draw(draws, 16) as usize;
         if let Some(object) = plain.objects.get(place) {
             return Uid::from_parts(object.uid.counter(), home);
         }
     }
-    Uid::from_parts(1 + u64::from(draw(seed, 1_000)), home)
+    Uid::from_parts(1 + u64::from(draw(draws, 1_000)), home)
 }
 
 /// Makes an object at both, where a counter is left.
@@ -212,14 +210,14 @@ fn make_at_both<P: Pages>(
     home: &mut Home<P>,
     plain: &mut Plain,
     node: NodeId,
-    seed: &mut u64,
+    draws: &mut Draws,
 ) -> Result<(), Fail>
     requires { home.old.greatest < 2 ^ 44 - 1 }
     ensures { home.new.greatest ≤ home.old.greatest + 1 }
 {
-    let most = if draw(seed, 4) == 0 { 1_024 } else { 4 };
-    let room = 1 + draw(seed, most);
-    let kind = if draw(seed, 2) == 0 {
+    let most = if draw(draws, 4) == 0 { 1_024 } else { 4 };
+    let room = 1 + draw(draws, most);
+    let kind = if draw(draws, 2) == 0 {
         ObjKind::File
     } else {
         ObjKind::Directory
@@ -252,13 +250,13 @@ fn write_page_at_both<P: Pages>(
     home: &mut Home<P>,
     plain: &mut Plain,
     uid: Uid,
-    seed: &mut u64,
+    draws: &mut Draws,
 )
     ensures { home.new.greatest ≡ home.old.greatest }
 {
-    let page = draw(seed, 6);
-    let byte = draw(seed, 256) as u8;
-    let late = u64::from(draw(seed, 4) == 0);
+    let page = draw(draws, 6);
+    let byte = draw(draws, 256) as u8;
+    let late = u64::from(draw(draws, 4) == 0);
     let place = plain.place(uid).unwrap_or(usize::MAX);
     let Some(object) = plain.objects.get_mut(place) else {
         assert_eq!(rt;
@@ -288,12 +286,12 @@ fn write_length_at_both<P: Pages>(
     home: &mut Home<P>,
     plain: &mut Plain,
     uid: Uid,
-    seed: &mut u64,
+    draws: &mut Draws,
 )
     ensures { home.new.greatest ≡ home.old.greatest }
 {
-    let length = draw(seed, 5_000);
-    let late = u64::from(draw(seed, 4) == 0);
+    let length = draw(draws, 5_000);
+    let late = u64::from(draw(draws, 4) == 0);
     let place = plain.place(uid).unwrap_or(usize::MAX);
     let Some(object) = plain.objects.get_mut(place) else {
         assert_eq!(rt;
@@ -342,14 +340,14 @@ fn a_home_answers_as_a_plain_list(rt: HostRuntime) -> Result<(), Fail> {
     let opening = Opening::new(rt.alloc(), 2, 1024);
     let mut home = Home::new(rt.alloc(), node, ListPages::new(rt.alloc()), &opening)?;
     let mut plain = Plain::new(rt.alloc(), node)?;
-    let mut seed = 1;
+    let mut draws = Draws::new(1);
     for step in 0..3_000u32 {
-        let uid = draw_uid(&mut seed, &plain, node, other);
-        match draw(&mut seed, 8) {
-            0 => make_at_both(&rt, &mut home, &mut plain, node, &mut seed)?,
+        let uid = draw_uid(&mut draws, &plain, node, other);
+        match draw(&mut draws, 8) {
+            0 => make_at_both(&rt, &mut home, &mut plain, node, &mut draws)?,
             1 => remove_at_both(&rt, &mut home, &mut plain, uid),
-            2..=4 => write_page_at_both(&rt, &mut home, &mut plain, uid, &mut seed),
-            5 => write_length_at_both(&rt, &mut home, &mut plain, uid, &mut seed),
+            2..=4 => write_page_at_both(&rt, &mut home, &mut plain, uid, &mut draws),
+            5 => write_length_at_both(&rt, &mut home, &mut plain, uid, &mut draws),
             _ => compare(&rt, &home, &plain, uid),
         }
         if step % 1_000 == 0 {

@@ -3,7 +3,7 @@ use Rattle.std.proofs.Common.{◌≡◌, ℕ, ◌≤◌, List, [], ◌∷◌, ar
 use Rattle.std.specs.Prelude.{map}
 use Rattle.uid_names.specs.Beginnings.{entry_directory}
 use Rattle.uid_names.specs.declared.opening.Object.{Object}
-use Rattle.uid_names.specs.declared.opening.TheConstants.{VOLUME_ROOM}
+use Rattle.uid_names.specs.declared.limits.TheConstants.{VOLUME_ROOM}
 use Rattle.object_store.specs.HomeStates.{HomeState}
 use Rattle.object_store.specs.Beginnings.{opened, first_home}
 use Rattle.page_server.specs.ServerStates.{AreStampedTo, IsBegun}

@@ -5,11 +5,11 @@ use Rattle.uid_names.specs.Names.{ProcName, ObjectName}
 use Rattle.uid_names.specs.declared.mode.Mode.{Mode}
 use Rattle.uid_names.specs.declared.mode.ObjKind.{ObjKind}
 use Rattle.object_store.specs.declared.attributes.Attr.{Attr}
-use Rattle.uid_names.specs.declared.opening.TheConstants.{VOLUME_ROOM}
+use Rattle.uid_names.specs.declared.limits.TheConstants.{VOLUME_ROOM}
 use Rattle.object_store.specs.Objects.{rooms}
 use Rattle.object_store.specs.HomeStates.{HomeState, attr_of, after_make, after_remove, after_page, after_length}
 use Rattle.lock_manager.specs.Grants.{conflict_of}
-use Rattle.lock_manager.specs.Tables.{Table, with_grant, without_object}
+use Rattle.lock_manager.specs.Tables.{Table, with_grant, without_grants_on}
 use Rattle.ring_messages.specs.Bodies.{Ask, Answer}
 use Rattle.page_server.specs.Decisions.{decide, page_answer, write_answer, lock_answer, remove_answer, make_answer}
 
@@ -131,6 +131,6 @@ last-rises home locks p (Ask.PageOut u page grant base bytes) = omega arith
 last-rises home locks p (Ask.AttrOut u length grant base) = omega arith
 last-rises home locks p (Ask.Lock u mode) = greater-of (λ (t : Table). t.last) _ (with_grant (record { uid = u; proc = p; mode = mode }) locks) locks (omega arith)
 last-rises home locks p (Ask.Unlock u) = omega arith
-last-rises home locks p (Ask.Remove u) = greater-of (λ (t : Table). t.last) _ (without_object u locks) locks (omega arith)
+last-rises home locks p (Ask.Remove u) = greater-of (λ (t : Table). t.last) _ (without_grants_on u locks) locks (omega arith)
 last-rises home locks p (Ask.Make kind room) = omega arith
 last-rises home locks p (Ask.ListLocks after) = omega arith

@@ -7,3 +7,5 @@ pub mod Rising
 pub mod Given
 pub mod Again
 pub mod Begun
+pub mod Sides
+pub mod Writes

@@ -5,10 +5,11 @@ use Rattle.std.proofs.lemmas.List.{length-take, length-map, get_or-map, get_or-t
 use Rattle.std.proofs.lemmas.List.Kept.{AllPairs-filter}
 use Rattle.uid_names.specs.Names.{ProcName, ObjectName}
 use Rattle.uid_names.specs.Rows.{row_lt, is_after, rows_after}
-use Rattle.uid_names.specs.declared.lists.LockRow.{LockRow}
+use Rattle.uid_names.specs.declared.lock_row.LockRow.{LockRow}
 use Rattle.lock_manager.specs.declared.grants.Grant.{Grant}
-use Rattle.lock_manager.specs.Grants.{AreRising, rows_of}
-use Rattle.ring_messages.specs.Ranges.{AreRows}
+use Rattle.uid_names.specs.declared.limits.TheConstants.{LISTED_ROWS}
+use Rattle.lock_manager.specs.Grants.{AreGrantsRising, rows_of}
+use Rattle.ring_messages.specs.Ranges.{AreListed}
 
 -- each row stands before the later ones
 abbrev Rising : List LockRow → Type 0
@@ -17,7 +18,7 @@ Rising = AllPairs (λ a b. IsTrue (row_lt a b))
 abbrev row_in : Grant → LockRow
 row_in g = g.row
 
-Rising-rows_of : (grants : List Grant) → AreRising grants → Rising (rows_of grants)
+Rising-rows_of : (grants : List Grant) → AreGrantsRising grants → Rising (rows_of grants)
 Rising-rows_of grants rising i j d under below =
     let e : Grant = record { row = d; number = 0 } in
     let within : j < length grants = omega (arith, length-map grants row_in) in
@@ -35,7 +36,7 @@ Rising-take n rows rising i j d under below =
     let before : i < n = omega arith in
     rw (get_or-take n rows i d before, get_or-take n rows j d short) (rising i j d under within)
 
--- the first 64 rows behind one may be sent
-pub AreRows-listed : (after : Option (ObjectName × ProcName)) (grants : List Grant) → AreRising grants → AreRows (take 64 (rows_after after (rows_of grants)))
-AreRows-listed after grants rising =
-    (omega (arith, length-take 64 (rows_after after (rows_of grants))), Rising-take 64 _ (Rising-rows_after after _ (Rising-rows_of grants rising)))
+-- the first rows behind one may be sent
+pub listed : (after : Option (ObjectName × ProcName)) (grants : List Grant) → AreGrantsRising grants → AreListed (take LISTED_ROWS (rows_after after (rows_of grants)))
+listed after grants rising =
+    (omega (arith, length-take LISTED_ROWS (rows_after after (rows_of grants))), Rising-take LISTED_ROWS _ (Rising-rows_after after _ (Rising-rows_of grants rising)))

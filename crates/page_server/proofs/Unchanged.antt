@@ -14,7 +14,7 @@ use Rattle.call_once.specs.declared.served.Looked.TheVariants.{Fresh, Again, Old
 use Rattle.call_once.specs.Calls.{Call, call_of, looked, last_of, with_call}
 use Rattle.call_once.proofs.KeptCalls.{call_of-with_call}
 use Rattle.ring_messages.specs.Bodies.{Ask, Answer}
-use Rattle.page_server.specs.Decisions.{Decision, decide, write_answer, lock_answer, remove_answer, make_answer, holds_write}
+use Rattle.page_server.specs.Decisions.{Decision, decide, write_answer, lock_answer, remove_answer, make_answer, may_remove}
 use Rattle.page_server.specs.Outcomes.{is_refusal, is_remove}
 use Rattle.page_server.specs.Serving.{HomeSide, serve_as, serve_of}
 
@@ -53,7 +53,7 @@ refused-unchanged home locks p (Ask.AttrOut u length grant base) refused = (writ
 refused-unchanged home locks p (Ask.Lock u mode) refused = (refl, lock-refused (attr_of home u) (conflict_of p u mode locks.grants) (locks.last + 1) locks _ refused)
 refused-unchanged home locks p (Ask.Unlock u) refused = absurd cc
 refused-unchanged home locks p (Ask.Remove u) refused =
-    (remove-refused (is_some (attr_of home u)) (holds_write (grant_of p u locks.grants)) home _ refused, remove-refused (is_some (attr_of home u)) (holds_write (grant_of p u locks.grants)) locks _ refused)
+    (remove-refused (is_some (attr_of home u)) (may_remove (grant_of p u locks.grants)) home _ refused, remove-refused (is_some (attr_of home u)) (may_remove (grant_of p u locks.grants)) locks _ refused)
 refused-unchanged home locks p (Ask.Make kind room) refused = (make-refused _ _ home _ refused, refl)
 refused-unchanged home locks p (Ask.ListLocks after) refused = (refl, refl)
 

@@ -10,6 +10,10 @@ use Rattle.ring_messages.specs.Ranges.{IsBody}
 abbrev pub answer_in : Body → Answer
 answer_in body = unwrap_or (answer_of body) Answer.Done
 
+-- the answer can be carried by a frame to each node
+abbrev pub IsCarried : Answer → Type 0
+IsCarried answer = (to : ℕ) → IsBody to (body_of_answer answer)
+
 -- the body answers, and may be sent to each node
 pub record IsAnswer (body : Body) : Type 0 where
   pub answers : body_of_answer (answer_in body) ≡ body

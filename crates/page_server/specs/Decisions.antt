@@ -3,20 +3,20 @@ use Rattle.std.specs.Prelude.{ℕ, ◌+◌, ◌==◌, nat_lt, nat_le, Bool, true
 use Rattle.std.specs.List.{list_any}
 use Rattle.uid_names.specs.Names.{ProcName, ObjectName}
 use Rattle.uid_names.specs.Rows.{rows_after}
-use Rattle.uid_names.specs.declared.lists.LockRow.{LockRow}
+use Rattle.uid_names.specs.declared.lock_row.LockRow.{LockRow}
 use Rattle.uid_names.specs.declared.mode.Mode.{Mode}
-use Rattle.uid_names.specs.declared.mode.Mode.TheVariants.{Read, Write}
+use Rattle.uid_names.specs.Modes.{mode_removes}
 use Rattle.uid_names.specs.declared.mode.ObjKind.{ObjKind}
 use Rattle.page_store.specs.Volumes.{page_of}
 use Rattle.object_store.specs.declared.attributes.Attr.{Attr}
-use Rattle.uid_names.specs.declared.opening.TheConstants.{VOLUME_ROOM}
+use Rattle.uid_names.specs.declared.limits.TheConstants.{VOLUME_ROOM}
 use Rattle.object_store.specs.Objects.{rooms}
 use Rattle.object_store.specs.Rules.{has_page, has_length, stamp_of}
 use Rattle.object_store.specs.HomeStates.{HomeState, attr_of, after_make, after_remove, after_page, after_length}
 use Rattle.lock_manager.specs.declared.grants.Grant.{Grant}
-use Rattle.lock_manager.specs.declared.locks.TheConstants.{MOST_LISTED}
+use Rattle.uid_names.specs.declared.limits.TheConstants.{LISTED_ROWS}
 use Rattle.lock_manager.specs.Grants.{rows_of, grant_of, conflict_of, is_writing}
-use Rattle.lock_manager.specs.Tables.{Table, with_grant, without_grant, without_object}
+use Rattle.lock_manager.specs.Tables.{Table, with_grant, without_grant, without_grants_on}
 use Rattle.ring_messages.specs.declared.body.Body.{Body}
 use Rattle.ring_messages.specs.declared.body.Body.TheVariants as bodies
 use Rattle.ring_messages.specs.Bodies.{Ask, Answer}
@@ -88,7 +88,7 @@ lock locks attr p u mode = lock_by attr (conflict_of p u mode locks.grants) (rec
 abbrev pub unlock : Table → ProcName → ObjectName → LockDecision
 unlock locks p u = record { answer = Answer.Done; locks = without_grant p u locks }
 
--- Remove: the object is there; then, the process holds it in Write
+-- Remove: the object is there; then, the process holds it in a mode that removes
 abbrev pub remove_answer : Bool → Bool → Answer
 remove_answer false held = Answer.NoObject
 remove_answer true false = Answer.NoGrant
@@ -99,20 +99,16 @@ remove_by there held u home locks =
     record {
       answer = remove_answer there held;
       home = if there && held then after_remove home u.counter else home;
-      locks = if there && held then without_object u locks else locks;
+      locks = if there && held then without_grants_on u locks else locks;
     }
 
--- whether what a process holds on an object, if anything, is held in Write
-abbrev pub mode_is_write : Mode → Bool
-mode_is_write Read = false
-mode_is_write Write = true
-
-abbrev pub holds_write : Option Grant → Bool
-holds_write None = false
-holds_write (Some g) = mode_is_write g.row.mode
+-- whether what a process holds on an object, if anything, lets it remove the object
+abbrev pub may_remove : Option Grant → Bool
+may_remove None = false
+may_remove (Some g) = mode_removes g.row.mode
 
 abbrev pub remove : HomeState → Table → ProcName → ObjectName → Decision
-remove home locks p u = remove_by (is_some (attr_of home u)) (holds_write (grant_of p u locks.grants)) u home locks
+remove home locks p u = remove_by (is_some (attr_of home u)) (may_remove (grant_of p u locks.grants)) u home locks
 
 -- Make: the room fits the volume
 abbrev pub make_answer : Bool → ObjectName → Answer
@@ -131,7 +127,7 @@ make home kind room = make_by (nat_le (rooms home.objects + room) VOLUME_ROOM) h
 
 -- List: the first rows behind the one that is named, and whether more follow
 abbrev pub list_answer : List LockRow → Answer
-list_answer rows = Answer.Listed (take MOST_LISTED rows) (nat_lt MOST_LISTED (length rows))
+list_answer rows = Answer.Listed (take LISTED_ROWS rows) (nat_lt LISTED_ROWS (length rows))
 
 abbrev pub list_rows : Table → Option (ObjectName × ProcName) → Answer
 list_rows locks after = list_answer (rows_after after (rows_of locks.grants))

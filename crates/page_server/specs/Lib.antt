@@ -3,3 +3,4 @@ pub mod Decisions
 pub mod Serving
 pub mod ServerStates
 pub mod Outcomes
+pub mod Wants

@@ -1,17 +1,18 @@
 -- What contracts see of a page server, and what each keeps.
-use Rattle.std.specs.Prelude.{ℕ, ◌+◌, ◌≤◌, List, [], ◌∷◌, refl}
+use Rattle.std.specs.Prelude.{ℕ, ◌+◌, ◌≤◌, List, [], ◌∷◌, All, refl}
 use Rattle.std.specs.Coded.{Coded, code_by, coded×, coded_list, coded_ℕ}
 use Rattle.uid_names.specs.Names.{ProcName}
 use Rattle.uid_names.specs.contracts.ids.ProcId as proc_id
 use Rattle.object_store.specs.declared.attributes.ObjectRow.{ObjectRow}
-use Rattle.uid_names.specs.declared.opening.TheConstants.{VOLUME_ROOM}
+use Rattle.uid_names.specs.declared.limits.TheConstants.{VOLUME_ROOM}
 use Rattle.object_store.specs.HomeStates.{HomeState, home_code}
+use Rattle.object_store.specs.Kept.{IsHome}
 use Rattle.lock_manager.specs.declared.grants.Grant.{Grant}
 use Rattle.lock_manager.specs.contracts.grants.Grant as granted
 use Rattle.lock_manager.specs.Tables.{Table, IsTable}
 use Rattle.call_once.specs.Calls.{Call}
 use Rattle.ring_messages.specs.Bodies.{Answer}
-use Rattle.page_server.specs.Answers.{answer_code}
+use Rattle.page_server.specs.Answers.{answer_code, IsCarried}
 use Rattle.page_server.specs.Serving.{HomeSide, first_side}
 
 -- a page server: the home side of its node, and the tick of the last event at which it served
@@ -48,9 +49,20 @@ pub record IsBegun (home : HomeState) : Type 0 where
 abbrev pub first_server : HomeState → ServerState
 first_server home = record { side = first_side home; tick = 0 }
 
--- what each page server keeps: at each tick at most one number was given, of grants, of counters and of each stamp
+-- what each home side keeps, whatever is asked of it: a home, a lock table, and answers that frames can carry
+pub record IsSide (side : HomeSide) : Type 0 where
+  pub home : IsHome side.home
+  pub table : IsTable side.locks
+  pub kept : All (λ call. IsCarried call.body) side.served
+
+-- how far a home side has counted where at each tick at most one number was given, of grants, of counters and of each
+-- stamp
+pub record IsCountedTo (tick : ℕ) (side : HomeSide) : Type 0 where
+  pub grants : side.locks.last ≤ tick
+  pub counters : side.home.greatest ≤ VOLUME_ROOM + tick
+  pub stamps : AreStampedTo (1 + tick) side.home.objects
+
+-- what each page server keeps
 pub record IsServer (server : ServerState) : Type 0 where
-  pub table : IsTable server.side.locks
-  pub grants : server.side.locks.last ≤ server.tick
-  pub counters : server.side.home.greatest ≤ VOLUME_ROOM + server.tick
-  pub stamps : AreStampedTo (1 + server.tick) server.side.home.objects
+  pub side : IsSide server.side
+  pub counted : IsCountedTo server.tick server.side

@@ -1,5 +1,5 @@
 //! What a home decides on each kind of request.
-ghost use Rattle.std.specs.Prelude.{◌≡◌, ◌-◌, ◌^◌, ◌<◌, ◌≤◌, IfSome, IfOk, OnOk, OnErr, IsErr, IsTrue};
+ghost use Rattle.std.specs.Prelude.{◌≡◌, ◌-◌, ◌^◌, ◌<◌, ◌≤◌, ◌&&◌, nat_le, length, IfSome, IfOk, OnOk, OnErr, IsErr, IsTrue};
 ghost use Rattle.std.specs.Option.{ForSome};
 ghost use Rattle.uid_names.specs.Names.{ProcName};
 ghost use Rattle.uid_names.specs.declared.mode.Mode.{Mode};
@@ -9,16 +9,18 @@ ghost use Rattle.lock_manager.specs.Grants.{grant_of};
 ghost use Rattle.ring_messages.specs.Bodies.{Answer, ask_of, is_request};
 ghost use Rattle.lock_manager.specs.Tables.{IsTable};
 ghost use Rattle.ring_messages.specs.Ranges.{IsBody};
+ghost use Rattle.lock_manager.specs.declared.locks.TheConstants.{ROOM};
 ghost use Rattle.page_server.specs.ServerStates.{AreStampedTo};
-ghost use Rattle.page_server.specs.Decisions.{is_write, decide, page_in, is_granted, page_out, attr_out, lock, unlock, holds_write, remove, make, list_rows};
+ghost use Rattle.page_server.specs.Wants.{is_stored, is_grant, is_made, decision_wants};
+ghost use Rattle.page_server.specs.Decisions.{is_write, decide, page_in, is_granted, page_out, attr_out, lock, unlock, may_remove, remove, make, list_rows};
 
 use crate::answers::HomeAnswer;
 use lock_manager::{AskRefusal, Locks};
 use object_store::{Home, MakeFault, NoObject, WriteRefusal};
-use page_store::{PAGE_BYTES, Pages};
+use page_store::Pages;
 use ring_messages::Body;
 use std::alloc::Global;
-use uid_names::{MAX_ROOM, Mode, NoMemory, ObjKind, ProcId, Uid};
+use uid_names::{MAX_ROOM, Mode, NoMemory, ObjKind, PAGE_BYTES, ProcId, Uid};
 
 /// A page, where it is there.
 pub(crate) fn page_in<P: Pages>(home: &Home<P>, uid: Uid, page: u32) -> HomeAnswer
@@ -70,6 +72,7 @@ pub(crate) fn page_out<P: Pages>(
     requires { ForSome (attr_of home.old uid) (λ attr. attr.stamp < 2 ^ 64 - 1) }
     ensures answer { IfOk result (λ answer. answer ≡ (page_out home.old granted uid page base bytes.now).answer) }
     ensures home { OnOk result (home.new ≡ (page_out home.old granted uid page base bytes.now).home) }
+    ensures memory { OnErr result (IsTrue (is_stored (page_out home.old granted uid page base bytes.now).answer)) }
     ensures err { OnErr result (home.new ≡ home.old) }
 {
     if !has_page(home, uid, page) {
@@ -135,6 +138,8 @@ pub(crate) fn lock<P: Pages>(
     requires { locks.old.last < 2 ^ 64 - 1 }
     ensures answer { IfOk result (λ answer. answer ≡ (lock locks.old (attr_of home.now uid) proc uid mode).answer) }
     ensures locks { OnOk result (locks.new ≡ (lock locks.old (attr_of home.now uid) proc uid mode).locks) }
+    ensures memory { OnErr result (IsTrue (is_grant (lock locks.old (attr_of home.now uid) proc uid mode).answer
+        && nat_le ROOM (length locks.old.grants))) }
     ensures err { OnErr result (locks.new ≡ locks.old) }
 {
     let attr = match home.look(uid) {
@@ -162,17 +167,18 @@ pub(crate) fn unlock(locks: &mut Locks, proc: ProcId, uid: Uid) -> HomeAnswer
     HomeAnswer::new(Body::Done)
 }
 
-/// Whether a process holds an object in Write.
-fn holds_write(locks: &Locks, proc: ProcId, uid: Uid) -> bool
-    ensures { result ≡ holds_write (grant_of proc uid locks.now.grants) }
+/// Whether a process holds an object in a mode that lets it remove it.
+fn may_remove(locks: &Locks, proc: ProcId, uid: Uid) -> bool
+    ensures { result ≡ may_remove (grant_of proc uid locks.now.grants) }
 {
     match locks.held_by(proc, uid) {
-        Some((Mode::Write, _)) => true,
-        Some((Mode::Read, _)) | None => false,
+        Some((mode, _)) => mode.removes(),
+        None => false,
     }
 }
 
-/// Removes an object with its pages and its grants, where the process holds it in Write.
+/// Removes an object with its pages and its grants, where the process holds it in a mode
+/// that removes.
 pub(crate) fn remove<P: Pages>(
     home: &mut Home<P>,
     locks: &mut Locks,
@@ -186,7 +192,7 @@ pub(crate) fn remove<P: Pages>(
     if home.look(uid).is_err() {
         return HomeAnswer::new(Body::NoObject);
     }
-    if !holds_write(locks, proc, uid) {
+    if !may_remove(locks, proc, uid) {
         return HomeAnswer::new(Body::NoGrant);
     }
     match home.remove(uid) {
@@ -208,6 +214,7 @@ pub(crate) fn make<P: Pages>(
     requires counter { home.old.greatest < 2 ^ 44 - 1 }
     ensures answer { IfOk result (λ answer. answer ≡ (make home.old kind room).answer) }
     ensures home { OnOk result (home.new ≡ (make home.old kind room).home) }
+    ensures memory { OnErr result (IsTrue (is_made (make home.old kind room).answer)) }
     ensures err { OnErr result (home.new ≡ home.old) }
 {
     match home.make(kind, room) {
@@ -243,6 +250,8 @@ fn write<P: Pages>(
         IfOk result (λ answer. answer ≡ (decide home.old locks.now proc ask).answer)) }
     ensures home { IfSome (ask_of body.now) (λ ask.
         OnOk result (home.new ≡ (decide home.old locks.now proc ask).home)) }
+    ensures memory { IfSome (ask_of body.now) (λ ask.
+        OnErr result (IsTrue (decision_wants ask locks.now (decide home.old locks.now proc ask).answer))) }
     ensures err { OnErr result (home.new ≡ home.old) }
 {
     match body {
@@ -289,6 +298,8 @@ pub(crate) fn decide<P: Pages>(
         OnOk result (home.new ≡ (decide home.old locks.old proc ask).home)) }
     ensures locks { IfSome (ask_of body.now) (λ ask.
         OnOk result (locks.new ≡ (decide home.old locks.old proc ask).locks)) }
+    ensures memory { IfSome (ask_of body.now) (λ ask.
+        OnErr result (IsTrue (decision_wants ask locks.old (decide home.old locks.old proc ask).answer))) }
     ensures err_home { OnErr result (home.new ≡ home.old) }
     ensures err_locks { OnErr result (locks.new ≡ locks.old) }
 {

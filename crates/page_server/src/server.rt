@@ -8,6 +8,7 @@ ghost use Rattle.ring_messages.specs.Frames.{caller_of};
 ghost use Rattle.page_server.specs.Decisions.{decide};
 ghost use Rattle.page_server.specs.Serving.{serve_frame, reply_to};
 ghost use Rattle.page_server.specs.ServerStates.{AreStampedTo, IsBegun, first_server};
+ghost use Rattle.page_server.specs.Wants.{decision_wants, kept_wants, may_want};
 
 use crate::answers::HomeAnswer;
 use crate::requests::decide;
@@ -48,6 +49,8 @@ impl<P: Pages> PageServer<P> {
         requires { IsBegun home }
         ensures { IfOk result (λ server. server ≡ first_server home) }
     {
+        // What each home keeps.
+        let _node = home.node();
         let locks = Locks::new(alloc)?;
         let served = Served::new(alloc)?;
         Ok(PageServer {
@@ -67,7 +70,8 @@ impl<P: Pages> PageServer<P> {
 
     /// Answers a request, by the event with this tick; None where the process has an answer to a later
     /// call. A number above the process's last one is decided; the last one gets the same answer again.
-    /// Without memory nothing changes.
+    /// Memory may be wanted for a page that is stored, a grant where the table is full, an object that is made, and
+    /// a list. Without memory nothing changes.
     pub fn serve(
         &mut self,
         alloc: Global,
@@ -85,6 +89,8 @@ impl<P: Pages> PageServer<P> {
         ensures old { IfOk result (λ reply.
             IsNone reply ↔ (frame.now.number < last_of (caller_of frame.now) self.old.side.served)) }
         ensures node { self.new.side.home.node ≡ self.old.side.home.node }
+        ensures memory { IfSome (ask_of frame.now.body) (λ ask. OnErr result
+            (IsTrue (may_want self.old.side (caller_of frame.now) frame.now.number ask))) }
         ensures err { OnErr result (self.new ≡ self.old) }
     {
         match self.served.look(frame.caller(), frame.number()) {
@@ -127,6 +133,8 @@ fn fresh<P: Pages>(
         OnOk result (home.new ≡ (decide home.old locks.old (caller_of frame.now) ask).home)) }
     ensures locks { IfSome (ask_of frame.now.body) (λ ask.
         OnOk result (locks.new ≡ (decide home.old locks.old (caller_of frame.now) ask).locks)) }
+    ensures memory { IfSome (ask_of frame.now.body) (λ ask.
+        OnErr result (IsTrue (decision_wants ask locks.old (decide home.old locks.old (caller_of frame.now) ask).answer))) }
     ensures served { IfOk result (λ answer.
         served.new ≡ with_call (record { proc = caller_of frame.now; number = frame.now.number; body = answer }) served.old) }
     ensures err_home { OnErr result (home.new ≡ home.old) }
@@ -143,7 +151,8 @@ fn fresh<P: Pages>(
 /// The last answer to a process, which has one.
 fn again(alloc: Global, served: &Served<HomeAnswer>, proc: ProcId) -> Result<HomeAnswer, NoMemory>
     requires { 1 ≤ last_of proc served.now }
-    ensures { IfOk result (λ answer. body_of proc served.now ≡ Some answer) }
+    ensures same { IfOk result (λ answer. body_of proc served.now ≡ Some answer) }
+    ensures memory { OnErr result (IsTrue (kept_wants (body_of proc served.now))) }
 {
     match served.kept(proc) {
         Some(answer) => answer.copy(alloc),

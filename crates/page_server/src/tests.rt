@@ -1,16 +1,17 @@
-//! The worked answers, and each answer of each request once.
-ghost use Rattle.std.specs.Prelude.{◌≤◌, IsTrue};
+//! The worked answers, and each answer of each request once: as rows for one home side.
+ghost use Rattle.std.specs.Prelude.{◌≡◌, ◌≤◌, ◌<◌, IsTrue};
 ghost use Rattle.ring_messages.specs.Bodies.{is_request};
-ghost use Rattle.ring_messages.specs.Ranges.{IsBody};
+ghost use Rattle.ring_messages.specs.Ranges.{IsBody, IsWhole};
 
 use super::*;
 use object_store::Home;
-use page_store::{ListPages, PAGE_BYTES};
+use page_store::ListPages;
 use ring_messages::{Body, Frame};
+use samples::{node, object};
 use std::alloc::Global;
 use std::process::Abort;
 use std::test::Fail;
-use uid_names::{MAX_ROOM, Mode, NodeId, ObjKind, Opening, ProcId, Uid};
+use uid_names::{MAX_LENGTH, MAX_ROOM, Mode, NodeId, ObjKind, Opening, PAGE_BYTES, ProcId, Uid};
 
 /// The number of object 2 of node 2, a file of room 1 that is there at the start.
 const FILE: u64 = 0x20_0002;
@@ -18,57 +19,96 @@ const FILE: u64 = 0x20_0002;
 /// The number of an object of node 2 that is not there.
 const GONE: u64 = 0x90_0002;
 
+const READ: Mode = Mode::Read;
+
+const WRITE: Mode = Mode::Write;
+
 /// The process of this number at a node.
 fn proc(at: (u8, u8)) -> Result<ProcId, Fail> {
-    let node = NodeId::new(at.0).ok_or("no node")?;
-    Ok(ProcId::new(node, at.1).ok_or("no process")?)
+    samples::proc(at.0, at.1)
 }
 
-fn page_in(object: u64, page: u32) -> Result<Body, Fail> {
-    let uid = Uid::from_number(object)?;
-    Ok(Body::PageIn { uid, page })
+/// What a test asks: of an object by its number, and then the page or the length, the grant and the base.
+#[derive(Clone, Copy, Debug)]
+enum Asked {
+    PageIn(u64, u32),
+    /// A page full of sevens.
+    PageOut(u64, u32, u64, u64),
+    AttrOut(u64, u32, u64, u64),
+    Lock(u64, Mode),
+    Unlock(u64),
+    Remove(u64),
+    /// A directory of this room.
+    Make(u32),
+    /// The rows behind that of a process on the file, or all.
+    List(Option<(u8, u8)>),
 }
 
-/// A page full of sevens.
-fn page_out(object: u64, page: u32, grant: u64, base: u64) -> Result<Body, Fail> {
-    let uid = Uid::from_number(object)?;
-    Ok(Body::PageOut {
-        uid,
-        page,
-        grant,
-        base,
-        bytes: [7; PAGE_BYTES],
+/// A page-out or an attr-out.
+fn write_body(asked: Asked) -> Result<Body, Fail> {
+    Ok(match asked {
+        Asked::PageOut(object, page, grant, base) => Body::PageOut {
+            uid: Uid::from_number(object)?,
+            page,
+            grant,
+            base,
+            bytes: [7; PAGE_BYTES],
+        },
+        Asked::AttrOut(object, length, grant, base) => Body::AttrOut {
+            uid: Uid::from_number(object)?,
+            length,
+            grant,
+            base,
+        },
+        _ => return Err("no write".into()),
     })
 }
 
-fn attr_out(object: u64, length: u32, grant: u64, base: u64) -> Result<Body, Fail> {
-    let uid = Uid::from_number(object)?;
-    Ok(Body::AttrOut {
-        uid,
-        length,
-        grant,
-        base,
+/// What is asked, as a body.
+fn body_of(asked: Asked) -> Result<Body, Fail> {
+    Ok(match asked {
+        Asked::PageIn(object, page) => {
+            let uid = Uid::from_number(object)?;
+            Body::PageIn { uid, page }
+        }
+        Asked::Lock(object, mode) => {
+            let uid = Uid::from_number(object)?;
+            Body::Lock { uid, mode }
+        }
+        Asked::Unlock(object) => {
+            let uid = Uid::from_number(object)?;
+            Body::Unlock { uid }
+        }
+        Asked::Remove(object) => {
+            let uid = Uid::from_number(object)?;
+            Body::Remove { uid }
+        }
+        Asked::Make(room) => {
+            let kind = ObjKind::Directory;
+            Body::Make { kind, room }
+        }
+        Asked::List(None) => Body::List { after: None },
+        Asked::List(Some(holder)) => {
+            let after = (Uid::from_number(FILE)?, proc(holder)?);
+            Body::List { after: Some(after) }
+        }
+        write => write_body(write)?,
     })
 }
 
-fn lock(object: u64, mode: Mode) -> Result<Body, Fail> {
-    let uid = Uid::from_number(object)?;
-    Ok(Body::Lock { uid, mode })
-}
-
-fn unlock(object: u64) -> Result<Body, Fail> {
-    let uid = Uid::from_number(object)?;
-    Ok(Body::Unlock { uid })
-}
-
-fn remove(object: u64) -> Result<Body, Fail> {
-    let uid = Uid::from_number(object)?;
-    Ok(Body::Remove { uid })
-}
-
-fn make(room: u32) -> Body {
-    let kind = ObjKind::Directory;
-    Body::Make { kind, room }
+/// Whether a page-out is in the ranges of what a node may be asked.
+fn may_write(
+    to: NodeId,
+    uid: Uid,
+    page: u32,
+    grant: u64,
+    base: u64,
+    bytes: &[u8; PAGE_BYTES],
+) -> bool
+    ensures { IsTrue result → (uid.home ≡ to) × (page < MAX_ROOM) × (1 ≤ grant) × (1 ≤ base) × IsWhole bytes.now }
+{
+    let _bytes = bytes;
+    uid.home() == to && page < MAX_ROOM && grant >= 1 && base >= 1
 }
 
 /// Whether a body asks, and is in the ranges of what a node may be asked.
@@ -77,20 +117,20 @@ fn may_ask(to: NodeId, body: &Body) -> bool
     ensures ranges { IsTrue result → IsBody to body.now }
 {
     match body {
-        Body::PageIn { uid, page } => uid.home() == to && *page < 1024,
+        Body::PageIn { uid, page } => uid.home() == to && *page < MAX_ROOM,
         Body::PageOut {
             uid,
             page,
             grant,
             base,
-            ..
-        } => uid.home() == to && *page < 1024 && *grant >= 1 && *base >= 1,
+            bytes,
+        } => may_write(to, *uid, *page, *grant, *base, bytes),
         Body::AttrOut {
             uid,
             length,
             grant,
             base,
-        } => uid.home() == to && *length <= 1_048_576 && *grant >= 1 && *base >= 1,
+        } => uid.home() == to && *length <= MAX_LENGTH && *grant >= 1 && *base >= 1,
         Body::Lock { uid, .. } | Body::Unlock { uid } | Body::Remove { uid } => uid.home() == to,
         Body::Make { room, .. } => 1 <= *room && *room <= MAX_ROOM,
         Body::List { .. } => true,
@@ -98,8 +138,8 @@ fn may_ask(to: NodeId, body: &Body) -> bool
     }
 }
 
-/// What tests compare of an answer: of a page its stamp and first byte, and of a list how many rows it
-/// has, who holds the first one and in which mode, and whether more follow.
+/// What tests compare of an answer: of a page its stamp and first byte, of a conflict the holder, and of a
+/// list how many rows it has, who holds the first one, and whether more follow.
 #[derive(Clone, Copy, Debug, PartialEq, Eq)]
 enum Told {
     Nothing,
@@ -109,11 +149,16 @@ enum Told {
     NoGrant,
     NoObject,
     Granted(u64, u64, u32),
-    Conflict(ProcId, Mode),
+    Conflict((u8, u8), Mode),
     Done,
     Made(u64),
     NoSpace,
-    Listed(usize, Option<(ProcId, Mode)>, bool),
+    Listed(usize, Option<(u8, u8)>, bool),
+}
+
+/// The node and the number of a process.
+fn parts(proc: ProcId) -> (u8, u8) {
+    (proc.node().number(), proc.number())
 }
 
 impl Told {
@@ -131,12 +176,12 @@ impl Told {
                 length,
                 ..
             } => Told::Granted(*grant, *stamp, *length),
-            Body::Conflict { proc, mode } => Told::Conflict(*proc, *mode),
+            Body::Conflict { proc, mode } => Told::Conflict(parts(*proc), *mode),
             Body::Done => Told::Done,
             Body::Made { uid } => Told::Made(uid.number()),
             Body::NoSpace => Told::NoSpace,
             Body::Listed { rows, more } => {
-                let holder = rows.items().first().map(|row| (row.proc, row.mode));
+                let holder = rows.items().first().map(|row| parts(row.proc));
                 Told::Listed(rows.items().len(), holder, *more)
             }
             _ => Told::Nothing,
@@ -154,9 +199,9 @@ struct Bench {
 
 /// The home side at node 2 of an opening with the file.
 fn make_bench(alloc: Global) -> Result<Bench, Fail> {
-    let node = NodeId::new(2).ok_or("no node")?;
-    let mut opening = Opening::new(alloc, 2, 1024);
-    opening.add(Uid::from_parts(2, node), ObjKind::File, 1)?;
+    let node = node(2)?;
+    let mut opening = Opening::new(alloc, 2, MAX_ROOM);
+    opening.add(object(2, 2)?, ObjKind::File, 1)?;
     let home = Home::new(alloc, node, ListPages::new(alloc), &opening)?;
     let server = PageServer::new(alloc, home)?;
     Ok(Bench { server, tick: 0 })
@@ -167,11 +212,12 @@ impl Bench {
     fn send(
         &mut self,
         alloc: Global,
-        caller: ProcId,
+        at: (u8, u8),
         number: u64,
-        body: Body,
+        asked: Asked,
     ) -> Result<Option<Frame>, Fail> {
         let to = self.server.node();
+        let (caller, body) = (proc(at)?, body_of(asked)?);
         if self.tick >= 1_000_000 || number == 0 || !may_ask(to, &body) {
             return Err("no such request".into());
         }
@@ -182,387 +228,303 @@ impl Bench {
     }
 
     /// What is told to the call of this number of a process.
-    fn call(&mut self, alloc: Global, at: (u8, u8), number: u64, body: Body) -> Result<Told, Fail> {
-        let reply = self.send(alloc, proc(at)?, number, body)?;
+    fn call(
+        &mut self,
+        alloc: Global,
+        at: (u8, u8),
+        number: u64,
+        asked: Asked,
+    ) -> Result<Told, Fail> {
+        let reply = self.send(alloc, at, number, asked)?;
         Ok(reply.map_or(Told::Nothing, |frame| Told::of(frame.body())))
     }
 
-    /// That the call of this number of process 1 of node 1 is answered so.
+    /// What is told to a call with a number above all before.
+    fn ask(&mut self, alloc: Global, at: (u8, u8), asked: Asked) -> Result<Told, Fail> {
+        let number = self.tick.wrapping_add(1);
+        self.call(alloc, at, number, asked)
+    }
+
+    /// That calls of process 1 of node 1, of these numbers, are answered so.
     fn expect(
         &mut self,
         rt: &(impl AllocGlobal + Abort),
-        number: u64,
-        body: Body,
-        answer: Told,
+        calls: &[(u64, Asked, Told)],
     ) -> Result<(), Fail> {
-        let told = self.call(rt.alloc(), (1, 1), number, body)?;
-        assert_eq!(rt; told, answer);
+        for (number, asked, told) in calls {
+            let answer = self.call(rt.alloc(), (1, 1), *number, *asked)?;
+            assert_eq!(rt; answer, *told, "{number} {asked:?}");
+        }
         Ok(())
     }
 
-    /// What is told to a call with a number above all before.
-    fn ask(&mut self, alloc: Global, at: (u8, u8), body: Body) -> Result<Told, Fail> {
-        let number = self.tick.wrapping_add(1);
-        self.call(alloc, at, number, body)
-    }
-
-    /// What an observer sees.
-    fn view(&mut self, alloc: Global) -> Result<View, Fail> {
-        let page = self.ask(alloc, (8, 4), page_in(FILE, 0)?)?;
-        let rows = self.ask(alloc, (8, 4), Body::List { after: None })?;
-        Ok(View { page, rows })
+    /// What an observer is told of the file's page and of the lock rows.
+    fn view(&mut self, alloc: Global) -> Result<(Told, Told), Fail> {
+        let page = self.ask(alloc, (8, 4), Asked::PageIn(FILE, 0))?;
+        let rows = self.ask(alloc, (8, 4), Asked::List(None))?;
+        Ok((page, rows))
     }
 }
 
-/// What an observer is told of the file's page and of the lock rows.
-#[derive(Clone, Copy, Debug, PartialEq, Eq)]
-struct View {
-    page: Told,
-    rows: Told,
+/// What an observer is told where nothing was written and so many rows stand, of process 1 of node 1 first.
+fn unwritten(rows: usize) -> (Told, Told) {
+    let holder = if rows == 0 { None } else { Some((1, 1)) };
+    (Told::Page(1, 0), Told::Listed(rows, holder, false))
 }
 
-/// The view where the page has this stamp and byte, and process 1 of node 1 holds the file in this mode.
-fn held(stamp: u64, byte: u8, mode: Option<Mode>) -> Result<View, Fail> {
-    let holder = proc((1, 1))?;
-    Ok(View {
-        page: Told::Page(stamp, byte),
-        rows: match mode {
-            Some(mode) => Told::Listed(1, Some((holder, mode)), false),
-            None => Told::Listed(0, None, false),
-        },
-    })
-}
+/// A request to a home side where process 1 of node 1 holds the file in this mode, by grant 1, or nobody
+/// does; the process that asks; and the answer.
+type Row = (Option<Mode>, (u8, u8), Asked, Told);
 
-/// A home side where process 1 of node 1 holds the file in this mode, by grant 1.
-fn bench_held(alloc: Global, mode: Option<Mode>) -> Result<Bench, Fail> {
-    let mut bench = make_bench(alloc)?;
+/// Requests that change nothing that an observer sees.
+const REFUSED: [Row; 25] = [
+    (None, (3, 1), Asked::PageIn(FILE, 0), Told::Page(1, 0)),
+    (None, (3, 1), Asked::PageIn(GONE, 0), Told::NoObject),
+    (None, (3, 1), Asked::PageIn(FILE, 1), Told::NoObject),
+    (None, (1, 1), Asked::PageOut(GONE, 0, 1, 1), Told::NoObject),
+    (None, (1, 1), Asked::PageOut(FILE, 1, 1, 1), Told::NoObject),
+    (None, (1, 1), Asked::PageOut(FILE, 0, 1, 1), Told::NoGrant),
+    (
+        Some(READ),
+        (1, 1),
+        Asked::PageOut(FILE, 0, 1, 1),
+        Told::NoGrant,
+    ),
+    (
+        Some(WRITE),
+        (3, 1),
+        Asked::PageOut(FILE, 0, 1, 1),
+        Told::NoGrant,
+    ),
+    (
+        Some(WRITE),
+        (1, 1),
+        Asked::PageOut(FILE, 0, 1, 2),
+        Told::Stale(1),
+    ),
+    (None, (1, 1), Asked::AttrOut(GONE, 5, 1, 1), Told::NoObject),
+    (
+        None,
+        (1, 1),
+        Asked::AttrOut(FILE, 1025, 1, 1),
+        Told::NoObject,
+    ),
+    (
+        None,
+        (1, 1),
+        Asked::AttrOut(FILE, 1024, 1, 1),
+        Told::NoGrant,
+    ),
+    (
+        Some(WRITE),
+        (1, 1),
+        Asked::AttrOut(FILE, 5, 1, 2),
+        Told::Stale(1),
+    ),
+    (None, (1, 1), Asked::Lock(GONE, READ), Told::NoObject),
+    (
+        Some(WRITE),
+        (3, 1),
+        Asked::Lock(FILE, READ),
+        Told::Conflict((1, 1), WRITE),
+    ),
+    (
+        Some(READ),
+        (3, 1),
+        Asked::Lock(FILE, WRITE),
+        Told::Conflict((1, 1), READ),
+    ),
+    (Some(WRITE), (1, 2), Asked::Unlock(FILE), Told::Done),
+    (None, (1, 1), Asked::Remove(GONE), Told::NoObject),
+    (None, (1, 1), Asked::Remove(FILE), Told::NoGrant),
+    (Some(READ), (1, 1), Asked::Remove(FILE), Told::NoGrant),
+    (Some(WRITE), (1, 2), Asked::Remove(FILE), Told::NoGrant),
+    (None, (1, 1), Asked::Make(1), Told::Made(0x30_0002)),
+    (
+        None,
+        (1, 1),
+        Asked::List(None),
+        Told::Listed(0, None, false),
+    ),
+    (
+        Some(READ),
+        (3, 1),
+        Asked::List(None),
+        Told::Listed(1, Some((1, 1)), false),
+    ),
+    (
+        Some(READ),
+        (3, 1),
+        Asked::List(Some((1, 1))),
+        Told::Listed(0, None, false),
+    ),
+];
+
+/// Requests that an observer sees, and what the observer is told of the page and of the rows.
+const TAKEN: [(Row, Told, Told); 6] = [
+    (
+        (
+            Some(WRITE),
+            (1, 2),
+            Asked::PageOut(FILE, 0, 1, 1),
+            Told::Stored(2),
+        ),
+        Told::Page(2, 7),
+        Told::Listed(1, Some((1, 1)), false),
+    ),
+    (
+        (
+            Some(WRITE),
+            (1, 2),
+            Asked::AttrOut(FILE, 5, 1, 1),
+            Told::Stored(2),
+        ),
+        Told::Page(2, 0),
+        Told::Listed(1, Some((1, 1)), false),
+    ),
+    (
+        (
+            Some(READ),
+            (1, 1),
+            Asked::Lock(FILE, WRITE),
+            Told::Granted(2, 1, 0),
+        ),
+        Told::Page(1, 0),
+        Told::Listed(1, Some((1, 1)), false),
+    ),
+    (
+        (
+            Some(READ),
+            (3, 1),
+            Asked::Lock(FILE, READ),
+            Told::Granted(2, 1, 0),
+        ),
+        Told::Page(1, 0),
+        Told::Listed(2, Some((1, 1)), false),
+    ),
+    (
+        (Some(WRITE), (1, 1), Asked::Unlock(FILE), Told::Done),
+        Told::Page(1, 0),
+        Told::Listed(0, None, false),
+    ),
+    (
+        (Some(WRITE), (1, 1), Asked::Remove(FILE), Told::Done),
+        Told::NoObject,
+        Told::Listed(0, None, false),
+    ),
+];
+
+/// That a request is answered so, and what is seen afterwards.
+fn answers(
+    rt: &(impl AllocGlobal + Abort),
+    row: Row,
+    after: Option<(Told, Told)>,
+) -> Result<(), Fail> {
+    let (mode, at, asked, told) = row;
+    let mut bench = make_bench(rt.alloc())?;
     if let Some(mode) = mode {
-        bench.ask(alloc, (1, 1), lock(FILE, mode)?)?;
+        bench.ask(rt.alloc(), (1, 1), Asked::Lock(FILE, mode))?;
+    }
+    let before = unwritten(usize::from(mode.is_some()));
+    assert_eq!(rt; bench.view(rt.alloc())?, before);
+    assert_eq!(rt; bench.ask(rt.alloc(), at, asked)?, told, "{asked:?}");
+    assert_eq!(rt;
+        bench.view(rt.alloc())?,
+        after.unwrap_or(before),
+        "{asked:?}"
+    );
+    Ok(())
+}
+
+#[test]
+fn each_refusal_leaves_all_as_it_was(rt: HostRuntime) -> Result<(), Fail> {
+    for row in REFUSED {
+        answers(&rt, row, None)?;
+    }
+    Ok(())
+}
+
+#[test]
+fn each_change_is_seen(rt: HostRuntime) -> Result<(), Fail> {
+    for (row, page, rows) in TAKEN {
+        answers(&rt, row, Some((page, rows)))?;
+    }
+    Ok(())
+}
+
+/// A home side where process 1 of node 1 made these calls, by rising numbers from 1 on.
+fn bench_after(alloc: Global, calls: &[Asked]) -> Result<Bench, Fail> {
+    let mut bench = make_bench(alloc)?;
+    for asked in calls {
+        bench.ask(alloc, (1, 1), *asked)?;
     }
     Ok(bench)
 }
 
-/// That a request is answered so, and that this is seen afterwards.
-fn answers(
-    rt: &(impl AllocGlobal + Abort),
-    mode: Option<Mode>,
-    at: (u8, u8),
-    body: Body,
-    answer: Told,
-    after: View,
-) -> Result<(), Fail> {
-    let mut bench = bench_held(rt.alloc(), mode)?;
-    assert_eq!(rt; bench.view(rt.alloc())?, held(1, 0, mode)?);
-    assert_eq!(rt; bench.ask(rt.alloc(), at, body)?, answer);
-    assert_eq!(rt; bench.view(rt.alloc())?, after);
-    Ok(())
-}
-
-/// That a request is answered so, and leaves what is seen as it was.
-fn leaves_all(
-    rt: &(impl AllocGlobal + Abort),
-    mode: Option<Mode>,
-    at: (u8, u8),
-    body: Body,
-    answer: Told,
-) -> Result<(), Fail> {
-    answers(rt, mode, at, body, answer, held(1, 0, mode)?)
-}
-
 #[test]
-fn a_page_is_read_where_it_is(rt: HostRuntime) -> Result<(), Fail> {
-    leaves_all(&rt, None, (3, 1), page_in(FILE, 0)?, Told::Page(1, 0))
-}
-
-#[test]
-fn no_page_is_read_of_an_object_that_is_not_there(rt: HostRuntime) -> Result<(), Fail> {
-    leaves_all(&rt, None, (3, 1), page_in(GONE, 0)?, Told::NoObject)
-}
-
-#[test]
-fn no_page_is_read_past_the_room(rt: HostRuntime) -> Result<(), Fail> {
-    leaves_all(&rt, None, (3, 1), page_in(FILE, 1)?, Told::NoObject)
-}
-
-#[test]
-fn no_page_is_written_to_an_object_that_is_not_there(rt: HostRuntime) -> Result<(), Fail> {
-    leaves_all(&rt, None, (1, 1), page_out(GONE, 0, 1, 1)?, Told::NoObject)
-}
-
-#[test]
-fn no_page_is_written_past_the_room(rt: HostRuntime) -> Result<(), Fail> {
-    leaves_all(&rt, None, (1, 1), page_out(FILE, 1, 1, 1)?, Told::NoObject)
-}
-
-#[test]
-fn no_page_is_written_without_a_grant(rt: HostRuntime) -> Result<(), Fail> {
-    leaves_all(&rt, None, (1, 1), page_out(FILE, 0, 1, 1)?, Told::NoGrant)
-}
-
-#[test]
-fn no_page_is_written_under_a_grant_of_read(rt: HostRuntime) -> Result<(), Fail> {
-    let body = page_out(FILE, 0, 1, 1)?;
-    leaves_all(&rt, Some(Mode::Read), (1, 1), body, Told::NoGrant)
-}
-
-#[test]
-fn no_page_is_written_under_a_grant_of_another_node(rt: HostRuntime) -> Result<(), Fail> {
-    let body = page_out(FILE, 0, 1, 1)?;
-    leaves_all(&rt, Some(Mode::Write), (3, 1), body, Told::NoGrant)
-}
-
-#[test]
-fn no_page_is_written_on_another_base(rt: HostRuntime) -> Result<(), Fail> {
-    let body = page_out(FILE, 0, 1, 2)?;
-    leaves_all(&rt, Some(Mode::Write), (1, 1), body, Told::Stale(1))
-}
-
-#[test]
-fn a_page_is_written_under_a_grant_of_its_node(rt: HostRuntime) -> Result<(), Fail> {
-    let body = page_out(FILE, 0, 1, 1)?;
-    let after = held(2, 7, Some(Mode::Write))?;
-    answers(&rt, Some(Mode::Write), (1, 2), body, Told::Stored(2), after)
-}
-
-#[test]
-fn no_length_is_written_to_an_object_that_is_not_there(rt: HostRuntime) -> Result<(), Fail> {
-    leaves_all(&rt, None, (1, 1), attr_out(GONE, 5, 1, 1)?, Told::NoObject)
-}
-
-#[test]
-fn no_length_is_written_past_the_room(rt: HostRuntime) -> Result<(), Fail> {
-    let body = attr_out(FILE, 1025, 1, 1)?;
-    leaves_all(&rt, None, (1, 1), body, Told::NoObject)
-}
-
-#[test]
-fn no_length_is_written_without_a_grant(rt: HostRuntime) -> Result<(), Fail> {
-    let body = attr_out(FILE, 1024, 1, 1)?;
-    leaves_all(&rt, None, (1, 1), body, Told::NoGrant)
-}
-
-#[test]
-fn no_length_is_written_on_another_base(rt: HostRuntime) -> Result<(), Fail> {
-    let body = attr_out(FILE, 5, 1, 2)?;
-    leaves_all(&rt, Some(Mode::Write), (1, 1), body, Told::Stale(1))
-}
-
-#[test]
-fn a_length_is_written_under_a_grant_of_its_node(rt: HostRuntime) -> Result<(), Fail> {
-    let body = attr_out(FILE, 5, 1, 1)?;
-    let after = held(2, 0, Some(Mode::Write))?;
-    answers(&rt, Some(Mode::Write), (1, 2), body, Told::Stored(2), after)
-}
-
-#[test]
-fn a_written_length_is_granted(rt: HostRuntime) -> Result<(), Fail> {
-    let mut bench = bench_held(rt.alloc(), Some(Mode::Write))?;
-    bench.ask(rt.alloc(), (1, 1), attr_out(FILE, 1024, 1, 1)?)?;
-    bench.expect(&rt, 100, lock(FILE, Mode::Read)?, Told::Granted(2, 2, 1024))
-}
-
-#[test]
-fn no_lock_is_granted_on_an_object_that_is_not_there(rt: HostRuntime) -> Result<(), Fail> {
-    leaves_all(&rt, None, (1, 1), lock(GONE, Mode::Read)?, Told::NoObject)
-}
-
-#[test]
-fn a_lock_is_granted_where_no_other_process_holds_one(rt: HostRuntime) -> Result<(), Fail> {
-    let body = lock(FILE, Mode::Write)?;
-    let after = held(1, 0, Some(Mode::Write))?;
-    answers(
-        &rt,
-        Some(Mode::Read),
-        (1, 1),
-        body,
-        Told::Granted(2, 1, 0),
-        after,
-    )
-}
-
-#[test]
-fn a_lock_is_granted_beside_a_reader(rt: HostRuntime) -> Result<(), Fail> {
-    let holder = Some((proc((1, 1))?, Mode::Read));
-    let after = View {
-        page: Told::Page(1, 0),
-        rows: Told::Listed(2, holder, false),
-    };
-    let body = lock(FILE, Mode::Read)?;
-    answers(
-        &rt,
-        Some(Mode::Read),
-        (3, 1),
-        body,
-        Told::Granted(2, 1, 0),
-        after,
-    )
-}
-
-#[test]
-fn no_lock_is_granted_beside_a_writer(rt: HostRuntime) -> Result<(), Fail> {
-    let answer = Told::Conflict(proc((1, 1))?, Mode::Write);
-    let body = lock(FILE, Mode::Read)?;
-    leaves_all(&rt, Some(Mode::Write), (3, 1), body, answer)
+fn a_number_is_decided_once(rt: HostRuntime) -> Result<(), Fail> {
+    let write = Asked::PageOut(FILE, 0, 1, 1);
+    let mut bench = bench_after(rt.alloc(), &[Asked::Lock(FILE, WRITE), write])?;
+    let calls = [
+        (2, write, Told::Stored(2)),
+        (1, Asked::Lock(FILE, WRITE), Told::Nothing),
+        (3, write, Told::Stale(2)),
+        (4, Asked::PageOut(FILE, 0, 2, 2), Told::NoGrant),
+        (5, Asked::AttrOut(FILE, 1024, 1, 2), Told::Stored(3)),
+        (6, Asked::Lock(FILE, READ), Told::Granted(2, 3, 1024)),
+        (7, Asked::Unlock(FILE), Told::Done),
+        (8, Asked::PageOut(FILE, 0, 1, 3), Told::NoGrant),
+        (9, Asked::PageIn(FILE, 1), Told::NoObject),
+    ];
+    bench.expect(&rt, &calls)
 }
 
 #[test]
 fn a_conflict_is_with_the_first_of_two_readers(rt: HostRuntime) -> Result<(), Fail> {
     let mut bench = make_bench(rt.alloc())?;
-    bench.ask(rt.alloc(), (3, 1), lock(FILE, Mode::Read)?)?;
-    bench.ask(rt.alloc(), (1, 1), lock(FILE, Mode::Read)?)?;
-    let answer = bench.ask(rt.alloc(), (2, 1), lock(FILE, Mode::Write)?)?;
-    assert_eq!(rt; answer, Told::Conflict(proc((1, 1))?, Mode::Read));
-    Ok(())
-}
-
-#[test]
-fn a_lock_is_given_up(rt: HostRuntime) -> Result<(), Fail> {
-    let after = held(1, 0, None)?;
-    answers(
-        &rt,
-        Some(Mode::Write),
-        (1, 1),
-        unlock(FILE)?,
-        Told::Done,
-        after,
-    )
-}
-
-#[test]
-fn a_lock_of_another_process_is_not_given_up(rt: HostRuntime) -> Result<(), Fail> {
-    leaves_all(&rt, Some(Mode::Write), (1, 2), unlock(FILE)?, Told::Done)
-}
-
-#[test]
-fn no_object_is_removed_that_is_not_there(rt: HostRuntime) -> Result<(), Fail> {
-    leaves_all(&rt, None, (1, 1), remove(GONE)?, Told::NoObject)
-}
-
-#[test]
-fn no_object_is_removed_by_a_reader(rt: HostRuntime) -> Result<(), Fail> {
-    leaves_all(&rt, Some(Mode::Read), (1, 1), remove(FILE)?, Told::NoGrant)
-}
-
-#[test]
-fn no_object_is_removed_that_another_process_holds(rt: HostRuntime) -> Result<(), Fail> {
-    leaves_all(&rt, Some(Mode::Write), (1, 2), remove(FILE)?, Told::NoGrant)
-}
-
-#[test]
-fn an_object_is_removed_with_its_locks(rt: HostRuntime) -> Result<(), Fail> {
-    let after = View {
-        page: Told::NoObject,
-        rows: Told::Listed(0, None, false),
-    };
-    answers(
-        &rt,
-        Some(Mode::Write),
-        (1, 1),
-        remove(FILE)?,
-        Told::Done,
-        after,
-    )
-}
-
-#[test]
-fn an_object_is_made_with_the_next_counter(rt: HostRuntime) -> Result<(), Fail> {
-    leaves_all(&rt, None, (1, 1), make(1), Told::Made(0x30_0002))
-}
-
-/// A home side where all pages of the volume but 1,015 belong to an object.
-fn bench_filled(alloc: Global) -> Result<Bench, Fail> {
-    let mut bench = make_bench(alloc)?;
-    for _ in 0..15u8 {
-        bench.ask(alloc, (1, 1), make(1024))?;
-    }
-    Ok(bench)
+    bench.ask(rt.alloc(), (3, 1), Asked::Lock(FILE, READ))?;
+    bench.ask(rt.alloc(), (2, 1), Asked::Lock(FILE, READ))?;
+    let calls = [
+        (9, Asked::Lock(FILE, WRITE), Told::Conflict((2, 1), READ)),
+        (
+            10,
+            Asked::List(Some((2, 1))),
+            Told::Listed(1, Some((3, 1)), false),
+        ),
+    ];
+    bench.expect(&rt, &calls)
 }
 
 #[test]
 fn no_object_is_made_that_the_volume_has_no_room_for(rt: HostRuntime) -> Result<(), Fail> {
-    let mut bench = bench_filled(rt.alloc())?;
-    bench.expect(&rt, 100, make(1016), Told::NoSpace)?;
-    assert_eq!(rt; bench.view(rt.alloc())?, held(1, 0, None)?);
-    bench.expect(&rt, 101, make(1015), Told::Made(0x120_0002))
-}
-
-#[test]
-fn rows_behind_one_are_listed(rt: HostRuntime) -> Result<(), Fail> {
-    let mut bench = bench_held(rt.alloc(), Some(Mode::Read))?;
-    bench.ask(rt.alloc(), (3, 1), lock(FILE, Mode::Read)?)?;
-    let after = Some((Uid::from_number(FILE)?, proc((1, 1))?));
-    let other = Some((proc((3, 1))?, Mode::Read));
-    bench.expect(
-        &rt,
-        100,
-        Body::List { after },
-        Told::Listed(1, other, false),
-    )
-}
-
-/// A home side where process 1 of node 1 holds the file and 64 other objects.
-fn bench_crowded(alloc: Global) -> Result<Bench, Fail> {
-    let mut bench = bench_held(alloc, Some(Mode::Write))?;
-    for counter in 3..67u64 {
-        bench.ask(alloc, (1, 1), make(1))?;
-        bench.ask(alloc, (1, 1), lock(counter << 20 | 2, Mode::Write)?)?;
-    }
-    Ok(bench)
+    let mut bench = bench_after(rt.alloc(), &[Asked::Make(1024); 15])?;
+    let calls = [
+        (100, Asked::Make(1016), Told::NoSpace),
+        (101, Asked::Make(1015), Told::Made(0x120_0002)),
+    ];
+    bench.expect(&rt, &calls)
 }
 
 #[test]
 fn a_list_has_64_rows_and_says_that_more_follow(rt: HostRuntime) -> Result<(), Fail> {
-    let mut bench = bench_crowded(rt.alloc())?;
-    let holder = Some((proc((1, 1))?, Mode::Write));
-    let list = Body::List { after: None };
-    bench.expect(&rt, 200, list, Told::Listed(64, holder, true))
-}
-
-/// A home side where process 1 of node 1 locked the file by call 1, and wrote its page by call 2.
-fn bench_written(alloc: Global) -> Result<Bench, Fail> {
-    let mut bench = make_bench(alloc)?;
-    bench.call(alloc, (1, 1), 1, lock(FILE, Mode::Write)?)?;
-    bench.call(alloc, (1, 1), 2, page_out(FILE, 0, 1, 1)?)?;
-    Ok(bench)
-}
-
-#[test]
-fn a_repeated_write_is_stored_once(rt: HostRuntime) -> Result<(), Fail> {
-    let mut bench = bench_written(rt.alloc())?;
-    bench.expect(&rt, 2, page_out(FILE, 0, 1, 1)?, Told::Stored(2))?;
-    bench.expect(&rt, 3, page_out(FILE, 0, 1, 1)?, Told::Stale(2))
-}
-
-#[test]
-fn an_older_call_gets_no_answer(rt: HostRuntime) -> Result<(), Fail> {
-    let mut bench = bench_written(rt.alloc())?;
-    bench.expect(&rt, 1, lock(FILE, Mode::Write)?, Told::Nothing)
-}
-
-#[test]
-fn a_grant_that_is_not_live_writes_nothing(rt: HostRuntime) -> Result<(), Fail> {
-    let mut bench = bench_written(rt.alloc())?;
-    bench.expect(&rt, 4, page_out(FILE, 0, 2, 2)?, Told::NoGrant)?;
-    bench.expect(&rt, 5, unlock(FILE)?, Told::Done)?;
-    bench.expect(&rt, 6, page_out(FILE, 0, 1, 2)?, Told::NoGrant)?;
-    bench.expect(&rt, 7, page_in(FILE, 1)?, Told::NoObject)
-}
-
-/// That call 1 of process 1 of node 1, a lock, is answered by its frame with this tick.
-fn expect_grant(rt: &(impl AllocGlobal + Abort), bench: &mut Bench, tick: u64) -> Result<(), Fail> {
-    let body = lock(FILE, Mode::Write)?;
-    let reply = bench
-        .send(rt.alloc(), proc((1, 1))?, 1, body)?
-        .ok_or("no answer")?;
-    assert!(rt; (reply.from().number(), reply.to().number()) == (2, 1));
-    assert!(rt; (reply.proc(), reply.number(), reply.tick()) == (1, 1, tick));
-    assert!(rt; Told::of(reply.body()) == Told::Granted(1, 1, 0));
-    Ok(())
+    let mut bench = make_bench(rt.alloc())?;
+    for counter in 2..67u64 {
+        bench.ask(rt.alloc(), (1, 1), Asked::Make(1))?;
+        bench.ask(rt.alloc(), (1, 1), Asked::Lock(counter << 20 | 2, WRITE))?;
+    }
+    let told = Told::Listed(64, Some((1, 1)), true);
+    bench.expect(&rt, &[(200, Asked::List(None), told)])
 }
 
 #[test]
 fn a_repeated_answer_differs_in_its_tick_alone(rt: HostRuntime) -> Result<(), Fail> {
     let mut bench = make_bench(rt.alloc())?;
-    expect_grant(&rt, &mut bench, 1)?;
-    expect_grant(&rt, &mut bench, 2)
+    for tick in 1..3u64 {
+        let reply = bench.send(rt.alloc(), (1, 1), 1, Asked::Lock(FILE, WRITE))?;
+        let reply = reply.ok_or("no answer")?;
+        assert!(rt; (reply.from().number(), reply.to().number()) == (2, 1));
+        assert!(rt; (reply.proc(), reply.number(), reply.tick()) == (1, 1, tick));
+        assert!(rt; Told::of(reply.body()) == Told::Granted(1, 1, 0));
+    }
+    Ok(())
 }

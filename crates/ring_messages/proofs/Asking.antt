@@ -1,7 +1,8 @@
 -- What a request asks.
-use Rattle.std.proofs.Common.{refl}
+use Rattle.std.proofs.Common.{◌≡◌, Some, refl, ap}
 use Rattle.std.specs.Prelude.{IsTrue, IsSome}
-use Rattle.ring_messages.specs.Bodies.{ask_of, is_request}
+use Rattle.ring_messages.specs.Bodies.{Ask, ask_of, body_of_ask, is_request}
+use Rattle.ring_messages.proofs.Fields.{some_is}
 use Rattle.ring_messages.specs.declared.body.Body.{Body}
 use Rattle.ring_messages.specs.declared.body.Body.TheVariants as bodies
 
@@ -16,3 +17,15 @@ asked-of (bodies.Remove u) is = refl
 asked-of (bodies.Make kind room) is = refl
 asked-of (bodies.List after) is = refl
 asked-of _ is = is
+
+-- a body that asks something is that request
+pub asked-body : (body : Body) (ask : Ask) → ask_of body ≡ Some ask → body ≡ body_of_ask ask
+asked-body (bodies.PageIn u page) ask is = ap body_of_ask (some_is (Ask.PageIn u page) ask is)
+asked-body (bodies.PageOut u page grant base bytes) ask is = ap body_of_ask (some_is (Ask.PageOut u page grant base bytes) ask is)
+asked-body (bodies.AttrOut u n grant base) ask is = ap body_of_ask (some_is (Ask.AttrOut u n grant base) ask is)
+asked-body (bodies.Lock u m) ask is = ap body_of_ask (some_is (Ask.Lock u m) ask is)
+asked-body (bodies.Unlock u) ask is = ap body_of_ask (some_is (Ask.Unlock u) ask is)
+asked-body (bodies.Remove u) ask is = ap body_of_ask (some_is (Ask.Remove u) ask is)
+asked-body (bodies.Make kind room) ask is = ap body_of_ask (some_is (Ask.Make kind room) ask is)
+asked-body (bodies.List after) ask is = ap body_of_ask (some_is (Ask.ListLocks after) ask is)
+asked-body _ ask is = absurd cc

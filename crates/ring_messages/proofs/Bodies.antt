@@ -6,7 +6,7 @@ use Rattle.std.proofs.lemmas.Bool.Decides.{nat_tests}
 use Rattle.std.proofs.lemmas.List.{append-nil}
 use Rattle.std.proofs.lemmas.List.Elements.{All-from_recursion, recursion_from_All}
 use Rattle.uid_names.specs.Names.{ProcName, ObjectName, number_of}
-use Rattle.uid_names.specs.declared.lists.LockRow.{LockRow}
+use Rattle.uid_names.specs.declared.lock_row.LockRow.{LockRow}
 use Rattle.uid_names.specs.declared.mode.Mode.{Mode}
 use Rattle.uid_names.specs.declared.mode.ObjKind.{ObjKind}
 use Rattle.uid_names.specs.declared.frame_kind.FrameKind.{FrameKind}
@@ -14,10 +14,15 @@ use Rattle.uid_names.specs.declared.frame_kind.FrameKind.TheVariants as kinds
 use Rattle.ring_messages.specs.declared.body.Body.{Body}
 use Rattle.ring_messages.specs.declared.body.Body.TheVariants.{PageIn, PageOut, AttrOut, Lock, Unlock, Remove, Make, List as ListLocks, Page, Stored, Stale, NoGrant, NoObject, Granted, Conflict, Done, Made, NoSpace, Listed}
 use Rattle.ring_messages.specs.Bodies.{kind_of}
+use Rattle.uid_names.specs.declared.limits.TheConstants.{LISTED_ROWS}
 use Rattle.ring_messages.specs.Ranges.{IsBody}
 use Rattle.ring_messages.specs.Spelling.{be64, flag, row_bytes, after_bytes, body_bytes}
 use Rattle.ring_messages.specs.Spelled.{IsRow, IsAfter, IsTypedBody}
-use Rattle.ring_messages.specs.Reading.{◌>>=◌, ◌then◌, whole, end_at, byte_at, be64_at, flag_at, uid_of, proc_of, after_of, rows_at, is_rising, listed_at, body_at}
+use Rattle.uid_names.specs.Steps.{◌>>=◌}
+use Rattle.ring_messages.specs.ReaderSteps.{◌then◌, whole, end_at}
+use Rattle.ring_messages.specs.ReaderFields.{byte_at, be64_at, flag_at, uid_of, proc_of, after_of}
+use Rattle.ring_messages.specs.ReaderRows.{rows_at, is_rising}
+use Rattle.ring_messages.specs.ReaderBodies.{listed_at, body_at}
 use Rattle.ring_messages.proofs.Rising.{and-true, rising-in_order, in_order-rising}
 use Rattle.ring_messages.proofs.Fields.{IsBytes, IsBytes-rest, bind_some, if_some, some_is, IsField, field-then, field-byte, field-be64, whole-again, whole-takes, end-nil, nil-end}
 use Rattle.ring_messages.proofs.Values.{field-page, field-length, field-room, field-count, field-uid, field-own, field-proc, field-mode, field-object, field-flag, field-bytes, rows-again, rows-take, uid-means, uid-meant, proc_of-again, proc_of-takes}
@@ -41,7 +46,7 @@ list-again None is =
 list-again (Some (u, p)) is =
     let um = uid-means u is.0 in
     let key : Key = (true, (number_of u, (p.node, p.number))) in
-    ap (λ (r : Option Key). r >>= after_key) (whole-again field-key (λ (x : Key). x) key (tt, (um.0, (omega (arith, is.1.node.1), omega (arith, is.1.number_high)))))
+    ap (λ (r : Option Key). r >>= after_key) (whole-again field-key (λ (x : Key). x) key (tt, (um.0, (omega (arith, is.1.node.1), omega (arith, is.1.number.1)))))
     ∙ rw um.1 (rw (proc_of-again p is.1) refl)
 
 pub after-takes : (b : Bool) (n node number : ℕ) (after : Option (ObjectName × ProcName)) → n < 2 ^ 64 → after_of b n node number ≡ Some after → ((flag b ∷ []) ++ (be64 n ++ ((node ∷ []) ++ (number ∷ []))) ≡ after_bytes after) × IsAfter after
@@ -98,7 +103,7 @@ listed-takes to bytes b small e =
     let rest : more.0.1 ≡ flat_map row_bytes rows.0 = third.0 ∙ rw nothing (append-nil (flat_map row_bytes all.0.0)) ∙ ap (flat_map row_bytes) same in
     let len : length rows.0 ≡ count.0.0 = ap length (sym same) ∙ third.1 in
     let text : bytes ≡ length rows.0 ∷ flag more.0.0 ∷ flat_map row_bytes rows.0 = first.0 ∙ ap (λ (r : List ℕ). count.0.0 ∷ r) (second.0 ∙ ap (λ (r : List ℕ). flag more.0.0 ∷ r) rest) ∙ ap (λ (n : ℕ). n ∷ flag more.0.0 ∷ flat_map row_bytes rows.0) (sym len) in
-    let few : count.0.0 ≤ 64 = grind (arith, nat_tests, tests.0) in
+    let few : count.0.0 ≤ LISTED_ROWS = grind (arith, nat_tests, tests.0) in
     let made : IsRead kinds.Listed to bytes (Listed rows.0 more.0.0) = record {
       kind = refl;
       text = text;
@@ -122,7 +127,7 @@ body-takes kinds.PageIn to bytes b small e =
     subst (IsRead kinds.PageIn to bytes) w.1 (record { kind = refl; text = w.2; ranges = (w.3.0.1, w.3.1.1); typed = w.3.0.0 })
 body-takes kinds.PageOut to bytes b small e =
     let w = whole-takes (field-then (field-own to) (field-then field-page (field-then field-count (field-then field-count field-bytes)))) (λ (x : ObjectName × (ℕ × (ℕ × (ℕ × List ℕ)))). PageOut x.0 x.1.0 x.1.1.0 x.1.1.1.0 x.1.1.1.1) bytes b small e in
-    subst (IsRead kinds.PageOut to bytes) w.1 (record { kind = refl; text = w.2; ranges = (w.3.0.1, w.3.1.0.1, w.3.1.1.0.1, w.3.1.1.1.0.1); typed = (w.3.0.0, w.3.1.1.0.0, w.3.1.1.1.0.0, w.3.1.1.1.1) })
+    subst (IsRead kinds.PageOut to bytes) w.1 (record { kind = refl; text = w.2; ranges = (w.3.0.1, w.3.1.0.1, w.3.1.1.0.1, w.3.1.1.1.0.1, w.3.1.1.1.1.len); typed = (w.3.0.0, w.3.1.1.0.0, w.3.1.1.1.0.0, w.3.1.1.1.1.small) })
 body-takes kinds.AttrOut to bytes b small e =
     let w = whole-takes (field-then (field-own to) (field-then field-length (field-then field-count field-count))) (λ (x : ObjectName × (ℕ × (ℕ × ℕ))). AttrOut x.0 x.1.0 x.1.1.0 x.1.1.1) bytes b small e in
     subst (IsRead kinds.AttrOut to bytes) w.1 (record { kind = refl; text = w.2; ranges = (w.3.0.1, w.3.1.0.1, w.3.1.1.0.1, w.3.1.1.1.1); typed = (w.3.0.0, w.3.1.1.0.0, w.3.1.1.1.0) })
@@ -148,7 +153,7 @@ body-takes kinds.List to bytes b small e =
     subst (IsRead kinds.List to bytes) (some_is (ListLocks a.0) b a.2) (record { kind = refl; text = text; ranges = tt; typed = t.1 })
 body-takes kinds.Page to bytes b small e =
     let w = whole-takes (field-then field-count field-bytes) (λ (x : ℕ × List ℕ). Page x.0 x.1) bytes b small e in
-    subst (IsRead kinds.Page to bytes) w.1 (record { kind = refl; text = w.2; ranges = w.3.0.1; typed = (w.3.0.0, w.3.1) })
+    subst (IsRead kinds.Page to bytes) w.1 (record { kind = refl; text = w.2; ranges = (w.3.0.1, w.3.1.len); typed = (w.3.0.0, w.3.1.small) })
 body-takes kinds.Stored to bytes b small e =
     let w = whole-takes field-count (λ (n : ℕ). Stored n) bytes b small e in
     subst (IsRead kinds.Stored to bytes) w.1 (record { kind = refl; text = w.2; ranges = w.3.1; typed = w.3.0 })
@@ -174,14 +179,14 @@ body-takes kinds.Listed to bytes b small e = listed-takes to bytes b small e
 pub body-again : (to : ℕ) (b : Body) → IsBody to b → IsTypedBody b → body_at (kind_of b) to (body_bytes b) ≡ Some b
 unfolding body_at
 body-again to (PageIn u page) is typed = whole-again (field-then (field-own to) field-page) (λ (x : ObjectName × ℕ). PageIn x.0 x.1) (u, page) ((typed, is.0), (omega (arith, is.1), is.1))
-body-again to (PageOut u page grant base bytes) is typed = whole-again (field-then (field-own to) (field-then field-page (field-then field-count (field-then field-count field-bytes)))) (λ (x : ObjectName × (ℕ × (ℕ × (ℕ × List ℕ)))). PageOut x.0 x.1.0 x.1.1.0 x.1.1.1.0 x.1.1.1.1) (u, (page, (grant, (base, bytes)))) ((typed.0, is.0), ((omega (arith, is.1), is.1), ((typed.1, is.2), ((typed.2, is.3), typed.3))))
+body-again to (PageOut u page grant base bytes) is typed = whole-again (field-then (field-own to) (field-then field-page (field-then field-count (field-then field-count field-bytes)))) (λ (x : ObjectName × (ℕ × (ℕ × (ℕ × List ℕ)))). PageOut x.0 x.1.0 x.1.1.0 x.1.1.1.0 x.1.1.1.1) (u, (page, (grant, (base, bytes)))) ((typed.0, is.0), ((omega (arith, is.1), is.1), ((typed.1, is.2), ((typed.2, is.3), record { len = is.4; small = typed.3 }))))
 body-again to (AttrOut u n grant base) is typed = whole-again (field-then (field-own to) (field-then field-length (field-then field-count field-count))) (λ (x : ObjectName × (ℕ × (ℕ × ℕ))). AttrOut x.0 x.1.0 x.1.1.0 x.1.1.1) (u, (n, (grant, base))) ((typed.0, is.0), ((omega (arith, is.1), is.1), ((typed.1, is.2), (typed.2, is.3))))
 body-again to (Lock u m) is typed = whole-again (field-then (field-own to) field-mode) (λ (x : ObjectName × Mode). Lock x.0 x.1) (u, m) ((typed, is), tt)
 body-again to (Unlock u) is typed = whole-again (field-own to) (λ (u : ObjectName). Unlock u) u (typed, is)
 body-again to (Remove u) is typed = whole-again (field-own to) (λ (u : ObjectName). Remove u) u (typed, is)
 body-again to (Make kind room) is typed = whole-again (field-then field-object field-room) (λ (x : ObjKind × ℕ). Make x.0 x.1) (kind, room) (tt, (omega (arith, is.1), is))
 body-again to (ListLocks after) is typed = list-again after typed
-body-again to (Page stamp bytes) is typed = whole-again (field-then field-count field-bytes) (λ (x : ℕ × List ℕ). Page x.0 x.1) (stamp, bytes) ((typed.0, is), typed.1)
+body-again to (Page stamp bytes) is typed = whole-again (field-then field-count field-bytes) (λ (x : ℕ × List ℕ). Page x.0 x.1) (stamp, bytes) ((typed.0, is.0), record { len = is.1; small = typed.1 })
 body-again to (Stored stamp) is typed = whole-again field-count (λ (n : ℕ). Stored n) stamp (typed, is)
 body-again to (Stale stamp) is typed = whole-again field-count (λ (n : ℕ). Stale n) stamp (typed, is)
 body-again to NoGrant is typed = rw nil-end refl

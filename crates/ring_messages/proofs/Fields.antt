@@ -10,7 +10,9 @@ use Rattle.std.proofs.Common.{inl, inr}
 use Rattle.byteorder.specs.Endian.{big_number, big_bytes}
 use Rattle.byteorder.specs.Numbers.{big_from-take, big_number-reads_back, big_from-lt}
 use Rattle.ring_messages.specs.Spelling.{be32, be64}
-use Rattle.ring_messages.specs.Reading.{◌>>=◌, ◌then◌, passing, meaning, whole, end_at, byte_at, be32_at, be64_at}
+use Rattle.uid_names.specs.Steps.{◌>>=◌}
+use Rattle.ring_messages.specs.ReaderSteps.{◌then◌, passing, meaning, whole, end_at}
+use Rattle.ring_messages.specs.ReaderFields.{byte_at, be32_at, be64_at}
 
 abbrev pub IsBytes : List ℕ → Type 0
 IsBytes bytes = (i : ℕ) → get_or bytes i 0 < 256

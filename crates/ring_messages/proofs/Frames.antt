@@ -1,55 +1,25 @@
 -- A frame that is read is the frame that was written, and each has one spelling.
 use Rattle.std.proofs.Common.{◌≡◌, ℕ, ◌+◌, ◌≤◌, List, [], ◌++◌, length, take, drop, Some, refl, sym, ap, ◌∙◌, append_assoc, arith}
-use Rattle.std.specs.Prelude.{◌==◌, if◌then◌else◌}
 use Rattle.std.proofs.lemmas.List.{take_at, drop_at, take-append-drop, length-append, append-nil, take_all}
 use Rattle.uid_names.specs.FrameKinds.{kind_number}
 use Rattle.uid_names.specs.declared.frame_kind.FrameKind.{FrameKind}
-use Rattle.uid_names.specs.declared.frame_kind.FrameKind.TheVariants as kinds
 use Rattle.ring_messages.specs.declared.body.Body.{Body}
 use Rattle.ring_messages.specs.declared.frame.Head.{Head}
 use Rattle.ring_messages.specs.Frames.{Message}
 use Rattle.ring_messages.specs.Spelling.{header, head_of, framed, spelling, body_bytes}
 use Rattle.ring_messages.specs.Spelled.{IsHead, IsFrame, Spells}
+use Rattle.uid_names.specs.declared.limits.TheConstants.{PAGE_BYTES}
 use Rattle.ring_messages.specs.Sizes.{body_size}
-use Rattle.ring_messages.specs.Reading.{body_at}
+use Rattle.ring_messages.specs.ReaderBodies.{body_at}
+use Rattle.uid_names.specs.FrameKinds.{kind_of_number}
+use Rattle.uid_names.proofs.TextTables.{kind_of_number-number}
 use Rattle.ring_messages.proofs.Fields.{IsBytes, IsBytes-drop, some_is}
 use Rattle.ring_messages.proofs.Heads.{shows, length-header}
 use Rattle.ring_messages.proofs.Bodies.{body-takes, body-again}
 use Rattle.ring_messages.proofs.Sizes.{length-body, size-bound, body-prefix}
 
--- the kind of a number
-kind_at : ℕ → FrameKind
-kind_at n =
-    if n == 1 then kinds.PageIn else if n == 2 then kinds.PageOut else if n == 3 then kinds.AttrOut else if n == 4 then kinds.Lock
-    else if n == 5 then kinds.Unlock else if n == 6 then kinds.Remove else if n == 7 then kinds.Make else if n == 8 then kinds.List
-    else if n == 129 then kinds.Page else if n == 130 then kinds.Stored else if n == 131 then kinds.Stale else if n == 132 then kinds.NoGrant
-    else if n == 133 then kinds.NoObject else if n == 134 then kinds.Granted else if n == 135 then kinds.Conflict else if n == 136 then kinds.Done
-    else if n == 137 then kinds.Made else if n == 138 then kinds.NoSpace else kinds.Listed
-
-kind_at-number : (k : FrameKind) → kind_at (kind_number k) ≡ k
-unfolding kind_at
-kind_at-number kinds.PageIn = refl
-kind_at-number kinds.PageOut = refl
-kind_at-number kinds.AttrOut = refl
-kind_at-number kinds.Lock = refl
-kind_at-number kinds.Unlock = refl
-kind_at-number kinds.Remove = refl
-kind_at-number kinds.Make = refl
-kind_at-number kinds.List = refl
-kind_at-number kinds.Page = refl
-kind_at-number kinds.Stored = refl
-kind_at-number kinds.Stale = refl
-kind_at-number kinds.NoGrant = refl
-kind_at-number kinds.NoObject = refl
-kind_at-number kinds.Granted = refl
-kind_at-number kinds.Conflict = refl
-kind_at-number kinds.Done = refl
-kind_at-number kinds.Made = refl
-kind_at-number kinds.NoSpace = refl
-kind_at-number kinds.Listed = refl
-
 kind_number-injective : (j k : FrameKind) → kind_number j ≡ kind_number k → j ≡ k
-kind_number-injective j k e = sym (kind_at-number j) ∙ ap kind_at e ∙ kind_at-number k
+kind_number-injective j k e = some_is j k (sym (kind_of_number-number j) ∙ ap kind_of_number e ∙ kind_of_number-number k)
 
 -- two headers are equal only where all fields are
 pub header-injective : (g h : Head) → IsHead g → IsHead h → header g ≡ header h → g ≡ h
@@ -131,10 +101,10 @@ no-prefix m n rest is_m is_n e =
     let heads : header (head_of m) ≡ header (head_of n) = sym (spelling-take m rest) ∙ ap (take 24) (sym e) ∙ frame-head n (spelling n) refl in
     let same = header-injective (head_of m) (head_of n) (head-is m is_m) (head-is n is_n) heads in
     let behind : drop 24 (spelling n) ≡ body_bytes n.body = ap (drop 24) (sym (append-nil (spelling n))) ∙ spelling-drop n [] ∙ append-nil (body_bytes n.body) in
-    body-prefix m.body n.body rest is_m.typed is_n.typed (ap (λ (g : Head). g.kind) same) (sym behind ∙ ap (drop 24) e ∙ spelling-drop m rest)
+    body-prefix m.to m.body n.body rest is_m.in_range.body (rw (ap (λ (g : Head). g.to) same) is_n.in_range.body) (ap (λ (g : Head). g.kind) same) (sym behind ∙ ap (drop 24) e ∙ spelling-drop m rest)
 
 pub length-spelling : (m : Message) → IsFrame m → length (spelling m) ≡ 24 + body_size m.body
-length-spelling m is = omega (arith, length-append (header (head_of m)) (body_bytes m.body), length-header (head_of m), length-body m.body is.typed)
+length-spelling m is = omega (arith, length-append (header (head_of m)) (body_bytes m.body), length-header (head_of m), length-body m.to m.body is.in_range.body)
 
-pub spelling-bound : (m : Message) → IsFrame m → length (spelling m) ≤ 1076
+pub spelling-bound : (m : Message) → IsFrame m → length (spelling m) ≤ 24 + (28 + PAGE_BYTES)
 spelling-bound m is = omega (arith, length-spelling m is, size-bound m.to m.body is.in_range.body)

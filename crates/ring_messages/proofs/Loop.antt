@@ -1,10 +1,12 @@
 -- Rows that are read one after the other, as a loop does.
 use Rattle.std.proofs.Common.{◌≡◌, ℕ, suc, ◌-◌, ◌+◌, ◌≤◌, ◌<◌, List, [], ◌∷◌, ◌++◌, Option, Some, None, refl, sym, ap, ◌∙◌, append_assoc, arith}
 use Rattle.std.proofs.lemmas.List.{append-nil}
-use Rattle.uid_names.specs.declared.lists.LockRow.{LockRow}
+use Rattle.uid_names.specs.declared.lock_row.LockRow.{LockRow}
 use Rattle.ring_messages.specs.declared.frame.FrameFault.{FrameFault}
 use Rattle.ring_messages.specs.declared.frame.FrameFault.TheVariants as faults
-use Rattle.ring_messages.specs.Reading.{◌>>=◌, Fails, pushed, row_at, rows_at, end_at}
+use Rattle.uid_names.specs.Steps.{◌>>=◌}
+use Rattle.ring_messages.specs.ReaderSteps.{Fails, end_at}
+use Rattle.ring_messages.specs.ReaderRows.{pushed, row_at, rows_at}
 
 -- the rows that were read before, and those that are still read
 abbrev pub with_front : List LockRow → Option (List LockRow × List ℕ) → Option (List LockRow × List ℕ)

@@ -7,9 +7,9 @@ use Rattle.uid_names.specs.InOrder.{AreInOrder}
 use Rattle.uid_names.proofs.InOrder.{AllPairs-head, AllPairs-tail, AllPairs-nil}
 use Rattle.uid_names.proofs.Orders.{row_lt-trans}
 use Rattle.std.proofs.lemmas.List.{length-drop}
-use Rattle.uid_names.specs.declared.lists.LockRow.{LockRow}
+use Rattle.uid_names.specs.declared.lock_row.LockRow.{LockRow}
 use Rattle.uid_names.specs.Rows.{row_lt}
-use Rattle.ring_messages.specs.Reading.{is_rising, is_rising_from}
+use Rattle.ring_messages.specs.ReaderRows.{is_rising, is_rising_from}
 
 pub and-true : (a b : Bool) → (a && b) ≡ true → (a ≡ true) × (b ≡ true)
 and-true true b e = (refl, e)

@@ -5,15 +5,15 @@ use Rattle.std.proofs.lemmas.List.{append-nil, length-append, nil_from_length}
 use Rattle.std.proofs.lemmas.List.Concat.{flat_map-cons}
 use Rattle.uid_names.specs.Names.{ProcName, ObjectName, number_of}
 use Rattle.uid_names.specs.Modes.{mode_code}
-use Rattle.uid_names.specs.declared.lists.LockRow.{LockRow}
+use Rattle.uid_names.specs.declared.lock_row.LockRow.{LockRow}
 use Rattle.uid_names.specs.declared.frame_kind.FrameKind.{FrameKind}
 use Rattle.uid_names.specs.declared.frame_kind.FrameKind.TheVariants as kinds
 use Rattle.ring_messages.specs.declared.body.Body.{Body}
 use Rattle.ring_messages.specs.declared.body.Body.TheVariants.{PageIn, PageOut, AttrOut, Lock, Unlock, Remove, Make, List as ListLocks, Page, Stored, Stale, NoGrant, NoObject, Granted, Conflict, Done, Made, NoSpace, Listed}
 use Rattle.ring_messages.specs.Bodies.{kind_of}
+use Rattle.uid_names.specs.declared.limits.TheConstants.{PAGE_BYTES}
 use Rattle.ring_messages.specs.Ranges.{IsBody}
 use Rattle.ring_messages.specs.Spelling.{be64, proc_bytes, row_bytes, after_bytes, body_bytes}
-use Rattle.ring_messages.specs.Spelled.{IsTypedBody}
 use Rattle.ring_messages.specs.Sizes.{body_size}
 use Rattle.ring_messages.proofs.Fields.{length-be32, length-be64}
 
@@ -27,28 +27,28 @@ length-after : (after : Option (ObjectName × ProcName)) → length (after_bytes
 length-after None = refl
 length-after (Some (u, p)) = omega (arith, length-append (be64 (number_of u)) (proc_bytes p), length-be64 (number_of u))
 
-pub length-body : (b : Body) → IsTypedBody b → length (body_bytes b) ≡ body_size b
-length-body (PageIn u page) typed = simp (length-append, length-be64, length-be32)
-length-body (PageOut u page grant base bytes) typed = simp (length-append, length-be64, length-be32, typed.3.len)
-length-body (AttrOut u n grant base) typed = simp (length-append, length-be64, length-be32)
-length-body (Lock u m) typed = simp (length-append, length-be64)
-length-body (Unlock u) typed = simp length-be64
-length-body (Remove u) typed = simp length-be64
-length-body (Make kind room) typed = simp length-be32
-length-body (ListLocks after) typed = length-after after
-length-body (Page stamp bytes) typed = simp (length-append, length-be64, typed.1.len)
-length-body (Stored stamp) typed = simp length-be64
-length-body (Stale stamp) typed = simp length-be64
-length-body NoGrant typed = refl
-length-body NoObject typed = refl
-length-body (Granted grant stamp kind room n) typed = simp (length-append, length-be64, length-be32)
-length-body (Conflict p m) typed = refl
-length-body Done typed = refl
-length-body (Made u) typed = simp length-be64
-length-body NoSpace typed = refl
-length-body (Listed rows more) typed = omega (arith, length-rows rows)
+pub length-body : (to : ℕ) (b : Body) → IsBody to b → length (body_bytes b) ≡ body_size b
+length-body to (PageIn u page) is = simp (length-append, length-be64, length-be32)
+length-body to (PageOut u page grant base bytes) is = simp (length-append, length-be64, length-be32, is.4)
+length-body to (AttrOut u n grant base) is = simp (length-append, length-be64, length-be32)
+length-body to (Lock u m) is = simp (length-append, length-be64)
+length-body to (Unlock u) is = simp length-be64
+length-body to (Remove u) is = simp length-be64
+length-body to (Make kind room) is = simp length-be32
+length-body to (ListLocks after) is = length-after after
+length-body to (Page stamp bytes) is = simp (length-append, length-be64, is.1)
+length-body to (Stored stamp) is = simp length-be64
+length-body to (Stale stamp) is = simp length-be64
+length-body to NoGrant is = refl
+length-body to NoObject is = refl
+length-body to (Granted grant stamp kind room n) is = simp (length-append, length-be64, length-be32)
+length-body to (Conflict p m) is = refl
+length-body to Done is = refl
+length-body to (Made u) is = simp length-be64
+length-body to NoSpace is = refl
+length-body to (Listed rows more) is = omega (arith, length-rows rows)
 
-pub size-bound : (to : ℕ) (b : Body) → IsBody to b → body_size b ≤ 1052
+pub size-bound : (to : ℕ) (b : Body) → IsBody to b → body_size b ≤ 28 + PAGE_BYTES
 size-bound to (PageIn u page) is = omega arith
 size-bound to (PageOut u page grant base bytes) is = omega arith
 size-bound to (AttrOut u n grant base) is = omega arith
@@ -72,14 +72,14 @@ size-bound to (Listed rows more) is = omega (arith, is.0)
 -- the size by the kind and, for rows, the first byte
 size_of : FrameKind → ℕ → ℕ
 size_of kinds.PageIn first = 12
-size_of kinds.PageOut first = 1052
+size_of kinds.PageOut first = 28 + PAGE_BYTES
 size_of kinds.AttrOut first = 28
 size_of kinds.Lock first = 9
 size_of kinds.Unlock first = 8
 size_of kinds.Remove first = 8
 size_of kinds.Make first = 5
 size_of kinds.List first = 11
-size_of kinds.Page first = 1032
+size_of kinds.Page first = 8 + PAGE_BYTES
 size_of kinds.Stored first = 8
 size_of kinds.Stale first = 8
 size_of kinds.NoGrant first = 0
@@ -115,9 +115,9 @@ size-of NoSpace rest = refl
 size-of (Listed rows more) rest = refl
 
 -- no body begins another of its kind
-pub body-prefix : (b c : Body) (rest : List ℕ) → IsTypedBody b → IsTypedBody c → kind_of b ≡ kind_of c → body_bytes c ≡ body_bytes b ++ rest → rest ≡ []
-body-prefix b c rest typed_b typed_c same_kind e =
+pub body-prefix : (to : ℕ) (b c : Body) (rest : List ℕ) → IsBody to b → IsBody to c → kind_of b ≡ kind_of c → body_bytes c ≡ body_bytes b ++ rest → rest ≡ []
+body-prefix to b c rest is_b is_c same_kind e =
     let nothing : body_bytes c ++ [] ≡ body_bytes b ++ rest = append-nil (body_bytes c) ∙ e in
     let same : body_size b ≡ body_size c =
     sym (size-of b rest) ∙ ap (λ (k : FrameKind). size_of k (get_or (body_bytes b ++ rest) 0 0)) same_kind ∙ ap (λ (r : List ℕ). size_of (kind_of c) (get_or r 0 0)) (sym nothing) ∙ size-of c [] in
-    nil_from_length rest (omega (arith, length-append (body_bytes b) rest, ap length e, length-body b typed_b, length-body c typed_c))
+    nil_from_length rest (omega (arith, length-append (body_bytes b) rest, ap length e, length-body to b is_b, length-body to c is_c))

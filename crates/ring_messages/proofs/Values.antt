@@ -6,29 +6,36 @@ use Rattle.std.proofs.lemmas.Bool.{ltb-false, le-ltb}
 use Rattle.std.proofs.lemmas.Bool.Decides.{nat_tests}
 use Rattle.std.proofs.lemmas.List.{take_at, drop_at, take-append-drop, length-append, length-take, get_or_default}
 use Rattle.std.proofs.lemmas.List.Concat.{flat_map-cons}
-use Rattle.uid_names.specs.Names.{ProcName, ObjectName, IsName, number_of}
+use Rattle.uid_names.specs.Names.{ProcName, ObjectName, IsName, number_of, IsProcName}
 use Rattle.uid_names.specs.Modes.{mode_code, object_code}
-use Rattle.uid_names.specs.declared.lists.LockRow.{LockRow}
+use Rattle.uid_names.specs.declared.lock_row.LockRow.{LockRow}
 use Rattle.uid_names.specs.declared.mode.Mode.{Mode}
 use Rattle.uid_names.specs.declared.mode.ObjKind.{ObjKind}
 use Rattle.ring_messages.specs.Spelling.{be32, be64, uid_bytes, proc_bytes, flag, row_bytes}
-use Rattle.ring_messages.specs.Spelled.{IsProc, IsRow, IsPageBytes}
-use Rattle.ring_messages.specs.Reading.{◌>>=◌, ◌then◌, bytes_at, page_at, length_at, room_at, count_at, name_of, is_name, uid_of, own_of, proc_of, mode_of, object_of, flag_of, uid_at, own_at, proc_at, mode_at, object_at, flag_at, row_of, row_at, rows_at}
-use Rattle.ring_messages.proofs.Codes.{mode_of_code, mode_of_back, object_of_code, object_of_back}
+use Rattle.uid_names.specs.declared.limits.TheConstants.{PAGE_BYTES, WRITTEN_ROOM}
+use Rattle.ring_messages.specs.declared.limits.TheConstants.{WRITTEN_LENGTH}
+use Rattle.ring_messages.specs.Ranges.{IsWhole}
+use Rattle.ring_messages.specs.Spelled.{IsRow, AreBytes}
+use Rattle.uid_names.specs.Modes.{mode_of_code, object_of_code}
+use Rattle.uid_names.specs.Steps.{◌>>=◌}
+use Rattle.ring_messages.specs.ReaderSteps.{◌then◌}
+use Rattle.ring_messages.specs.ReaderFields.{bytes_at, page_at, length_at, room_at, count_at, name_of, is_name, uid_of, own_of, proc_of, flag_of, uid_at, own_at, proc_at, mode_at, object_at, flag_at}
+use Rattle.ring_messages.specs.ReaderRows.{row_of, row_at, rows_at}
+use Rattle.uid_names.proofs.Codes.{mode_of_code-code, mode_of_code-found, mode_code-small, object_of_code-code, object_of_code-found, object_code-small}
 use Rattle.ring_messages.proofs.Rising.{and-true}
 use Rattle.ring_messages.proofs.Fields.{IsBytes, IsBytes-take, IsBytes-rest, bind_some, if_some, unless_some, some_is, IsField, field-then, field-passing, field-meaning, field-byte, field-be32, field-be64}
 
-pub field-page : IsField be32 (λ n. (n < 2 ^ 32) × (n < 1024)) page_at
+pub field-page : IsField be32 (λ n. (n < 2 ^ 32) × (n < WRITTEN_ROOM)) page_at
 unfolding page_at
-field-page = field-passing (λ n. nat_lt n 1024) (λ n. n < 1024) (λ n h. grind (arith, nat_tests)) (λ n h. grind (arith, nat_tests)) field-be32
+field-page = field-passing (λ n. nat_lt n WRITTEN_ROOM) (λ n. n < WRITTEN_ROOM) (λ n h. grind (arith, nat_tests)) (λ n h. grind (arith, nat_tests)) field-be32
 
-pub field-length : IsField be32 (λ n. (n < 2 ^ 32) × (n ≤ 1048576)) length_at
+pub field-length : IsField be32 (λ n. (n < 2 ^ 32) × (n ≤ WRITTEN_LENGTH)) length_at
 unfolding length_at
-field-length = field-passing (λ n. nat_le n 1048576) (λ n. n ≤ 1048576) (λ n h. grind (arith, nat_tests)) (λ n h. grind (arith, nat_tests)) field-be32
+field-length = field-passing (λ n. nat_le n WRITTEN_LENGTH) (λ n. n ≤ WRITTEN_LENGTH) (λ n h. grind (arith, nat_tests)) (λ n h. grind (arith, nat_tests)) field-be32
 
-pub field-room : IsField be32 (λ n. (n < 2 ^ 32) × ((1 ≤ n) × (n ≤ 1024))) room_at
+pub field-room : IsField be32 (λ n. (n < 2 ^ 32) × ((1 ≤ n) × (n ≤ WRITTEN_ROOM))) room_at
 unfolding room_at
-field-room = field-passing (λ n. nat_le 1 n && nat_le n 1024) (λ n. (1 ≤ n) × (n ≤ 1024)) (λ n h. grind (arith, nat_tests, h.0, h.1)) (λ n h. (grind (arith, nat_tests), grind (arith, nat_tests))) field-be32
+field-room = field-passing (λ n. nat_le 1 n && nat_le n WRITTEN_ROOM) (λ n. (1 ≤ n) × (n ≤ WRITTEN_ROOM)) (λ n h. grind (arith, nat_tests, h.0, h.1)) (λ n h. (grind (arith, nat_tests), grind (arith, nat_tests))) field-be32
 
 pub field-count : IsField be64 (λ n. (n < 2 ^ 64) × (1 ≤ n)) count_at
 unfolding count_at
@@ -83,14 +90,14 @@ field-own home = field-meaning (own_of home) number_of (λ u. IsName u × (u.hom
 
 -- ---- processes, modes and flags
 
-pub proc_of-again : (p : ProcName) → IsProc p → proc_of p.node p.number ≡ Some p
+pub proc_of-again : (p : ProcName) → IsProcName p → proc_of p.node p.number ≡ Some p
 unfolding proc_of
 proc_of-again p is =
     let node : (nat_le 1 p.node && nat_le p.node 8) ≡ true = grind (arith, nat_tests, is.node.0, is.node.1) in
-    let number : (nat_le 1 p.number && nat_le p.number 4) ≡ true = grind (arith, nat_tests, is.number_low, is.number_high) in
+    let number : (nat_le 1 p.number && nat_le p.number 4) ≡ true = grind (arith, nat_tests, is.number.0, is.number.1) in
     rw (node, number) refl
 
-pub proc_of-takes : (node number : ℕ) (p : ProcName) → proc_of node number ≡ Some p → (node ≡ p.node) × (number ≡ p.number) × IsProc p
+pub proc_of-takes : (node number : ℕ) (p : ProcName) → proc_of node number ≡ Some p → (node ≡ p.node) × (number ≡ p.number) × IsProcName p
 unfolding proc_of
 proc_of-takes node number p e =
     let made : ProcName = record { node = node; number = number } in
@@ -98,31 +105,25 @@ proc_of-takes node number p e =
     let a = and-true (nat_le 1 node && nat_le node 8) (nat_le 1 number && nat_le number 4) g.0 in
     let b = and-true (nat_le 1 node) (nat_le node 8) a.0 in
     let c = and-true (nat_le 1 number) (nat_le number 4) a.1 in
-    let is : IsProc made = record { node = (grind (arith, nat_tests, b.0), grind (arith, nat_tests, b.1)); number_low = grind (arith, nat_tests, c.0); number_high = grind (arith, nat_tests, c.1) } in
-    subst (λ (q : ProcName). (node ≡ q.node) × (number ≡ q.number) × IsProc q) g.1 (refl, refl, is)
+    let is : IsProcName made = record { node = (grind (arith, nat_tests, b.0), grind (arith, nat_tests, b.1)); number = (grind (arith, nat_tests, c.0), grind (arith, nat_tests, c.1)) } in
+    subst (λ (q : ProcName). (node ≡ q.node) × (number ≡ q.number) × IsProcName q) g.1 (refl, refl, is)
 
-proc-means : (p : ProcName) → IsProc p → ((p.node < 256) × (p.number < 256)) × (proc_of p.node p.number ≡ Some p)
-proc-means p is = ((omega (arith, is.node.1), omega (arith, is.number_high)), proc_of-again p is)
+proc-means : (p : ProcName) → IsProcName p → ((p.node < 256) × (p.number < 256)) × (proc_of p.node p.number ≡ Some p)
+proc-means p is = ((omega (arith, is.node.1), omega (arith, is.number.1)), proc_of-again p is)
 
-proc-meant : (x : ℕ × ℕ) (p : ProcName) → (x.0 < 256) × (x.1 < 256) → proc_of x.0 x.1 ≡ Some p → (x ≡ (p.node, p.number)) × IsProc p
+proc-meant : (x : ℕ × ℕ) (p : ProcName) → (x.0 < 256) × (x.1 < 256) → proc_of x.0 x.1 ≡ Some p → (x ≡ (p.node, p.number)) × IsProcName p
 proc-meant x p small e =
     let t = proc_of-takes x.0 x.1 p e in
     (ap (λ (n : ℕ). (n, x.1)) t.0 ∙ ap (λ (n : ℕ). (p.node, n)) t.1, t.2)
 
-pub field-proc : IsField proc_bytes IsProc proc_at
-field-proc = field-meaning (λ (x : ℕ × ℕ). proc_of x.0 x.1) (λ p. (p.node, p.number)) IsProc proc-means proc-meant (field-then field-byte field-byte)
-
-mode-small : (m : Mode) → mode_code m < 256
-mode-small m = grind arith
+pub field-proc : IsField proc_bytes IsProcName proc_at
+field-proc = field-meaning (λ (x : ℕ × ℕ). proc_of x.0 x.1) (λ p. (p.node, p.number)) IsProcName proc-means proc-meant (field-then field-byte field-byte)
 
 pub field-mode : IsField (λ m. mode_code m ∷ []) (λ m. Unit {0}) mode_at
-field-mode = field-meaning mode_of mode_code (λ m. Unit {0}) (λ m u. (mode-small m, mode_of_code m)) (λ n m small e. (mode_of_back n m e, tt)) field-byte
-
-object-small : (k : ObjKind) → object_code k < 256
-object-small k = grind arith
+field-mode = field-meaning mode_of_code mode_code (λ m. Unit {0}) (λ m u. (mode_code-small m, mode_of_code-code m)) (λ n m small e. (sym (mode_of_code-found n m e), tt)) field-byte
 
 pub field-object : IsField (λ k. object_code k ∷ []) (λ k. Unit {0}) object_at
-field-object = field-meaning object_of object_code (λ k. Unit {0}) (λ k u. (object-small k, object_of_code k)) (λ n k small e. (object_of_back n k e, tt)) field-byte
+field-object = field-meaning object_of_code object_code (λ k. Unit {0}) (λ k u. (object_code-small k, object_of_code-code k)) (λ n k small e. (sym (object_of_code-found n k e), tt)) field-byte
 
 flag-again : (b : Bool) → (flag b < 256) × (flag_of (flag b) ≡ Some b)
 unfolding flag_of
@@ -139,26 +140,31 @@ field-flag = field-meaning flag_of flag (λ b. Unit {0}) (λ b u. flag-again b) 
 
 -- ---- the bytes of a page
 
+-- a page as it is read: whole, and of bytes
+pub record IsPageBytes (bytes : List ℕ) : Type 0 where
+  pub len : IsWhole bytes
+  pub small : AreBytes bytes
+
 All-from_small : (bytes : List ℕ) → IsBytes bytes → All (λ b. b < 256) bytes
 All-from_small bytes small k d below = subst (λ (b : ℕ). b < 256) (get_or_default bytes k 0 d below) (small k)
 
 bytes-again : (bytes rest : List ℕ) → IsPageBytes bytes → bytes_at (bytes ++ rest) ≡ Some (bytes, rest)
 unfolding bytes_at
 bytes-again bytes rest is =
-    let long : nat_lt (length (bytes ++ rest)) 1024 ≡ false = le-ltb _ _ (omega (arith, length-append bytes rest, is.len)) in
-    rw (long, take_at bytes rest 1024 is.len, drop_at bytes rest 1024 is.len) refl
+    let long : nat_lt (length (bytes ++ rest)) PAGE_BYTES ≡ false = le-ltb _ _ (omega (arith, length-append bytes rest, is.len)) in
+    rw (long, take_at bytes rest PAGE_BYTES is.len, drop_at bytes rest PAGE_BYTES is.len) refl
 
 bytes-takes : (bytes : List ℕ) (x : List ℕ × List ℕ) → IsBytes bytes → bytes_at bytes ≡ Some x → (bytes ≡ x.0 ++ x.1) × IsPageBytes x.0
 unfolding bytes_at
 bytes-takes bytes x small e =
-    let read : List ℕ × List ℕ = (take 1024 bytes, drop 1024 bytes) in
-    let g = unless_some (nat_lt (length bytes) 1024) read x e in
-    let long : 1024 ≤ length bytes = ltb-false _ _ g.0 in
-    let is : IsPageBytes (take 1024 bytes) = record {
-      len = omega (arith, length-take 1024 bytes);
-      small = All-from_small (take 1024 bytes) (IsBytes-take 1024 bytes small);
+    let read : List ℕ × List ℕ = (take PAGE_BYTES bytes, drop PAGE_BYTES bytes) in
+    let g = unless_some (nat_lt (length bytes) PAGE_BYTES) read x e in
+    let long : PAGE_BYTES ≤ length bytes = ltb-false _ _ g.0 in
+    let is : IsPageBytes (take PAGE_BYTES bytes) = record {
+      len = omega (arith, length-take PAGE_BYTES bytes);
+      small = All-from_small (take PAGE_BYTES bytes) (IsBytes-take PAGE_BYTES bytes small);
     } in
-    subst (λ (y : List ℕ × List ℕ). (bytes ≡ y.0 ++ y.1) × IsPageBytes y.0) g.1 (sym (take-append-drop 1024 bytes), is)
+    subst (λ (y : List ℕ × List ℕ). (bytes ≡ y.0 ++ y.1) × IsPageBytes y.0) g.1 (sym (take-append-drop PAGE_BYTES bytes), is)
 
 pub field-bytes : IsField (λ bytes. bytes) IsPageBytes bytes_at
 field-bytes = record { again = bytes-again; takes = bytes-takes }
@@ -170,18 +176,18 @@ unfolding row_of
 row-means row is =
     let u = uid-means row.uid is.uid in
     let p = proc-means row.proc is.proc in
-    ((u.0, (p.0.0, (p.0.1, mode-small row.mode))), rw u.1 (rw p.1 (rw (mode_of_code row.mode) refl)))
+    ((u.0, (p.0.0, (p.0.1, mode_code-small row.mode))), rw u.1 (rw p.1 (rw (mode_of_code-code row.mode) refl)))
 
 row-meant : (x : ℕ × (ℕ × (ℕ × ℕ))) (row : LockRow) → (x.0 < 2 ^ 64) × ((x.1.0 < 256) × ((x.1.1.0 < 256) × (x.1.1.1 < 256))) → row_of x.0 x.1.0 x.1.1.0 x.1.1.1 ≡ Some row → (x ≡ (number_of row.uid, (row.proc.node, (row.proc.number, mode_code row.mode)))) × IsRow row
 unfolding row_of
 row-meant x row small e =
-    let u = bind_some (uid_of x.0) (λ u. proc_of x.1.0 x.1.1.0 >>= λ p. mode_of x.1.1.1 >>= λ m. Some (record { uid = u; proc = p; mode = m })) row e in
-    let p = bind_some (proc_of x.1.0 x.1.1.0) (λ p. mode_of x.1.1.1 >>= λ m. Some (record { uid = u.0; proc = p; mode = m })) row u.2 in
-    let m = bind_some (mode_of x.1.1.1) (λ m. Some (record { uid = u.0; proc = p.0; mode = m })) row p.2 in
+    let u = bind_some (uid_of x.0) (λ u. proc_of x.1.0 x.1.1.0 >>= λ p. mode_of_code x.1.1.1 >>= λ m. Some (record { uid = u; proc = p; mode = m })) row e in
+    let p = bind_some (proc_of x.1.0 x.1.1.0) (λ p. mode_of_code x.1.1.1 >>= λ m. Some (record { uid = u.0; proc = p; mode = m })) row u.2 in
+    let m = bind_some (mode_of_code x.1.1.1) (λ m. Some (record { uid = u.0; proc = p.0; mode = m })) row p.2 in
     let made : LockRow = record { uid = u.0; proc = p.0; mode = m.0 } in
     let um = uid-meant x.0 u.0 small.0 u.1 in
     let pm = proc_of-takes x.1.0 x.1.1.0 p.0 p.1 in
-    let mm = mode_of_back x.1.1.1 m.0 m.1 in
+    let mm = sym (mode_of_code-found x.1.1.1 m.0 m.1) in
     let parts : x ≡ (number_of u.0, (p.0.node, (p.0.number, mode_code m.0))) = rw (← um.0, ← pm.0, ← pm.1, ← mm) refl in
     subst (λ (r : LockRow). (x ≡ (number_of r.uid, (r.proc.node, (r.proc.number, mode_code r.mode)))) × IsRow r) (some_is made row m.2) (parts, record { uid = um.1; proc = pm.2 })
 

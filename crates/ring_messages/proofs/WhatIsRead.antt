@@ -11,7 +11,9 @@ use Rattle.ring_messages.specs.Frames.{Message}
 use Rattle.ring_messages.specs.Ranges.{IsBody}
 use Rattle.ring_messages.specs.Spelling.{header, framed, spelling}
 use Rattle.ring_messages.specs.Spelled.{IsHead, IsFrame, Spells}
-use Rattle.ring_messages.specs.Reading.{◌>>=◌, Fails, Gives, body_at, frame_at}
+use Rattle.uid_names.specs.Steps.{◌>>=◌}
+use Rattle.ring_messages.specs.ReaderSteps.{Fails, Gives}
+use Rattle.ring_messages.specs.ReaderBodies.{body_at, frame_at}
 use Rattle.ring_messages.proofs.Fields.{IsBytes, IsBytes-drop, bind_some, some_is}
 use Rattle.ring_messages.proofs.Bodies.{body-takes}
 use Rattle.ring_messages.proofs.Frames.{frame-takes, frame-again}

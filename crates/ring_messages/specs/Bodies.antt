@@ -1,7 +1,7 @@
 -- What a frame carries: what a call asks of a home, or what a home answers.
 use Rattle.std.specs.Prelude.{ℕ, Bool, nat_lt, List, Option, Some, None}
 use Rattle.uid_names.specs.Names.{ProcName, ObjectName}
-use Rattle.uid_names.specs.declared.lists.LockRow.{LockRow}
+use Rattle.uid_names.specs.declared.lock_row.LockRow.{LockRow}
 use Rattle.uid_names.specs.declared.mode.Mode.{Mode}
 use Rattle.uid_names.specs.declared.mode.ObjKind.{ObjKind}
 use Rattle.uid_names.specs.FrameKinds.{kind_number}

@@ -4,4 +4,7 @@ pub mod Frames
 pub mod Spelling
 pub mod Spelled
 pub mod Sizes
-pub mod Reading
+pub mod ReaderSteps
+pub mod ReaderFields
+pub mod ReaderRows
+pub mod ReaderBodies

@@ -5,7 +5,7 @@ use Rattle.byteorder.specs.Endian.{big_bytes}
 use Rattle.uid_names.specs.Names.{ProcName, ObjectName, number_of}
 use Rattle.uid_names.specs.Modes.{mode_code, object_code}
 use Rattle.uid_names.specs.FrameKinds.{kind_number}
-use Rattle.uid_names.specs.declared.lists.LockRow.{LockRow}
+use Rattle.uid_names.specs.declared.lock_row.LockRow.{LockRow}
 use Rattle.ring_messages.specs.declared.body.Body.{Body}
 use Rattle.ring_messages.specs.declared.body.Body.TheVariants.{PageIn, PageOut, AttrOut, Lock, Unlock, Remove, Make, List as ListLocks, Page, Stored, Stale, NoGrant, NoObject, Granted, Conflict, Done, Made, NoSpace, Listed}
 use Rattle.ring_messages.specs.declared.frame.Head.{Head}

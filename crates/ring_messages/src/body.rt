@@ -3,7 +3,7 @@ ghost use Rattle.std.specs.Prelude.{◌≡◌, IfOk, OnErr, IsTrue, IsFalse};
 ghost use Rattle.ring_messages.specs.Bodies.{kind_of, is_request as asks};
 
 use std::alloc::Global;
-use uid_names::{FrameKind, LockRows, Mode, NoMemory, ObjKind, ProcId, Uid};
+use uid_names::{FrameKind, LockRows, Mode, NoMemory, ObjKind, PAGE_BYTES, ProcId, Uid};
 
 /// A request to a home, or a reply of one: the first eight are the requests. Rooms are in pages,
 /// lengths in bytes.
@@ -18,7 +18,7 @@ pub enum Body {
         page: u32,
         grant: u64,
         base: u64,
-        bytes: [u8; 1024],
+        bytes: [u8; PAGE_BYTES],
     },
     AttrOut {
         uid: Uid,
@@ -46,7 +46,7 @@ pub enum Body {
     },
     Page {
         stamp: u64,
-        bytes: [u8; 1024],
+        bytes: [u8; PAGE_BYTES],
     },
     Stored {
         stamp: u64,

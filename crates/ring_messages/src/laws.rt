@@ -3,9 +3,13 @@ ghost use Rattle.std.specs.Prelude.{◌≡◌, ◌+◌, ◌≤◌, ◌++◌, Lis
 ghost use Rattle.ring_messages.specs.declared.body.Body.{Body};
 ghost use Rattle.ring_messages.specs.Bodies.{Ask, Answer, body_of_ask, body_of_answer, ask_of, answer_of, is_request};
 ghost use Rattle.ring_messages.specs.Frames.{Message};
+ghost use Rattle.uid_names.specs.declared.limits.TheConstants.{PAGE_BYTES};
 ghost use Rattle.ring_messages.specs.Sizes.{body_size};
 ghost use Rattle.ring_messages.specs.Spelled.{IsFrame, IsHead, Spells};
 ghost use Rattle.ring_messages.specs.Spelling.{header, head_of, spelling};
+
+use crate::body::Body;
+use crate::frame::Frame;
 
 /// Each frame has one spelling, no two frames have one, and none is the beginning of another.
 pub fn frames_have_one_spelling()
@@ -13,12 +17,12 @@ pub fn frames_have_one_spelling()
     ensures prefix { (m n : Message) (rest : List ℕ) → IsFrame m → IsFrame n → spelling n ≡ spelling m ++ rest → rest ≡ [] }
 {}
 
-/// A spelling begins with its header, and the longest has 1,076 bytes.
+/// A spelling begins with its header, and the longest is that of a page-out.
 pub fn spellings_have_their_parts()
     ensures head { (m : Message) → IsFrame m → IsHead (head_of m) }
     ensures begins { (m : Message) → take 24 (spelling m) ≡ header (head_of m) }
     ensures length { (m : Message) → IsFrame m → length (spelling m) ≡ 24 + body_size m.body }
-    ensures longest { (m : Message) → IsFrame m → length (spelling m) ≤ 1076 }
+    ensures longest { (m : Message) → IsFrame m → length (spelling m) ≤ 24 + (28 + PAGE_BYTES) }
 {}
 
 /// A body asks one thing of a home or answers one thing.
@@ -28,3 +32,12 @@ pub fn bodies_ask_or_answer()
     ensures asked { (b : Body) (ask : Ask) → ask_of b ≡ Some ask → (b ≡ body_of_ask ask) × (is_request b ≡ true) }
     ensures answered { (b : Body) (answer : Answer) → answer_of b ≡ Some answer → (b ≡ body_of_answer answer) × (is_request b ≡ false) }
 {}
+
+/// Threads may hand each other frames and bodies.
+pub fn frames_may_cross_threads() {
+    may_cross_threads::<Frame>();
+    may_cross_threads::<Body>();
+}
+
+/// Threads may hand each other values of this type.
+fn may_cross_threads<T: Send>() {}

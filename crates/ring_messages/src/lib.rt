@@ -4,6 +4,7 @@
 pub mod body;
 pub mod frame;
 pub mod laws;
+pub mod limits;
 mod reading;
 #[cfg(test)]
 mod tests;

@@ -9,7 +9,8 @@ ghost use Rattle.ring_messages.specs.Frames.{Message};
 ghost use Rattle.ring_messages.specs.Ranges.{IsBody};
 ghost use Rattle.ring_messages.specs.Spelling.{header, framed, spelling};
 ghost use Rattle.ring_messages.specs.Spelled.{IsHead, IsFrame, Spells};
-ghost use Rattle.ring_messages.specs.Reading.{Gives, empty_at, body_at, frame_at};
+ghost use Rattle.ring_messages.specs.ReaderSteps.{Gives};
+ghost use Rattle.ring_messages.specs.ReaderBodies.{empty_at, body_at, frame_at};
 
 mod fields;
 mod replies;

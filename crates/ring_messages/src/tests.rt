@@ -1,7 +1,8 @@
 use super::*;
+use samples::{node, object, proc};
 use std::alloc::Global;
 use std::test::Fail;
-use uid_names::{ByteList, FrameKind, LockRow, LockRows, Mode, NodeId, ProcId, Uid};
+use uid_names::{ByteList, FrameKind, LockRow, LockRows, Mode, ProcId};
 
 /// Node 1 to node 2, process 1, call 1, tick 1: a lock of the object of counter 2 at node 2, to write.
 const LOCK: [u8; 33] = [
@@ -235,14 +236,10 @@ fn is_read_again(alloc: Global, bytes: &[u8]) -> Result<bool, Fail> {
     Ok(again.bytes() == bytes)
 }
 
-fn node(number: u8) -> Result<NodeId, Fail> {
-    Ok(NodeId::new(number).ok_or("no such node")?)
-}
-
 #[test]
 fn a_lock_frame_has_its_33_bytes(rt: HostRuntime) -> Result<(), Fail> {
     let (from, to) = (node(1)?, node(2)?);
-    let uid = Uid::from_parts(2, to);
+    let uid = object(2, 2)?;
     let body = Body::Lock {
         uid,
         mode: Mode::Write,
@@ -361,9 +358,9 @@ fn a_reply_has_64_rows_and_not_65(rt: HostRuntime) -> Result<(), Fail> {
 #[test]
 fn a_body_is_copied(rt: HostRuntime) -> Result<(), Fail> {
     let mut rows = LockRows::new(rt.alloc());
-    let proc = ProcId::new(node(3)?, 4).ok_or("no such process")?;
+    let proc = proc(3, 4)?;
     let row = LockRow {
-        uid: Uid::from_parts(2, node(1)?),
+        uid: object(2, 1)?,
         proc,
         mode: Mode::Read,
     };

@@ -1,19 +1,19 @@
 //! Writing frames.
 ghost use Rattle.std.specs.Prelude.{◌≡◌, ◌+◌, ◌++◌, List, [], ◌∷◌, length, All, IsTrue, IsFalse, IfOk, OnOk};
 ghost use Rattle.std.specs.List.{flat_map};
-ghost use Rattle.uid_names.specs.Names.{IsName};
+ghost use Rattle.uid_names.specs.Names.{IsName, IsProcName};
 ghost use Rattle.ring_messages.specs.Bodies.{is_request};
 ghost use Rattle.ring_messages.specs.Frames.{IsInRange};
 ghost use Rattle.ring_messages.specs.Ranges.{IsBody};
 ghost use Rattle.ring_messages.specs.Spelling.{be32, be64, uid_bytes, proc_bytes, row_bytes, after_bytes, body_bytes, header, head_of, spelling};
-ghost use Rattle.ring_messages.specs.Spelled.{IsProc, IsRow, IsPageBytes, IsAfter, IsTypedBody, IsHead, Spells};
+ghost use Rattle.ring_messages.specs.Spelled.{IsRow, AreBytes, IsAfter, IsTypedBody, IsHead, Spells};
 ghost use Rattle.ring_messages.specs.Sizes.{body_size};
 
 use crate::body::Body;
 use crate::frame::Frame;
 use byteorder::{BigEndian, ByteOrder};
 use std::alloc::Global;
-use uid_names::{ByteList, LockRow, Mode, NoMemory, ProcId, Uid};
+use uid_names::{ByteList, LockRow, Mode, NoMemory, PAGE_BYTES, ProcId, Uid};
 
 #[tactic(auto, unfolding(crate::specs::Spelling::be32))]
 fn put_u32(out: &mut ByteList, n: u32) -> Result<(), NoMemory>
@@ -42,7 +42,7 @@ fn put_uid(out: &mut ByteList, uid: Uid) -> Result<(), NoMemory>
 
 fn put_proc(out: &mut ByteList, proc: ProcId) -> Result<(), NoMemory>
     ensures text { OnOk result (out.new ≡ out.old ++ proc_bytes proc) }
-    ensures is_proc { OnOk result (IsProc proc) }
+    ensures is_proc { OnOk result (IsProcName proc) }
 {
     out.extend(&[proc.node().number(), proc.number()])
 }
@@ -66,9 +66,9 @@ fn put_rows(out: &mut ByteList, rows: &[LockRow]) -> Result<(), NoMemory>
     Ok(())
 }
 
-fn put_page(out: &mut ByteList, bytes: &[u8; 1024]) -> Result<(), NoMemory>
+fn put_page(out: &mut ByteList, bytes: &[u8; PAGE_BYTES]) -> Result<(), NoMemory>
     ensures text { OnOk result (out.new ≡ out.old ++ bytes.now) }
-    ensures is_page { OnOk result (IsPageBytes bytes.now) }
+    ensures are_bytes { OnOk result (AreBytes bytes.now) }
 {
     out.extend(bytes)
 }
@@ -217,13 +217,13 @@ fn size_of(frame: &Frame) -> usize
 {
     let behind = match frame.body() {
         Body::PageIn { .. } => 12,
-        Body::PageOut { .. } => 1052,
+        Body::PageOut { .. } => 28 + PAGE_BYTES,
         Body::AttrOut { .. } => 28,
         Body::Lock { .. } => 9,
         Body::Unlock { .. } | Body::Remove { .. } | Body::Made { .. } => 8,
         Body::Make { .. } => 5,
         Body::List { .. } => 11,
-        Body::Page { .. } => 1032,
+        Body::Page { .. } => 8 + PAGE_BYTES,
         Body::Stored { .. } | Body::Stale { .. } => 8,
         Body::NoGrant | Body::NoObject | Body::Done | Body::NoSpace => 0,
         Body::Granted { .. } => 25,

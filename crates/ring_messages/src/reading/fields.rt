@@ -1,14 +1,17 @@
 //! Fields of a frame. One that is read from the front of bytes answers its value and the bytes
 //! behind it.
 ghost use Rattle.std.specs.Prelude.{◌≡◌, ◌≤◌};
-ghost use Rattle.ring_messages.specs.Reading.{Gives, end_at, byte_at, be32_at, be64_at, bytes_at, page_at, length_at, room_at, count_at, uid_of, own_of, proc_of, mode_of, object_of, flag_of};
+ghost use Rattle.uid_names.specs.Modes.{mode_of_code, object_of_code};
+ghost use Rattle.ring_messages.specs.ReaderSteps.{Gives, end_at};
+ghost use Rattle.ring_messages.specs.ReaderFields.{byte_at, be32_at, be64_at, bytes_at, page_at, length_at, room_at, count_at, uid_of, own_of, proc_of, flag_of};
 
 use crate::frame::FrameFault;
+use crate::limits::WRITTEN_LENGTH;
 use byteorder::{BigEndian, ByteOrder};
-use uid_names::{MAX_ROOM, Mode, NodeId, ObjKind, ProcId, Uid};
+use uid_names::{Mode, NodeId, ObjKind, PAGE_BYTES, ProcId, Uid, WRITTEN_ROOM};
 
 /// Nothing is left.
-#[tactic(auto, unfolding(crate::specs::Reading::end_at))]
+#[tactic(auto, unfolding(crate::specs::ReaderSteps::end_at))]
 pub(super) fn end(bytes: &[u8]) -> Result<(), FrameFault>
     ensures { Gives (λ x. x) result (end_at bytes.now) }
 {
@@ -19,7 +22,7 @@ pub(super) fn end(bytes: &[u8]) -> Result<(), FrameFault>
     }
 }
 
-#[tactic(auto, unfolding(crate::specs::Reading::byte_at))]
+#[tactic(auto, unfolding(crate::specs::ReaderFields::byte_at))]
 pub(super) fn byte(bytes: &[u8]) -> Result<(u8, &[u8]), FrameFault>
     ensures { Gives (λ x. (x.0, x.1.now)) result (byte_at bytes.now) }
 {
@@ -29,7 +32,7 @@ pub(super) fn byte(bytes: &[u8]) -> Result<(u8, &[u8]), FrameFault>
     }
 }
 
-#[tactic(auto, unfolding(crate::specs::Reading::be32_at))]
+#[tactic(auto, unfolding(crate::specs::ReaderFields::be32_at))]
 fn number32(bytes: &[u8]) -> Result<(u32, &[u8]), FrameFault>
     ensures { Gives (λ x. (x.0, x.1.now)) result (be32_at bytes.now) }
 {
@@ -39,7 +42,7 @@ fn number32(bytes: &[u8]) -> Result<(u32, &[u8]), FrameFault>
     Ok((BigEndian::read_u32(bytes), &bytes[4..]))
 }
 
-#[tactic(auto, unfolding(crate::specs::Reading::be64_at))]
+#[tactic(auto, unfolding(crate::specs::ReaderFields::be64_at))]
 pub(super) fn number64(bytes: &[u8]) -> Result<(u64, &[u8]), FrameFault>
     ensures { Gives (λ x. (x.0, x.1.now)) result (be64_at bytes.now) }
 {
@@ -50,26 +53,26 @@ pub(super) fn number64(bytes: &[u8]) -> Result<(u64, &[u8]), FrameFault>
 }
 
 /// The bytes of a page.
-#[tactic(auto, unfolding(crate::specs::Reading::bytes_at))]
-pub(super) fn page_bytes(bytes: &[u8]) -> Result<([u8; 1024], &[u8]), FrameFault>
+#[tactic(auto, unfolding(crate::specs::ReaderFields::bytes_at))]
+pub(super) fn page_bytes(bytes: &[u8]) -> Result<([u8; PAGE_BYTES], &[u8]), FrameFault>
     ensures { Gives (λ x. (x.0, x.1.now)) result (bytes_at bytes.now) }
 {
-    if bytes.len() < 1024 {
+    if bytes.len() < PAGE_BYTES {
         return Err(FrameFault::BadFrame);
     }
-    let (front, rest) = bytes.split_at(1024);
-    let mut page = [0; 1024];
+    let (front, rest) = bytes.split_at(PAGE_BYTES);
+    let mut page = [0; PAGE_BYTES];
     page.copy_from_slice(front);
     Ok((page, rest))
 }
 
 /// The number of a page in its object.
-#[tactic(auto, unfolding(crate::specs::Reading::page_at))]
+#[tactic(auto, unfolding(crate::specs::ReaderFields::page_at))]
 pub(super) fn page(bytes: &[u8]) -> Result<(u32, &[u8]), FrameFault>
     ensures { Gives (λ x. (x.0, x.1.now)) result (page_at bytes.now) }
 {
     let (page, rest) = number32(bytes)?;
-    if page < 1024 {
+    if page < WRITTEN_ROOM {
         Ok((page, rest))
     } else {
         Err(FrameFault::BadFrame)
@@ -77,12 +80,12 @@ pub(super) fn page(bytes: &[u8]) -> Result<(u32, &[u8]), FrameFault>
 }
 
 /// A length in bytes.
-#[tactic(auto, unfolding(crate::specs::Reading::length_at))]
+#[tactic(auto, unfolding(crate::specs::ReaderFields::length_at))]
 pub(super) fn length(bytes: &[u8]) -> Result<(u32, &[u8]), FrameFault>
     ensures { Gives (λ x. (x.0, x.1.now)) result (length_at bytes.now) }
 {
     let (length, rest) = number32(bytes)?;
-    if length <= 1_048_576 {
+    if length <= WRITTEN_LENGTH {
         Ok((length, rest))
     } else {
         Err(FrameFault::BadFrame)
@@ -90,12 +93,12 @@ pub(super) fn length(bytes: &[u8]) -> Result<(u32, &[u8]), FrameFault>
 }
 
 /// A room in pages.
-#[tactic(auto, unfolding(crate::specs::Reading::room_at))]
+#[tactic(auto, unfolding(crate::specs::ReaderFields::room_at))]
 pub(super) fn room(bytes: &[u8]) -> Result<(u32, &[u8]), FrameFault>
     ensures { Gives (λ x. (x.0, x.1.now)) result (room_at bytes.now) }
 {
     let (room, rest) = number32(bytes)?;
-    if 1 <= room && room <= MAX_ROOM {
+    if 1 <= room && room <= WRITTEN_ROOM {
         Ok((room, rest))
     } else {
         Err(FrameFault::BadFrame)
@@ -103,7 +106,7 @@ pub(super) fn room(bytes: &[u8]) -> Result<(u32, &[u8]), FrameFault>
 }
 
 /// A grant, a base or a stamp, from 1.
-#[tactic(auto, unfolding(crate::specs::Reading::count_at))]
+#[tactic(auto, unfolding(crate::specs::ReaderFields::count_at))]
 pub(super) fn count(bytes: &[u8]) -> Result<(u64, &[u8]), FrameFault>
     ensures { Gives (λ x. (x.0, x.1.now)) result (count_at bytes.now) }
 {
@@ -116,7 +119,7 @@ pub(super) fn count(bytes: &[u8]) -> Result<(u64, &[u8]), FrameFault>
 }
 
 /// The object of this number.
-#[tactic(auto, unfolding(crate::specs::Reading::uid_of))]
+#[tactic(auto, unfolding(crate::specs::ReaderFields::uid_of))]
 pub(super) fn uid(number: u64) -> Result<Uid, FrameFault>
     ensures { Gives (λ u. u) result (uid_of number) }
 {
@@ -130,7 +133,7 @@ pub(super) fn uid(number: u64) -> Result<Uid, FrameFault>
 }
 
 /// The object of this number, of this home.
-#[tactic(auto, unfolding(crate::specs::Reading::own_of))]
+#[tactic(auto, unfolding(crate::specs::ReaderFields::own_of))]
 pub(super) fn own(home: NodeId, number: u64) -> Result<Uid, FrameFault>
     ensures { Gives (λ u. u) result (own_of home number) }
 {
@@ -142,7 +145,7 @@ pub(super) fn own(home: NodeId, number: u64) -> Result<Uid, FrameFault>
     }
 }
 
-#[tactic(auto, unfolding(crate::specs::Reading::proc_of))]
+#[tactic(auto, unfolding(crate::specs::ReaderFields::proc_of))]
 pub(super) fn proc(node: u8, number: u8) -> Result<ProcId, FrameFault>
     ensures { Gives (λ p. p) result (proc_of node number) }
 {
@@ -151,24 +154,18 @@ pub(super) fn proc(node: u8, number: u8) -> Result<ProcId, FrameFault>
 }
 
 pub(super) fn mode(code: u8) -> Result<Mode, FrameFault>
-    ensures { Gives (λ m. m) result (mode_of code) }
+    ensures { Gives (λ m. m) result (mode_of_code code) }
 {
-    match Mode::from_code(code) {
-        Some(mode) => Ok(mode),
-        None => Err(FrameFault::BadFrame),
-    }
+    Mode::from_code(code).ok_or(FrameFault::BadFrame)
 }
 
 pub(super) fn object(code: u8) -> Result<ObjKind, FrameFault>
-    ensures { Gives (λ k. k) result (object_of code) }
+    ensures { Gives (λ k. k) result (object_of_code code) }
 {
-    match ObjKind::from_code(code) {
-        Some(kind) => Ok(kind),
-        None => Err(FrameFault::BadFrame),
-    }
+    ObjKind::from_code(code).ok_or(FrameFault::BadFrame)
 }
 
-#[tactic(auto, unfolding(crate::specs::Reading::flag_of))]
+#[tactic(auto, unfolding(crate::specs::ReaderFields::flag_of))]
 pub(super) fn flag(code: u8) -> Result<bool, FrameFault>
     ensures { Gives (λ b. b) result (flag_of code) }
 {

@@ -1,6 +1,7 @@
 //! The fields of replies without rows, from the bytes behind the header.
 ghost use Rattle.std.specs.Prelude.{ℕ};
-ghost use Rattle.ring_messages.specs.Reading.{Gives, body_at};
+ghost use Rattle.ring_messages.specs.ReaderSteps.{Gives};
+ghost use Rattle.ring_messages.specs.ReaderBodies.{body_at};
 ghost use Rattle.uid_names.specs.declared.frame_kind.FrameKind.TheVariants as kinds;
 ghost use Rattle.ring_messages.specs.declared.body.Body.TheVariants as bodies;
 
@@ -8,11 +9,11 @@ use super::fields::{
     byte, count, end, length, mode, number64, object, page_bytes, proc, room, uid,
 };
 use crate::frame::FrameFault;
-use uid_names::{Mode, ObjKind, ProcId, Uid};
+use uid_names::{Mode, ObjKind, PAGE_BYTES, ProcId, Uid};
 
 /// The stamp, and the bytes.
-#[tactic(auto, unfolding(crate::specs::Reading::body_at))]
-pub(super) fn page(bytes: &[u8]) -> Result<(u64, [u8; 1024]), FrameFault>
+#[tactic(auto, unfolding(crate::specs::ReaderBodies::body_at))]
+pub(super) fn page(bytes: &[u8]) -> Result<(u64, [u8; PAGE_BYTES]), FrameFault>
     ensures { (to : ℕ) → Gives (λ x. bodies.Page x.0 x.1) result (body_at kinds.Page to bytes.now) }
 {
     let (stamp, rest) = count(bytes)?;
@@ -22,7 +23,7 @@ pub(super) fn page(bytes: &[u8]) -> Result<(u64, [u8; 1024]), FrameFault>
 }
 
 /// The stamp of an answer to a write.
-#[tactic(auto, unfolding(crate::specs::Reading::body_at))]
+#[tactic(auto, unfolding(crate::specs::ReaderBodies::body_at))]
 pub(super) fn stamp(bytes: &[u8]) -> Result<u64, FrameFault>
     ensures stored { (to : ℕ) → Gives (λ n. bodies.Stored n) result (body_at kinds.Stored to bytes.now) }
     ensures stale { (to : ℕ) → Gives (λ n. bodies.Stale n) result (body_at kinds.Stale to bytes.now) }
@@ -33,7 +34,7 @@ pub(super) fn stamp(bytes: &[u8]) -> Result<u64, FrameFault>
 }
 
 /// The grant, the stamp, the kind, the room, and the length.
-#[tactic(auto, unfolding(crate::specs::Reading::body_at))]
+#[tactic(auto, unfolding(crate::specs::ReaderBodies::body_at))]
 pub(super) fn granted(bytes: &[u8]) -> Result<(u64, u64, ObjKind, u32, u32), FrameFault>
     ensures { (to : ℕ) → Gives (λ x. bodies.Granted x.0 x.1 x.2 x.3 x.4) result (body_at kinds.Granted to bytes.now) }
 {
@@ -48,7 +49,7 @@ pub(super) fn granted(bytes: &[u8]) -> Result<(u64, u64, ObjKind, u32, u32), Fra
 }
 
 /// The process that holds the object, and its mode.
-#[tactic(auto, unfolding(crate::specs::Reading::body_at))]
+#[tactic(auto, unfolding(crate::specs::ReaderBodies::body_at))]
 pub(super) fn conflict(bytes: &[u8]) -> Result<(ProcId, Mode), FrameFault>
     ensures { (to : ℕ) → Gives (λ x. bodies.Conflict x.0 x.1) result (body_at kinds.Conflict to bytes.now) }
 {
@@ -62,7 +63,7 @@ pub(super) fn conflict(bytes: &[u8]) -> Result<(ProcId, Mode), FrameFault>
 }
 
 /// The object.
-#[tactic(auto, unfolding(crate::specs::Reading::body_at))]
+#[tactic(auto, unfolding(crate::specs::ReaderBodies::body_at))]
 pub(super) fn made(bytes: &[u8]) -> Result<Uid, FrameFault>
     ensures { (to : ℕ) → Gives (λ u. bodies.Made u) result (body_at kinds.Made to bytes.now) }
 {

@@ -1,6 +1,8 @@
 //! The fields of requests, from the bytes behind the header.
 ghost use Rattle.std.specs.Prelude.{ℕ};
-ghost use Rattle.ring_messages.specs.Reading.{Gives, body_at, after_of};
+ghost use Rattle.ring_messages.specs.ReaderSteps.{Gives};
+ghost use Rattle.ring_messages.specs.ReaderFields.{after_of};
+ghost use Rattle.ring_messages.specs.ReaderBodies.{body_at};
 ghost use Rattle.uid_names.specs.declared.frame_kind.FrameKind.TheVariants as kinds;
 ghost use Rattle.ring_messages.specs.declared.body.Body.TheVariants as bodies;
 
@@ -8,10 +10,10 @@ use super::fields::{
     byte, count, end, flag, length, mode, number64, object, own, page, page_bytes, proc, room, uid,
 };
 use crate::frame::FrameFault;
-use uid_names::{Mode, NodeId, ObjKind, ProcId, Uid};
+use uid_names::{Mode, NodeId, ObjKind, PAGE_BYTES, ProcId, Uid};
 
 /// The object, and the page.
-#[tactic(auto, unfolding(crate::specs::Reading::body_at))]
+#[tactic(auto, unfolding(crate::specs::ReaderBodies::body_at))]
 pub(super) fn page_in(to: NodeId, bytes: &[u8]) -> Result<(Uid, u32), FrameFault>
     ensures { Gives (λ x. bodies.PageIn x.0 x.1) result (body_at kinds.PageIn to bytes.now) }
 {
@@ -23,11 +25,11 @@ pub(super) fn page_in(to: NodeId, bytes: &[u8]) -> Result<(Uid, u32), FrameFault
 }
 
 /// The object, the page, the grant, the base, and the bytes.
-#[tactic(auto, unfolding(crate::specs::Reading::body_at))]
+#[tactic(auto, unfolding(crate::specs::ReaderBodies::body_at))]
 pub(super) fn page_out(
     to: NodeId,
     bytes: &[u8],
-) -> Result<(Uid, u32, u64, u64, [u8; 1024]), FrameFault>
+) -> Result<(Uid, u32, u64, u64, [u8; PAGE_BYTES]), FrameFault>
     ensures { Gives (λ x. bodies.PageOut x.0 x.1 x.2 x.3 x.4) result (body_at kinds.PageOut to bytes.now) }
 {
     let (number, rest) = number64(bytes)?;
@@ -41,7 +43,7 @@ pub(super) fn page_out(
 }
 
 /// The object, the length, the grant, and the base.
-#[tactic(auto, unfolding(crate::specs::Reading::body_at))]
+#[tactic(auto, unfolding(crate::specs::ReaderBodies::body_at))]
 pub(super) fn attr_out(to: NodeId, bytes: &[u8]) -> Result<(Uid, u32, u64, u64), FrameFault>
     ensures { Gives (λ x. bodies.AttrOut x.0 x.1 x.2 x.3) result (body_at kinds.AttrOut to bytes.now) }
 {
@@ -55,7 +57,7 @@ pub(super) fn attr_out(to: NodeId, bytes: &[u8]) -> Result<(Uid, u32, u64, u64),
 }
 
 /// The object, and the mode.
-#[tactic(auto, unfolding(crate::specs::Reading::body_at))]
+#[tactic(auto, unfolding(crate::specs::ReaderBodies::body_at))]
 pub(super) fn lock(to: NodeId, bytes: &[u8]) -> Result<(Uid, Mode), FrameFault>
     ensures { Gives (λ x. bodies.Lock x.0 x.1) result (body_at kinds.Lock to bytes.now) }
 {
@@ -68,7 +70,7 @@ pub(super) fn lock(to: NodeId, bytes: &[u8]) -> Result<(Uid, Mode), FrameFault>
 }
 
 /// The object of an unlock or a removal.
-#[tactic(auto, unfolding(crate::specs::Reading::body_at))]
+#[tactic(auto, unfolding(crate::specs::ReaderBodies::body_at))]
 pub(super) fn object_alone(to: NodeId, bytes: &[u8]) -> Result<Uid, FrameFault>
     ensures unlock { Gives (λ u. bodies.Unlock u) result (body_at kinds.Unlock to bytes.now) }
     ensures remove { Gives (λ u. bodies.Remove u) result (body_at kinds.Remove to bytes.now) }
@@ -80,7 +82,7 @@ pub(super) fn object_alone(to: NodeId, bytes: &[u8]) -> Result<Uid, FrameFault>
 }
 
 /// The kind, and the room.
-#[tactic(auto, unfolding(crate::specs::Reading::body_at))]
+#[tactic(auto, unfolding(crate::specs::ReaderBodies::body_at))]
 pub(super) fn make(bytes: &[u8]) -> Result<(ObjKind, u32), FrameFault>
     ensures { (to : ℕ) → Gives (λ x. bodies.Make x.0 x.1) result (body_at kinds.Make to bytes.now) }
 {
@@ -92,7 +94,7 @@ pub(super) fn make(bytes: &[u8]) -> Result<(ObjKind, u32), FrameFault>
 }
 
 /// The row behind which rows begin, from a flag and the numbers behind it.
-#[tactic(auto, unfolding(crate::specs::Reading::after_of))]
+#[tactic(auto, unfolding(crate::specs::ReaderFields::after_of))]
 fn after(
     is_there: bool,
     number: u64,
@@ -113,7 +115,7 @@ fn after(
 }
 
 /// The row behind which the rows begin, if there is one.
-#[tactic(auto, unfolding(crate::specs::Reading::body_at))]
+#[tactic(auto, unfolding(crate::specs::ReaderBodies::body_at))]
 pub(super) fn list(bytes: &[u8]) -> Result<Option<(Uid, ProcId)>, FrameFault>
     ensures { (to : ℕ) → Gives (λ after. bodies.List after) result (body_at kinds.List to bytes.now) }
 {

@@ -1,16 +1,18 @@
 //! The rows of a reply, from the bytes behind the header.
 ghost use Rattle.std.specs.Prelude.{◌≡◌, ℕ};
-ghost use Rattle.ring_messages.specs.Reading.{Gives, body_at, row_of, row_at, rows_at, pushed, whole, is_rising};
+ghost use Rattle.ring_messages.specs.ReaderSteps.{Gives, whole};
+ghost use Rattle.ring_messages.specs.ReaderRows.{row_of, row_at, rows_at, pushed, is_rising};
+ghost use Rattle.ring_messages.specs.ReaderBodies.{body_at};
 ghost use Rattle.uid_names.specs.declared.frame_kind.FrameKind.TheVariants as kinds;
 ghost use Rattle.ring_messages.specs.declared.body.Body.TheVariants as bodies;
 
 use super::fields::{byte, end, flag, mode, number64, proc, uid};
 use crate::frame::FrameFault;
 use std::alloc::Global;
-use uid_names::{LockRow, LockRows};
+use uid_names::{LISTED_ROWS, LockRow, LockRows};
 
 /// The row of these numbers.
-#[tactic(auto, unfolding(crate::specs::Reading::row_of))]
+#[tactic(auto, unfolding(crate::specs::ReaderRows::row_of))]
 fn row(number: u64, node: u8, proc_number: u8, code: u8) -> Result<LockRow, FrameFault>
     ensures { Gives (λ x. x) result (row_of number node proc_number code) }
 {
@@ -59,7 +61,7 @@ fn rise(rows: &[LockRow]) -> bool
 }
 
 /// The rows, and whether more follow.
-#[tactic(auto, unfolding(crate::specs::Reading::body_at, crate::specs::Reading::listed_at))]
+#[tactic(auto, unfolding(crate::specs::ReaderBodies::body_at, crate::specs::ReaderBodies::listed_at))]
 pub(super) fn listed(alloc: Global, bytes: &[u8]) -> Result<(LockRows, bool), FrameFault>
     ensures { (to : ℕ) → Gives (λ x. bodies.Listed x.0 x.1) result (body_at kinds.Listed to bytes.now) }
 {
@@ -67,7 +69,7 @@ pub(super) fn listed(alloc: Global, bytes: &[u8]) -> Result<(LockRows, bool), Fr
     let (code, rest) = byte(rest)?;
     let more = flag(code)?;
     let rows = rows(alloc, count, rest)?;
-    if count <= 64 && rise(rows.items()) {
+    if count as usize <= LISTED_ROWS && rise(rows.items()) {
         Ok((rows, more))
     } else {
         Err(FrameFault::BadFrame)

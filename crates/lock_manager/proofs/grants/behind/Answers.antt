@@ -5,7 +5,8 @@ use Rattle.std.proofs.lemmas.List.Sorted.{IsPartitionPoint-from_clause}
 use Rattle.lock_manager.specs.declared.grants.Grant.{Grant}
 use Rattle.uid_names.specs.Rows.{row_lt, is_after}
 use Rattle.uid_names.proofs.Orders.{not_after-trans}
-use Rattle.uid_names.proofs.Finds.{filter-all, filter-alike, filter-map, not-not}
+use Rattle.uid_names.proofs.Finds.{filter-all, filter-alike, not-not}
+use Rattle.uid_names.proofs.ListLemmas.{filter-map}
 use Rattle.uid_names.proofs.InOrder.{partitioned, prefix_len-point, filter-rest}
 use Rattle.lock_manager.specs.Grants.{rows_of}
 use Rattle.lock_manager.proofs.grants.behind.Goals as goal
@@ -20,7 +21,7 @@ returns-in-Some c =
     let before = λ (a b : Grant). not_after-trans a.row b.row u p in
     let first = prefix_len-point not_after grants c.partition_point-first.result c.partition_point-first.ensures.bound
     (IsPartitionPoint-from_clause not_after grants _ c.partition_point-first.ensures.partitioned (partitioned Before not_after before grants c.requires) (λ a r f called. search rules)) in
-    rw (c.in-Some.is, take_rest, filter-map (is_after (Some (u, p))) (λ (g : Grant). g.row) grants, ← filter-alike (λ g. not (not_after g)) (λ g. is_after (Some (u, p)) g.row) grants (λ g. not-not (is_after (Some (u, p)) g.row)), filter-rest Before not_after before grants c.requires, first) refl
+    rw (c.in-Some.is, take_rest, filter-map (λ (g : Grant). g.row) (is_after (Some (u, p))) grants, ← filter-alike (λ g. not (not_after g)) (λ g. is_after (Some (u, p)) g.row) grants (λ g. not-not (is_after (Some (u, p)) g.row)), filter-rest Before not_after before grants c.requires, first) refl
 
 -- where no row is named, all stand behind
 pub returns-in-None : goal.returns-in-None

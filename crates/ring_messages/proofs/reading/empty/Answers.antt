@@ -1,5 +1,5 @@
 use Rattle.std.proofs.Common.{◌≡◌, ◌∙◌, Some, refl, arith}
-use Rattle.ring_messages.specs.Reading.{body_at}
+use Rattle.ring_messages.specs.ReaderBodies.{body_at}
 use Rattle.ring_messages.proofs.WhatIsRead.{in-range}
 use Rattle.ring_messages.proofs.reading.empty.Goals as goal
 

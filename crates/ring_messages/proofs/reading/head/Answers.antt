@@ -29,7 +29,7 @@ pub returns-clause-found : goal.returns-clause-found
 returns-clause-found c = shown _ c.args.bytes.now (λ i. omega (arith, c.type_inv.bytes i)) (record {
   long = c.if-bytes-lt24.false;
   version = c.if-bytes-ne1.false;
-  kind = c.in_ok-kind.ensures;
+  kind = c.in_ok-kind.ensures.number;
   from = sym c.in_ok-from.ensures.value;
   to = sym c.in_ok-to.ensures.value;
   proc = refl;

@@ -1,7 +1,7 @@
 use Rattle.std.proofs.Common.{refl, arith}
 use Rattle.uid_names.specs.declared.frame_kind.FrameKind.TheVariants as kinds
 use Rattle.ring_messages.specs.declared.body.Body.TheVariants as bodies
-use Rattle.ring_messages.specs.Reading.{body_at}
+use Rattle.ring_messages.specs.ReaderBodies.{body_at}
 use Rattle.ring_messages.proofs.WhatIsRead.{in-range}
 use Rattle.ring_messages.proofs.reading.reply.Goals as goal
 

@@ -16,14 +16,14 @@ invariant_of-self-2 g c =
     let stands = rw (← c.self.view_is) at c.in-Some.ensures in
     let put = rw c.counter.ensures.value at (on-success c.put.result c.put.ensures.ok c.if-is_err.ensures.value) in
     (page_written _ c.args.uid c.in-Some.at c.self.inside.taken c.args.page c.args.base c.in_ok-stamp.stamp c.args.bytes.now c.index.result.now c.index_mut.result.now _
-    c.self.invariant.0 c.self.invariant.1 stands c.index.ensures c.index_mut.ensures.value c.in_ok-stamp.ensures.rule put).1
+    c.self.invariant.0 c.self.invariant.1 stands c.index.ensures c.index_mut.ensures.value c.told-bytes c.in_ok-stamp.ensures.rule put).1
 
 pub returns-clause-ok : goal.returns-clause-ok
 returns-clause-ok g c =
     let stands = rw (← c.self.view_is) at c.in-Some.ensures in
     let put = rw c.counter.ensures.value at (on-success c.put.result c.put.ensures.ok c.if-is_err.ensures.value) in
     (page_written _ c.args.uid c.in-Some.at c.self.inside.taken c.args.page c.args.base c.in_ok-stamp.stamp c.args.bytes.now c.index.result.now c.index_mut.result.now _
-    c.self.invariant.0 c.self.invariant.1 stands c.index.ensures c.index_mut.ensures.value c.in_ok-stamp.ensures.rule put).0
+    c.self.invariant.0 c.self.invariant.1 stands c.index.ensures c.index_mut.ensures.value c.told-bytes c.in_ok-stamp.ensures.rule put).0
     ∙ ap (λ home. after_page home c.args.uid.counter c.args.page c.args.bytes.now) c.self.view_is
 
 pub returns-clause-kept : goal.returns-clause-kept

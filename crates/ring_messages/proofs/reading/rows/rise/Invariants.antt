@@ -1,5 +1,5 @@
 use Rattle.std.proofs.Common.{◌≡◌, ◌-◌, drop}
-use Rattle.ring_messages.specs.Reading.{is_rising}
+use Rattle.ring_messages.specs.ReaderRows.{is_rising}
 use Rattle.ring_messages.proofs.reading.rows.rise.Given as goal
 
 abbrev pub invariant-loop-i : goal.invariant-loop-i

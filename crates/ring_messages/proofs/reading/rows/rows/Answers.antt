@@ -1,5 +1,5 @@
 use Rattle.std.proofs.lemmas.Result.{err_from_is_err_and}
-use Rattle.ring_messages.specs.Reading.{rows_at}
+use Rattle.ring_messages.specs.ReaderRows.{rows_at}
 use Rattle.ring_messages.proofs.Loop.{goes_on, ends, is_done, not_ended, ended}
 use Rattle.ring_messages.proofs.reading.rows.rows.Goals as goal
 

@@ -1,5 +1,5 @@
 use Rattle.std.proofs.Common.{◌≡◌, ◌-◌}
-use Rattle.ring_messages.specs.Reading.{rows_at}
+use Rattle.ring_messages.specs.ReaderRows.{rows_at}
 use Rattle.ring_messages.proofs.Loop.{with_front}
 use Rattle.ring_messages.proofs.reading.rows.rows.Given as goal
 
