@@ -3,7 +3,7 @@ use Rattle.std.proofs.Common.{◌≡◌, ℕ, zero, suc, ◌<◌, ◌≤◌, Boo
 use Rattle.std.specs.Prelude.{AllPairs, IsTrue, Option, Some, None, if◌then◌else◌}
 use Rattle.std.proofs.lemmas.Bool.Decides.{nat_tests}
 use Rattle.uid_names.specs.Names.{ObjectName, same_uid}
-use Rattle.address_map.specs.declared.map.TheConstants.{MAX_MAPPINGS}
+use Rattle.uid_names.specs.declared.limits.TheConstants.{PROCESS_MAPPINGS}
 use Rattle.address_map.specs.declared.mapping.Mapping.{Mapping}
 use Rattle.address_map.specs.Mappings.{lies_in, mapping_of, mapping_at, without_mapping}
 use Rattle.address_map.specs.Runs.{is_apart, is_free_run, lowest_run}
@@ -27,7 +27,7 @@ IsLayout-mappings_after u count mappings kept some = by_cases (mapping_of u mapp
     by_cases None true run e f g = kept
     by_cases None false None e f g = kept
     by_cases None false (Some first) e f g =
-        let fewer : length mappings < MAX_MAPPINGS = grind (arith, nat_tests, f) in
+        let fewer : length mappings < PROCESS_MAPPINGS = grind (arith, nat_tests, f) in
         IsLayout-push mappings (record { uid = u; first = first; segments = count }) kept fewer some e
         (find-passes (λ k. is_free_run count k mappings) (starts_from 0) first g)
 

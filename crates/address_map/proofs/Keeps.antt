@@ -11,7 +11,7 @@ use Rattle.std.proofs.lemmas.List.Sums.{AllPass-from_list_all}
 use Rattle.std.proofs.lemmas.List.Filters.{length-filter_both}
 use Rattle.std.proofs.lemmas.List.{length-append}
 use Rattle.uid_names.specs.Names.{ObjectName}
-use Rattle.address_map.specs.declared.map.TheConstants.{MAX_MAPPINGS}
+use Rattle.uid_names.specs.declared.limits.TheConstants.{PROCESS_MAPPINGS}
 use Rattle.address_map.specs.declared.mapping.Mapping.{Mapping}
 use Rattle.address_map.specs.Mappings.{is_of, mapping_of, stretch_of, without_mapping}
 use Rattle.address_map.specs.Runs.{is_apart, is_free_run}
@@ -40,7 +40,7 @@ both true false e = absurd cc
 both false b e = absurd cc
 
 -- a mapping is made in a free run
-pub IsLayout-push : (mappings : List Mapping) (new : Mapping) → IsLayout mappings → length mappings < MAX_MAPPINGS → 1 ≤ new.segments → mapping_of new.uid mappings ≡ None → is_free_run new.segments new.first mappings ≡ true → IsLayout (mappings ++ new ∷ [])
+pub IsLayout-push : (mappings : List Mapping) (new : Mapping) → IsLayout mappings → length mappings < PROCESS_MAPPINGS → 1 ≤ new.segments → mapping_of new.uid mappings ≡ None → is_free_run new.segments new.first mappings ≡ true → IsLayout (mappings ++ new ∷ [])
 IsLayout-push mappings new kept fewer some none free =
     let parts = both (nat_le (new.first + new.segments) SEGMENTS) (list_all (is_apart new.segments new.first) mappings) (rw (← list_all-map (is_apart_from new.segments new.first) stretch_of mappings) free) in
     let within : new.first + new.segments ≤ SEGMENTS = grind (arith, nat_tests, parts.0) in

@@ -2,7 +2,7 @@
 use Rattle.std.specs.Prelude.{ℕ, ◌+◌, ◌*◌, ◌≤◌, nat_le, Bool, true, false, Option, Some, None, List, [], ◌∷◌, ◌++◌, length, All, AllPairs, IsTrue, ◌≡◌, Result, Ok, Err}
 use Rattle.uid_names.specs.Names.{ObjectName}
 use Rattle.uid_names.specs.declared.segment.TheConstants.{SEGMENTS, SEGMENT_SIZE}
-use Rattle.address_map.specs.declared.map.TheConstants.{MAX_MAPPINGS}
+use Rattle.uid_names.specs.declared.limits.TheConstants.{PROCESS_MAPPINGS}
 use Rattle.address_map.specs.declared.mapping.Mapping.{Mapping}
 use Rattle.address_map.specs.declared.map.MapRefusal.{MapRefusal}
 use Rattle.address_map.specs.declared.map.MapRefusal.TheVariants.{TooManyMaps, NoSegment}
@@ -16,14 +16,14 @@ pub record IsMapping (m : Mapping) : Type 0 where
 
 -- what the mappings of a process keep: they are few, no two take one segment, and no object is mapped twice
 pub record IsLayout (mappings : List Mapping) : Type 0 where
-  pub few : length mappings ≤ MAX_MAPPINGS
+  pub few : length mappings ≤ PROCESS_MAPPINGS
   pub each : All IsMapping mappings
   pub apart : AllPairs (λ m n. IsTrue (is_apart n.segments n.first m)) mappings
   pub once : AllPairs (λ m n. is_of n.uid m ≡ false) mappings
 
 -- there is no place for one more
 abbrev pub is_full : List Mapping → Bool
-is_full mappings = nat_le MAX_MAPPINGS (length mappings)
+is_full mappings = nat_le PROCESS_MAPPINGS (length mappings)
 
 -- the answer to a call that maps an object, by its mapping, whether there are too many, and the lowest run
 abbrev pub map_answer : Option Mapping → Bool → Option ℕ → Result (ℕ × Bool) MapRefusal

@@ -7,5 +7,5 @@ pub mod mapping;
 #[cfg(test)]
 mod tests;
 
-pub use map::{AddressMap, MAX_MAPPINGS, MapRefusal, NotMapped};
+pub use map::{AddressMap, MapRefusal, NotMapped};
 pub use mapping::Mapping;

@@ -1,6 +1,6 @@
 //! The address space of a process.
 ghost use Rattle.std.specs.Prelude.{◌≡◌, ◌≤◌, [], Some, None, is_ok, is_some, IfOk, OnErr};
-ghost use Rattle.uid_names.specs.declared.mode.TheConstants.{MAX_ROOM};
+ghost use Rattle.uid_names.specs.declared.limits.TheConstants.{MAX_ROOM};
 ghost use Rattle.uid_names.specs.Segments.{segments};
 ghost use Rattle.address_map.specs.Mappings.{mapping_of, mapping_at, target_in, without_mapping};
 ghost use Rattle.address_map.specs.Runs.{lowest_run};
@@ -10,15 +10,12 @@ use crate::mapping::{Mapping, lowest_run, mapping_at, mapping_of};
 use std::alloc::Global;
 use std::marker::Model;
 use thiserror::Error;
-use uid_names::{NoMemory, Uid, segments};
-
-/// How many mappings there are at most.
-pub const MAX_MAPPINGS: usize = 16;
+use uid_names::{NoMemory, PROCESS_MAPPINGS, Uid, segments};
 
 /// Why an object is not mapped.
 #[derive(Clone, Copy, Debug, PartialEq, Eq, Error)]
 pub enum MapRefusal {
-    /// 16 mappings stand.
+    /// As many mappings stand as there can be.
     #[error("too many mappings")]
     TooManyMaps,
     /// No run of free segments is long enough.
@@ -39,7 +36,7 @@ pub struct AddressMap {
 
 impl Model for AddressMap {
     ghost use Rattle.std.specs.Prelude.{◌≤◌, List, vec_capacity};
-    ghost use Rattle.address_map.specs.declared.map.TheConstants.{MAX_MAPPINGS};
+    ghost use Rattle.uid_names.specs.declared.limits.TheConstants.{PROCESS_MAPPINGS};
     ghost use Rattle.address_map.specs.declared.mapping.Mapping.{Mapping};
     ghost use Rattle.address_map.specs.Maps.{IsLayout};
 
@@ -47,15 +44,15 @@ impl Model for AddressMap {
 
     ghost view = { λ m. m.mappings.items };
 
-    ghost invariant = { λ m. IsLayout m.mappings.items × (MAX_MAPPINGS ≤ vec_capacity m.mappings) };
+    ghost invariant = { λ m. IsLayout m.mappings.items × (PROCESS_MAPPINGS ≤ vec_capacity m.mappings) };
 }
 
 impl AddressMap {
-    /// Nothing is mapped. Makes room for 16 mappings.
+    /// Nothing is mapped. Makes room for as many mappings as there can be.
     pub fn new(alloc: Global) -> Result<AddressMap, NoMemory>
         ensures { IfOk result (λ map. map ≡ []) }
     {
-        let mappings = Vec::with_capacity(alloc, MAX_MAPPINGS)?;
+        let mappings = Vec::with_capacity(alloc, PROCESS_MAPPINGS)?;
         Ok(AddressMap { mappings })
     }
 
@@ -73,7 +70,7 @@ impl AddressMap {
         if let Some(mapping) = mapping_of(&self.mappings, uid) {
             return Ok((mapping.address(), false));
         }
-        if self.mappings.len() >= MAX_MAPPINGS {
+        if self.mappings.len() >= PROCESS_MAPPINGS {
             return Err(MapRefusal::TooManyMaps);
         }
         let segments = segments(room);

@@ -7,19 +7,20 @@ use Rattle.std.specs.List.{find}
 use Rattle.std.specs.Option.{option_map}
 use Rattle.std.specs.Ordering.{nat_cmp}
 use Rattle.std.specs.FinMap.{empty, len-empty}
-use Rattle.uid_names.specs.Names.{ObjectName, same_uid}
+use Rattle.std.specs.Map.{lookup}
+use Rattle.uid_names.specs.Names.{ObjectName}
 use Rattle.page_frames.specs.declared.frame.Flags.{Flags}
+use Rattle.page_frames.specs.declared.frame.TheConstants.{FEWEST_FRAMES, MOST_FRAMES}
 use Rattle.page_frames.specs.Pools.{Frame, Pool, IsTaken, frame_at, frame_in, no_flags, with_frame, without_frame}
 use Rattle.page_frames.specs.Pools as frames
 use Rattle.page_frames.proofs.FrameLemmas.{frame_at-with_frame-same, frame_at-with_frame-other, frame_at-without_frame-other, len-with_frame-free, len-with_frame-taken, len-without_frame}
-use Rattle.page_cache.specs.declared.cache.PageName.{PageName}
-use Rattle.page_cache.specs.declared.cache.Slot.{Slot}
+use Rattle.page_cache.specs.declared.slots.PageName.{PageName}
 use Rattle.page_cache.specs.Caches.{Resident, Cached, IsCache, IsFrame, is_of, is_page, is_in, page_at, page_in}
 use Rattle.page_cache.specs.Changes.{changed_if, changed_in, without_page, without_object, spliced, with_flags, with_bytes, used}
-use Rattle.page_cache.specs.Numbers.{numbers}
-use Rattle.page_cache.specs.Insides.{same_name, slot_is, slot_in, seen, cache_of, slot_limit, IsSound}
-use Rattle.page_cache.proofs.ListLemmas.{by_cases, count_by-cons_passes, count_by-cons_fails, find-none, count_by-none, find_passes, count_by-found, filter_not-none, length-filter_not, count_by-filter-le, count_by-filter_takes, filter-filter_leaves, find_once, count_by-found_by, count_by-filter_found, count_by-to_front, find-map, filter-map, count_by-map}
-use Rattle.page_cache.proofs.SlotLemmas.{same_number, slot_is-uid, slot_is-page, slot_is-other, same_name-true, find-without}
+use Rattle.page_cache.specs.Insides.{Slot, IsIndex, is_beyond, same_name, slot_is, slot_in, seen, cache_of, slot_limit, IsSound}
+use Rattle.uid_names.proofs.Finds.{find-passes}
+use Rattle.uid_names.proofs.ListLemmas.{none_is_no_some, by_cases, count_by-cons_passes, count_by-cons_fails, find-count_none, count_by-none, count_by-found, filter_not-none, length-filter_not, count_by-filter-le, count_by-filter_takes, filter-filter_leaves, find_once, count_by-found_by, count_by-filter_found, count_by-to_front, find-map, filter-map, count_by-map}
+use Rattle.page_cache.proofs.SlotLemmas.{same_number, slot_is-uid, slot_is-page, lookup-page}
 
 -- a taken frame has one slot at most, a free one none
 slot_limit-le : (pool : Pool) (frame : ℕ) → slot_limit pool frame ≤ 1
@@ -39,12 +40,12 @@ some_mapped f None found = absurd (cc)
 some_mapped f (Some x) found = (x, refl)
 
 -- what no mapped value comes from
-none_mapped : {X Y : Type 0} (f : X → Y) (o : Option X) → option_map f o ≡ None → o ≡ None
+pub none_mapped : {X Y : Type 0} (f : X → Y) (o : Option X) → option_map f o ≡ None → o ≡ None
 none_mapped f None none = refl
 none_mapped f (Some x) none = absurd (cc)
 
 -- the value that a mapped value comes from
-mapped_from : {X Y : Type 0} (f : X → Y) (o : Option X) (y : Y) → option_map f o ≡ Some y → (x : X) × (o ≡ Some x) × (f x ≡ y)
+pub mapped_from : {X Y : Type 0} (f : X → Y) (o : Option X) (y : Y) → option_map f o ≡ Some y → (x : X) × (o ≡ Some x) × (f x ≡ y)
 mapped_from f None y found = absurd (cc)
 mapped_from f (Some x) y found = (x, refl, cc)
 
@@ -63,11 +64,6 @@ pub IfNone-mapped : {X Y : Type 0} (f : X → Y) (o : Option X) → IfNone (opti
 IfNone-mapped f None = refl
 IfNone-mapped f (Some x) = tt
 
--- nothing is no value
-pub none_is_no_some : {X : Type 0} (o : Option X) → IsSome o → o ≡ None → ⊥
-none_is_no_some None some none = cc
-none_is_no_some (Some x) some none = cc
-
 -- a frame has as many slots as it may have: those of taken frames alone, one each
 abbrev pub AreTaken : Pool → List Slot → Type 0
 AreTaken pool slots = (frame : ℕ) → count_by (slot_in frame) slots ≤ slot_limit pool frame
@@ -81,7 +77,7 @@ module _ (pool : Pool) (slots : List Slot) where
   pub page_in-seen : (frame : ℕ) → page_in (map (seen pool) slots) frame ≡ option_map (seen pool) (find (slot_in frame) slots)
   page_in-seen frame = find-map (seen pool) (is_in frame) slots
 
-module _ (pool : Pool) (reserved : ℕ) (slots : List Slot) (places : ℕ) (find_frame : PageName → Option ℕ) (sound : IsSound pool reserved slots places find_frame) where
+module _ (pool : Pool) (reserved : ℕ) (slots : List Slot) (places : ℕ) (index : List Slot) (sound : IsSound pool reserved slots places index) where
   -- what the parts stand for keeps what each cache keeps
   pub IsCache-sound : IsCache (cache_of pool reserved slots)
   IsCache-sound = record {
@@ -93,64 +89,86 @@ module _ (pool : Pool) (reserved : ℕ) (slots : List Slot) (places : ℕ) (find
   }
 
   -- a slot's frame is taken
-  pub IsTaken-slot : (p : Slot → Bool) (s : Slot) → find p slots ≡ Some s → IsTaken pool s.frame
+  pub IsTaken-slot : (p : Slot → Bool) (s : Slot) → find p slots ≡ Some s → IsTaken pool s.1
   IsTaken-slot p s found =
-      slot_limit-taken pool s.frame (omega (arith, sound.frames s.frame, count_by-found_by p (slot_in s.frame) slots s found (grind (arith, nat_tests))))
+      slot_limit-taken pool s.1 (omega (arith, sound.frames s.1, count_by-found_by p (slot_in s.1) slots s found (grind (arith, nat_tests))))
 
   -- so is a frame in which a page is
   pub IsTaken-frame : (frame : ℕ) → IsFrame (map (seen pool) slots) frame → IsTaken pool frame
   IsTaken-frame frame is =
       let found = some_mapped (seen pool) (find (slot_in frame) slots) (rw (page_in-seen pool slots frame) at is) in
-      rw (same_number found.0.frame frame (find_passes (slot_in frame) slots found.0 found.1)) at (IsTaken-slot (slot_in frame) found.0 found.1)
+      rw (same_number found.0.1 frame (find-passes (slot_in frame) slots found.0 found.1)) at (IsTaken-slot (slot_in frame) found.0 found.1)
 
-  -- the index finds the frame in which the page is
-  pub frame-indexed : (name : PageName) → find_frame name ≡ option_map (λ r. r.frame) (page_at (map (seen pool) slots) name.uid name.page)
-  frame-indexed name = sound.indexed name ∙ by_slot (find (slot_is name.uid name.page) slots) ∙ ap (option_map (λ r. r.frame)) (sym (page_at-seen pool slots name.uid name.page))
+  -- the order finds the frame in which the page is
+  pub frame-ordered : (name : PageName) → lookup (same_name name) slots ≡ option_map (λ r. r.frame) (page_at (map (seen pool) slots) name.uid name.page)
+  frame-ordered name = lookup-page name slots ∙ by_slot (find (slot_is name.uid name.page) slots) ∙ ap (option_map (λ r. r.frame)) (sym (page_at-seen pool slots name.uid name.page))
     where
-      by_slot : (o : Option Slot) → option_map (λ s. s.frame) o ≡ option_map (λ r. r.frame) (option_map (seen pool) o)
+      by_slot : (o : Option Slot) → option_map (λ s. s.1) o ≡ option_map (λ r. r.frame) (option_map (seen pool) o)
       by_slot None = refl
       by_slot (Some s) = refl
 
   -- that frame is the page's
-  page_in-slot : (name : PageName) (s : Slot) → find (slot_is name.uid name.page) slots ≡ Some s → page_in (map (seen pool) slots) s.frame ≡ Some (seen pool s)
+  page_in-slot : (name : PageName) (s : Slot) → find (slot_is name.uid name.page) slots ≡ Some s → page_in (map (seen pool) slots) s.1 ≡ Some (seen pool s)
   page_in-slot name s found =
-      let once : count_by (slot_in s.frame) slots ≤ 1 = omega (arith, sound.frames s.frame, slot_limit-le pool s.frame) in
-      page_in-seen pool slots s.frame ∙ ap (option_map (seen pool)) (find_once (slot_is name.uid name.page) (slot_in s.frame) slots s once found (grind (arith, nat_tests)))
+      let once : count_by (slot_in s.1) slots ≤ 1 = omega (arith, sound.frames s.1, slot_limit-le pool s.1) in
+      page_in-seen pool slots s.1 ∙ ap (option_map (seen pool)) (find_once (slot_is name.uid name.page) (slot_in s.1) slots s once found (grind (arith, nat_tests)))
 
   -- so it has the page that has the name
-  pub page_in-indexed : (name : PageName) → IfSome (find_frame name) (λ frame. page_in (map (seen pool) slots) frame ≡ page_at (map (seen pool) slots) name.uid name.page)
-  page_in-indexed name = by_slot (find (slot_is name.uid name.page) slots) refl
+  pub page_in-ordered : (name : PageName) → IfSome (lookup (same_name name) slots) (λ frame. page_in (map (seen pool) slots) frame ≡ page_at (map (seen pool) slots) name.uid name.page)
+  page_in-ordered name = by_slot (find (slot_is name.uid name.page) slots) refl
     where
-      by_slot : (o : Option Slot) → find (slot_is name.uid name.page) slots ≡ o → IfSome (find_frame name) (λ frame. page_in (map (seen pool) slots) frame ≡ page_at (map (seen pool) slots) name.uid name.page)
-      by_slot None none = rw (sound.indexed name, none) tt
+      by_slot : (o : Option Slot) → find (slot_is name.uid name.page) slots ≡ o → IfSome (lookup (same_name name) slots) (λ frame. page_in (map (seen pool) slots) frame ≡ page_at (map (seen pool) slots) name.uid name.page)
+      by_slot None none = rw (lookup-page name slots, none) tt
       by_slot (Some s) found =
-          rw (sound.indexed name, found) (page_in-slot name s found ∙ sym (page_at-seen pool slots name.uid name.page ∙ ap (option_map (seen pool)) found))
+          rw (lookup-page name slots, found) (page_in-slot name s found ∙ sym (page_at-seen pool slots name.uid name.page ∙ ap (option_map (seen pool)) found))
 
   -- and is a page's frame
-  pub IsFrame-indexed : (name : PageName) → IfSome (find_frame name) (IsFrame (map (seen pool) slots))
-  IsFrame-indexed name = by_slot (find (slot_is name.uid name.page) slots) refl
+  pub IsFrame-ordered : (name : PageName) → IfSome (lookup (same_name name) slots) (IsFrame (map (seen pool) slots))
+  IsFrame-ordered name = by_slot (find (slot_is name.uid name.page) slots) refl
     where
-      by_slot : (o : Option Slot) → find (slot_is name.uid name.page) slots ≡ o → IfSome (find_frame name) (IsFrame (map (seen pool) slots))
-      by_slot None none = rw (sound.indexed name, none) tt
-      by_slot (Some s) found = rw (sound.indexed name, found, page_in-slot name s found) refl
+      by_slot : (o : Option Slot) → find (slot_is name.uid name.page) slots ≡ o → IfSome (lookup (same_name name) slots) (IsFrame (map (seen pool) slots))
+      by_slot None none = rw (lookup-page name slots, none) tt
+      by_slot (Some s) found = rw (lookup-page name slots, found, page_in-slot name s found) refl
 
   -- the page in a frame has what the frame has
   pub page_in-frame : (frame : ℕ) → IsFrame (map (seen pool) slots) frame → (r : Resident) × (page_in (map (seen pool) slots) frame ≡ Some r) × (r.bytes ≡ (frame_in pool frame).bytes) × (r.flags ≡ (frame_in pool frame).flags)
   page_in-frame frame is =
       let found = some_mapped (seen pool) (find (slot_in frame) slots) (rw (page_in-seen pool slots frame) at is) in
-      let same : found.0.frame ≡ frame = same_number found.0.frame frame (find_passes (slot_in frame) slots found.0 found.1) in (
+      let same : found.0.1 ≡ frame = same_number found.0.1 frame (find-passes (slot_in frame) slots found.0 found.1) in (
         seen pool found.0,
         page_in-seen pool slots frame ∙ ap (option_map (seen pool)) found.1,
         ap (λ n. (frame_in pool n).bytes) same,
         ap (λ n. (frame_in pool n).flags) same,
       )
 
+-- a resident page has a slot
+pub slot_at : (pool : Pool) (slots : List Slot) (uid : ObjectName) (page : ℕ) → IsSome (page_at (map (seen pool) slots) uid page) → (s : Slot) × (find (slot_is uid page) slots ≡ Some s)
+slot_at pool slots uid page there = some_mapped (seen pool) (find (slot_is uid page) slots) (rw (page_at-seen pool slots uid page) at there)
+
+-- and another page has none
+pub slot_at-absent : (pool : Pool) (slots : List Slot) (uid : ObjectName) (page : ℕ) → page_at (map (seen pool) slots) uid page ≡ None → find (slot_is uid page) slots ≡ None
+slot_at-absent pool slots uid page none = none_mapped (seen pool) (find (slot_is uid page) slots) (sym (page_at-seen pool slots uid page) ∙ none)
+
+-- the parts stay sound with another index of the same slots
+pub IsSound-reindexed : (pool : Pool) (reserved : ℕ) (slots : List Slot) (places : ℕ) (index after : List Slot) → IsSound pool reserved slots places index → IsIndex after slots → IsSound pool reserved slots places after
+IsSound-reindexed pool reserved slots places index after sound same = record {
+  few = sound.few;
+  many = sound.many;
+  room = sound.room;
+  placed = sound.placed;
+  counted = sound.counted;
+  frames = sound.frames;
+  pages = sound.pages;
+  numbered = sound.numbered;
+  indexed = same;
+}
+
 -- a pool that changes at one frame shows the same pages, where none is in it
 module _ (old new : Pool) (n : ℕ) (others : (q : ℕ) → q ≢ n → frame_at new q ≡ frame_at old q) where
   seen-elsewhere : (s : Slot) → slot_in n s ≡ false → seen new s ≡ seen old s
   seen-elsewhere s apart =
-      let differs : s.frame ≢ n = grind (arith, nat_tests) in
-      ap (λ (f : Frame). record { uid = s.uid; page = s.page; frame = s.frame; bytes = f.bytes; flags = f.flags }) (rw (others s.frame differs) refl)
+      let differs : s.1 ≢ n = grind (arith, nat_tests) in
+      ap (λ (f : Frame). record { uid = s.0.uid; page = s.0.page; frame = s.1; bytes = f.bytes; flags = f.flags }) (rw (others s.1 differs) refl)
 
   -- all pages look as before
   pub map-seen-elsewhere : (slots : List Slot) → count_by (slot_in n) slots ≡ 0 → map (seen new) slots ≡ map (seen old) slots
@@ -163,13 +181,13 @@ module _ (old new : Pool) (n : ℕ) (others : (q : ℕ) → q ≢ n → frame_at
       (λ apart. rw (seen-elsewhere s apart, map-seen-elsewhere slots (omega (arith, count_by-cons_fails (slot_in n) s slots apart))) refl)
 
 -- the pages, where a frame holds something else
-module _ (pool : Pool) (n : ℕ) (f : Frame) (change : Resident → Resident) (changes : (s : Slot) → s.frame ≡ n → record { uid = s.uid; page = s.page; frame = s.frame; bytes = f.bytes; flags = f.flags } ≡ change (seen pool s)) where
+module _ (pool : Pool) (n : ℕ) (f : Frame) (change : Resident → Resident) (changes : (s : Slot) → s.1 ≡ n → record { uid = s.0.uid; page = s.0.page; frame = s.1; bytes = f.bytes; flags = f.flags } ≡ change (seen pool s)) where
   seen-changed : (s : Slot) → seen (with_frame pool n f) s ≡ changed_if (slot_in n s) change (seen pool s)
   seen-changed s =
       by_cases
       (slot_in n s)
       (seen (with_frame pool n f) s ≡ changed_if (slot_in n s) change (seen pool s))
-      (λ is. let same : s.frame ≡ n = same_number s.frame n is in rw is (rw (same, frame_at-with_frame-same pool n f) (rw same at (changes s same))))
+      (λ is. let same : s.1 ≡ n = same_number s.1 n is in rw is (rw (same, frame_at-with_frame-same pool n f) (rw same at (changes s same))))
       (λ apart. rw apart (seen-elsewhere pool (with_frame pool n f) n (λ q differs. frame_at-with_frame-other pool n q f differs) s apart))
 
   -- all pages look as before but the one in the frame
@@ -187,8 +205,8 @@ map-seen-bytes pool n offset bytes all slots is =
     map-seen-changed pool n (record (frame_in pool n) { bytes = all }) (λ r. record r { bytes = spliced r.bytes offset bytes }) (λ s same. rw (is, same) refl) slots
 
 -- the parts stay sound where a taken frame holds something else
-pub IsSound-with_frame : (pool : Pool) (reserved : ℕ) (slots : List Slot) (places : ℕ) (find_frame : PageName → Option ℕ) (n : ℕ) (f : Frame) → IsSound pool reserved slots places find_frame → IsTaken pool n → IsSound (with_frame pool n f) reserved slots places find_frame
-IsSound-with_frame pool reserved slots places find_frame n f sound taken = record {
+pub IsSound-with_frame : (pool : Pool) (reserved : ℕ) (slots : List Slot) (places : ℕ) (index : List Slot) (n : ℕ) (f : Frame) → IsSound pool reserved slots places index → IsTaken pool n → IsSound (with_frame pool n f) reserved slots places index
+IsSound-with_frame pool reserved slots places index n f sound taken = record {
   few = sound.few;
   many = sound.many;
   room = sound.room;
@@ -199,12 +217,13 @@ IsSound-with_frame pool reserved slots places find_frame n f sound taken = recor
     | inr differs ↦ rw (frame_at-with_frame-other pool n frame f differs) (sound.frames frame)
   ];
   pages = sound.pages;
+  numbered = sound.numbered;
   indexed = sound.indexed;
 }
 
 -- the parts of an empty cache are sound
-pub IsSound-empty : (count places : ℕ) (find_frame : PageName → Option ℕ) → 5 ≤ count → count ≤ 256 → count ≤ places → ((name : PageName) → find_frame name ≡ None) → IsSound (record { count = count; taken = empty }) 0 [] places find_frame
-IsSound-empty count places find_frame few many placed none = record {
+pub IsSound-empty : (count places : ℕ) (index : List Slot) → FEWEST_FRAMES ≤ count → count ≤ MOST_FRAMES → count ≤ places → index ≡ [] → IsSound (record { count = count; taken = empty }) 0 [] places index
+IsSound-empty count places index few many placed none = record {
   few = few;
   many = many;
   room = omega arith;
@@ -212,29 +231,30 @@ IsSound-empty count places find_frame few many placed none = record {
   counted = len-empty nat_cmp Frame;
   frames = λ frame. omega arith;
   pages = λ uid page. omega arith;
-  indexed = none;
+  numbered = refl;
+  indexed = λ test. ap (λ (xs : List Slot). count_by test xs) none;
 }
 
 -- a page is installed in a frame that was free
-module _ (pool : Pool) (reserved : ℕ) (slots : List Slot) (places : ℕ) (find_frame : PageName → Option ℕ) (sound : IsSound pool reserved slots places find_frame) (s : Slot) (f : Frame) (free : frame_at pool s.frame ≡ None) (absent : page_at (map (seen pool) slots) s.uid s.page ≡ None) where
-  none_in_frame : count_by (slot_in s.frame) slots ≡ 0
-  none_in_frame = omega (arith, sound.frames s.frame, slot_limit-free pool s.frame free)
+module _ (pool : Pool) (reserved : ℕ) (slots : List Slot) (places : ℕ) (index : List Slot) (sound : IsSound pool reserved slots places index) (s : Slot) (f : Frame) (free : frame_at pool s.1 ≡ None) (absent : page_at (map (seen pool) slots) s.0.uid s.0.page ≡ None) where
+  none_in_frame : count_by (slot_in s.1) slots ≡ 0
+  none_in_frame = omega (arith, sound.frames s.1, slot_limit-free pool s.1 free)
 
   -- no slot is of the page
-  none_of_page : count_by (slot_is s.uid s.page) slots ≡ 0
-  none_of_page = count_by-none (slot_is s.uid s.page) slots (none_mapped (seen pool) (find (slot_is s.uid s.page) slots) (sym (page_at-seen pool slots s.uid s.page) ∙ absent))
+  none_of_page : count_by (slot_is s.0.uid s.0.page) slots ≡ 0
+  none_of_page = count_by-none (slot_is s.0.uid s.0.page) slots (none_mapped (seen pool) (find (slot_is s.0.uid s.0.page) slots) (sym (page_at-seen pool slots s.0.uid s.0.page) ∙ absent))
 
   -- the frame has one slot
-  frame-installed : count_by (slot_in s.frame) (s ∷ slots) ≤ slot_limit (with_frame pool s.frame f) s.frame
+  frame-installed : count_by (slot_in s.1) (s ∷ slots) ≤ slot_limit (with_frame pool s.1 f) s.1
   frame-installed =
-      let one = count_by-cons_passes (slot_in s.frame) s slots (grind (arith, nat_tests)) in
-      rw (frame_at-with_frame-same pool s.frame f) (omega (arith, one, none_in_frame))
+      let one = count_by-cons_passes (slot_in s.1) s slots (grind (arith, nat_tests)) in
+      rw (frame_at-with_frame-same pool s.1 f) (omega (arith, one, none_in_frame))
 
   -- no frame has more slots than it may have
-  frames-installed : (frame : ℕ) → count_by (slot_in frame) (s ∷ slots) ≤ slot_limit (with_frame pool s.frame f) frame
-  frames-installed frame = elim (cases_eq frame s.frame) [
-    | inl same ↦ subst (λ (q : ℕ). count_by (slot_in q) (s ∷ slots) ≤ slot_limit (with_frame pool s.frame f) q) (sym same) frame-installed
-    | inr differs ↦ rw (frame_at-with_frame-other pool s.frame frame f differs) (omega (arith, count_by-cons_fails (slot_in frame) s slots (grind (arith, nat_tests)), sound.frames frame))
+  frames-installed : (frame : ℕ) → count_by (slot_in frame) (s ∷ slots) ≤ slot_limit (with_frame pool s.1 f) frame
+  frames-installed frame = elim (cases_eq frame s.1) [
+    | inl same ↦ subst (λ (q : ℕ). count_by (slot_in q) (s ∷ slots) ≤ slot_limit (with_frame pool s.1 f) q) (sym same) frame-installed
+    | inr differs ↦ rw (frame_at-with_frame-other pool s.1 frame f differs) (omega (arith, count_by-cons_fails (slot_in frame) s slots (grind (arith, nat_tests)), sound.frames frame))
   ]
 
   -- each page has one slot at most
@@ -249,51 +269,34 @@ module _ (pool : Pool) (reserved : ℕ) (slots : List Slot) (places : ℕ) (find
       (λ fails. omega (arith, count_by-cons_fails (slot_is uid page) s slots fails, sound.pages uid page))
 
   -- the parts stay sound
-  pub IsSound-installed : (after : PageName → Option ℕ) → 0 < reserved → ((q : PageName) → after q ≡ cond (same_name (record { uid = s.uid; page = s.page }) q) (Some s.frame) (find_frame q)) → IsSound (with_frame pool s.frame f) (reserved - 1) (s ∷ slots) places after
-  IsSound-installed after some updates = record {
+  pub IsSound-installed : (after : List Slot) → 0 < reserved → s.0.page < 4294967296 → IsIndex after (s ∷ slots) → IsSound (with_frame pool s.1 f) (reserved - 1) (s ∷ slots) places after
+  IsSound-installed after some fits same = record {
     few = sound.few;
     many = sound.many;
     room = omega (arith, sound.room);
     placed = sound.placed;
-    counted = omega (arith, len-with_frame-free pool s.frame f free, sound.counted);
+    counted = omega (arith, len-with_frame-free pool s.1 f free, sound.counted);
     frames = frames-installed;
     pages = pages-installed;
-    indexed = λ q. updates q ∙ ap (cond (same_name (record { uid = s.uid; page = s.page }) q) (Some s.frame)) (sound.indexed q) ∙ by_test (slot_is q.uid q.page s) (find (slot_is q.uid q.page) slots);
+    numbered = count_by-cons_fails is_beyond s slots (grind (arith, nat_tests)) ∙ sound.numbered;
+    indexed = same;
   }
-    where
-      by_test : (b : Bool) (o : Option Slot) → cond b (Some s.frame) (option_map (λ x. x.frame) o) ≡ option_map (λ x. x.frame) (cond b (Some s) o)
-      by_test true o = refl
-      by_test false o = refl
 
   -- the page is in front of the others
-  pub map-seen-installed : map (seen (with_frame pool s.frame f)) (s ∷ slots) ≡ record { uid = s.uid; page = s.page; frame = s.frame; bytes = f.bytes; flags = f.flags } ∷ map (seen pool) slots
+  pub map-seen-installed : map (seen (with_frame pool s.1 f)) (s ∷ slots) ≡ record { uid = s.0.uid; page = s.0.page; frame = s.1; bytes = f.bytes; flags = f.flags } ∷ map (seen pool) slots
   map-seen-installed =
       rw (
-        frame_at-with_frame-same pool s.frame f,
-        map-seen-elsewhere pool (with_frame pool s.frame f) s.frame (λ q differs. frame_at-with_frame-other pool s.frame q f differs) slots none_in_frame,
+        frame_at-with_frame-same pool s.1 f,
+        map-seen-elsewhere pool (with_frame pool s.1 f) s.1 (λ q differs. frame_at-with_frame-other pool s.1 q f differs) slots none_in_frame,
       ) refl
 
 -- a page comes to the front
-module _ (pool : Pool) (reserved : ℕ) (slots : List Slot) (places : ℕ) (find_frame : PageName → Option ℕ) (sound : IsSound pool reserved slots places find_frame) (uid : ObjectName) (page : ℕ) (s : Slot) (found : find (slot_is uid page) slots ≡ Some s) where
+module _ (pool : Pool) (reserved : ℕ) (slots : List Slot) (places : ℕ) (index : List Slot) (sound : IsSound pool reserved slots places index) (uid : ObjectName) (page : ℕ) (s : Slot) (found : find (slot_is uid page) slots ≡ Some s) where
   pub length-others : suc (length (filter (λ x. not (slot_is uid page x)) slots)) ≡ length slots
   length-others = omega (arith, length-filter_not (slot_is uid page) slots, sound.pages uid page, count_by-found (slot_is uid page) slots s found)
 
-  -- each page is found as before
-  find-used : (q : PageName) → find (slot_is q.uid q.page) (s ∷ filter (λ x. not (slot_is uid page x)) slots) ≡ find (slot_is q.uid q.page) slots
-  find-used q =
-      let key : PageName = record { uid = uid; page = page } in
-      by_cases
-      (same_name key q)
-      (find (slot_is q.uid q.page) (s ∷ filter (λ x. not (slot_is uid page x)) slots) ≡ find (slot_is q.uid q.page) slots)
-      (λ is.
-      let here : find (slot_is uid page) (s ∷ filter (λ x. not (slot_is uid page x)) slots) ≡ find (slot_is uid page) slots = rw (find_passes (slot_is uid page) slots s found) (sym found) in
-      subst (λ (n : PageName). find (slot_is n.uid n.page) (s ∷ filter (λ x. not (slot_is uid page x)) slots) ≡ find (slot_is n.uid n.page) slots) (same_name-true key q is) here)
-      (λ differ.
-      let apart : slot_is q.uid q.page s ≡ false = slot_is-other key q s differ (find_passes (slot_is uid page) slots s found) in
-      rw apart (find-without key slots q differ))
-
   -- the parts stay sound
-  pub IsSound-used : IsSound pool reserved (s ∷ filter (λ x. not (slot_is uid page x)) slots) places find_frame
+  pub IsSound-used : IsSound pool reserved (s ∷ filter (λ x. not (slot_is uid page x)) slots) places index
   IsSound-used = record {
     few = sound.few;
     many = sound.many;
@@ -302,7 +305,8 @@ module _ (pool : Pool) (reserved : ℕ) (slots : List Slot) (places : ℕ) (find
     counted = omega (arith, length-others, sound.counted);
     frames = λ frame. rw (count_by-to_front (slot_is uid page) (slot_in frame) slots s found (sound.pages uid page)) (sound.frames frame);
     pages = λ u k. rw (count_by-to_front (slot_is uid page) (slot_is u k) slots s found (sound.pages uid page)) (sound.pages u k);
-    indexed = λ q. sound.indexed q ∙ ap (option_map (λ x. x.frame)) (sym (find-used q));
+    numbered = count_by-to_front (slot_is uid page) is_beyond slots s found (sound.pages uid page) ∙ sound.numbered;
+    indexed = λ test. sound.indexed test ∙ sym (count_by-to_front (slot_is uid page) test slots s found (sound.pages uid page));
   }
 
   -- the page is in front of the others
@@ -310,51 +314,40 @@ module _ (pool : Pool) (reserved : ℕ) (slots : List Slot) (places : ℕ) (find
   map-seen-used = rw (page_at-seen pool slots uid page, found, filter-map (seen pool) (λ r. not (is_page uid page r)) slots) refl
 
   -- a page is resident no more, and its frame is free
-  none_left : count_by (slot_in s.frame) (filter (λ x. not (slot_is uid page x)) slots) ≡ 0
+  none_left : count_by (slot_in s.1) (filter (λ x. not (slot_is uid page x)) slots) ≡ 0
   none_left =
       omega (
         arith,
-        count_by-filter_found (slot_is uid page) (slot_in s.frame) slots s found (grind (arith, nat_tests)),
-        sound.frames s.frame,
-        slot_limit-le pool s.frame,
+        count_by-filter_found (slot_is uid page) (slot_in s.1) slots s found (grind (arith, nat_tests)),
+        sound.frames s.1,
+        slot_limit-le pool s.1,
       )
 
   -- no frame has more slots than it may have
-  frames-removed : (frame : ℕ) → count_by (slot_in frame) (filter (λ x. not (slot_is uid page x)) slots) ≤ slot_limit (without_frame pool s.frame) frame
-  frames-removed frame = elim (cases_eq frame s.frame) [
-    | inl same ↦ subst (λ (q : ℕ). count_by (slot_in q) (filter (λ x. not (slot_is uid page x)) slots) ≤ slot_limit (without_frame pool s.frame) q) (sym same) (omega (arith, none_left))
-    | inr differs ↦ rw (frame_at-without_frame-other pool s.frame frame differs) (omega (arith, count_by-filter-le (slot_in frame) (λ x. not (slot_is uid page x)) slots, sound.frames frame))
+  frames-removed : (frame : ℕ) → count_by (slot_in frame) (filter (λ x. not (slot_is uid page x)) slots) ≤ slot_limit (without_frame pool s.1) frame
+  frames-removed frame = elim (cases_eq frame s.1) [
+    | inl same ↦ subst (λ (q : ℕ). count_by (slot_in q) (filter (λ x. not (slot_is uid page x)) slots) ≤ slot_limit (without_frame pool s.1) q) (sym same) (omega (arith, none_left))
+    | inr differs ↦ rw (frame_at-without_frame-other pool s.1 frame differs) (omega (arith, count_by-filter-le (slot_in frame) (λ x. not (slot_is uid page x)) slots, sound.frames frame))
   ]
 
-  -- each other page is found as before
-  find-removed : (q : PageName) → cond (same_name (record { uid = uid; page = page }) q) None (find_frame q) ≡ option_map (λ x. x.frame) (find (slot_is q.uid q.page) (filter (λ x. not (slot_is uid page x)) slots))
-  find-removed q =
-      let key : PageName = record { uid = uid; page = page } in
-      by_cases
-      (same_name key q)
-      (cond (same_name key q) None (find_frame q) ≡ option_map (λ x. x.frame) (find (slot_is q.uid q.page) (filter (λ x. not (slot_is uid page x)) slots)))
-      (λ is.
-      let gone = find-none (slot_is uid page) (filter (λ x. not (slot_is uid page x)) slots) (count_by-filter_takes (slot_is uid page) (λ x. not (slot_is uid page x)) (λ x passes. ap not passes) slots) in
-      rw is (ap (option_map (λ x. x.frame)) (sym (subst (λ (n : PageName). find (slot_is n.uid n.page) (filter (λ x. not (slot_is uid page x)) slots) ≡ None) (same_name-true key q is) gone))))
-      (λ differ. rw differ (sound.indexed q ∙ ap (option_map (λ x. x.frame)) (sym (find-without key slots q differ))))
-
   -- the parts stay sound
-  pub IsSound-removed : (after : PageName → Option ℕ) → ((q : PageName) → after q ≡ cond (same_name (record { uid = uid; page = page }) q) None (find_frame q)) → IsSound (without_frame pool s.frame) reserved (filter (λ x. not (slot_is uid page x)) slots) places after
-  IsSound-removed after updates = record {
+  pub IsSound-removed : (after : List Slot) → IsIndex after (filter (λ x. not (slot_is uid page x)) slots) → IsSound (without_frame pool s.1) reserved (filter (λ x. not (slot_is uid page x)) slots) places after
+  IsSound-removed after same = record {
     few = sound.few;
     many = sound.many;
     room = omega (arith, length-others, sound.room);
     placed = sound.placed;
-    counted = omega (arith, len-without_frame pool s.frame (IsTaken-slot pool reserved slots places find_frame sound (slot_is uid page) s found), length-others, sound.counted);
+    counted = omega (arith, len-without_frame pool s.1 (IsTaken-slot pool reserved slots places index sound (slot_is uid page) s found), length-others, sound.counted);
     frames = frames-removed;
     pages = λ u k. omega (arith, count_by-filter-le (slot_is u k) (λ x. not (slot_is uid page x)) slots, sound.pages u k);
-    indexed = λ q. updates q ∙ find-removed q;
+    numbered = omega (arith, count_by-filter-le is_beyond (λ x. not (slot_is uid page x)) slots, sound.numbered);
+    indexed = same;
   }
 
   -- the others stay as they are
-  pub map-seen-removed : map (seen (without_frame pool s.frame)) (filter (λ x. not (slot_is uid page x)) slots) ≡ without_page (map (seen pool) slots) uid page
+  pub map-seen-removed : map (seen (without_frame pool s.1)) (filter (λ x. not (slot_is uid page x)) slots) ≡ without_page (map (seen pool) slots) uid page
   map-seen-removed =
-      map-seen-elsewhere pool (without_frame pool s.frame) s.frame (λ q differs. frame_at-without_frame-other pool s.frame q differs) (filter (λ x. not (slot_is uid page x)) slots) none_left
+      map-seen-elsewhere pool (without_frame pool s.1) s.1 (λ q differs. frame_at-without_frame-other pool s.1 q differs) (filter (λ x. not (slot_is uid page x)) slots) none_left
       ∙ sym (filter-map (seen pool) (λ r. not (is_page uid page r)) slots)
 
 -- a page that is not resident is in no slot
@@ -374,35 +367,19 @@ same_cache frames reserved ps qs same = rw same refl
 pub cache_from_fields : (c : Cached) (frames reserved : ℕ) (ps : List Resident) → c.frames ≡ frames → c.reserved ≡ reserved → c.pages ≡ ps → ◌≡◌ {A = Cached} c (record { frames = frames; reserved = reserved; pages = ps })
 cache_from_fields c frames reserved ps f r p = λ i. record { frames = f i; reserved = r i; pages = p i }
 
--- the number of the object's first page is that of its first slot
-pub page-found : (pool : Pool) (slots : List Slot) (uid : ObjectName) → option_map (λ s. s.page) (find (λ s. same_uid s.uid uid) slots) ≡ option_map (λ r. r.page) (find (is_of uid) (map (seen pool) slots))
-page-found pool slots uid = by_slot (find (λ s. same_uid s.uid uid) slots) ∙ ap (option_map (λ r. r.page)) (sym (find-map (seen pool) (is_of uid) slots))
-  where
-    by_slot : (o : Option Slot) → option_map (λ s. s.page) o ≡ option_map (λ r. r.page) (option_map (seen pool) o)
-    by_slot None = refl
-    by_slot (Some s) = refl
-
--- the numbers of the object's pages are those of its slots
-pub numbers-seen : (pool : Pool) (slots : List Slot) (uid : ObjectName) → map (λ s. s.page) (filter (λ s. same_uid s.uid uid) slots) ≡ numbers (is_of uid) (map (seen pool) slots)
-numbers-seen pool slots uid = pages_seen (filter (λ s. same_uid s.uid uid) slots) ∙ ap (map (λ r. r.page)) (sym (filter-map (seen pool) (is_of uid) slots))
-  where
-    pages_seen : (ss : List Slot) → map (λ s. s.page) ss ≡ map (λ r. r.page) (map (seen pool) ss)
-    pages_seen [] = refl
-    pages_seen (s ∷ ss) = ap (λ ks. s.page ∷ ks) (pages_seen ss)
-
 -- an object's page, one by one, is no page of the others
 module _ (pages : List Resident) (uid : ObjectName) where
   pub without_object-without_page : (page : ℕ) → without_object (without_page pages uid page) uid ≡ without_object pages uid
   without_object-without_page page = filter-filter_leaves (λ r. not (is_of uid r)) (λ r. not (is_page uid page r)) (λ r other. rw (not_true (is_of uid r) other) refl) pages
 
   -- nothing goes where the object has no page
-  pub without_object-none : option_map (λ r. r.page) (find (is_of uid) pages) ≡ None → without_object pages uid ≡ pages
-  without_object-none none = filter_not-none (is_of uid) pages (count_by-none (is_of uid) pages (none_mapped (λ r. r.page) (find (is_of uid) pages) none))
+  pub without_object-none : find (is_of uid) pages ≡ None → without_object pages uid ≡ pages
+  without_object-none none = filter_not-none (is_of uid) pages (count_by-none (is_of uid) pages none)
 
   -- a page less is left
-  pub length-without_page : (page : ℕ) → option_map (λ r. r.page) (find (is_of uid) pages) ≡ Some page → length (without_page pages uid page) < length pages
-  length-without_page page found =
-      let first = mapped_from (λ r. r.page) (find (is_of uid) pages) page found in
-      let of : is_of uid first.0 ≡ true = find_passes (is_of uid) pages first.0 first.1 in
-      let is : is_page uid page first.0 ≡ true = rw (of, first.2) (grind (arith, nat_tests)) in
-      omega (arith, count_by-found_by (is_of uid) (is_page uid page) pages first.0 first.1 is, length-filter_not (is_page uid page) pages)
+  pub length-without_page : (page : ℕ) → IsSome (page_at pages uid page) → length (without_page pages uid page) < length pages
+  length-without_page page there = by_page (page_at pages uid page) refl there
+    where
+      by_page : (o : Option Resident) → page_at pages uid page ≡ o → IsSome o → length (without_page pages uid page) < length pages
+      by_page None none there = absurd (cc)
+      by_page (Some r) found there = omega (arith, count_by-found (is_page uid page) pages r found, length-filter_not (is_page uid page) pages)

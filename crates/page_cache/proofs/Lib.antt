@@ -1,6 +1,6 @@
-pub mod ListLemmas
 pub mod SlotLemmas
 pub mod CacheLemmas
 pub mod NumberLemmas
+pub mod IndexLemmas
 pub mod PageLemmas
 pub mod LoopLemmas

@@ -2,15 +2,12 @@
 use Rattle.std.proofs.Common.{◌≡◌, ℕ, Bool, true, false, not, ◌&&◌, cond, List, [], ◌∷◌, ◌++◌, map, Option, Some, None, refl, sym, ap, arith, count_by}
 use Rattle.std.specs.Bool.{beq}
 use Rattle.std.proofs.lemmas.List.{reverse-append, map-append}
-use Rattle.uid_names.specs.Names.{ObjectName}
 use Rattle.page_frames.specs.declared.frame.Flags.{Flags}
 use Rattle.page_frames.specs.Pools.{Pool, frame_in}
-use Rattle.page_cache.specs.declared.cache.Slot.{Slot}
 use Rattle.page_cache.specs.Caches.{Resident}
 use Rattle.page_cache.specs.Victims.{oldest, is_choice}
-use Rattle.page_cache.specs.Numbers.{is_dirty_of, lesser, dirty_page}
-use Rattle.page_cache.specs.Insides.{slot_in, seen}
-use Rattle.page_cache.proofs.ListLemmas.{count_by-cons, count_by-push}
+use Rattle.page_cache.specs.Insides.{Slot, slot_in, seen}
+use Rattle.uid_names.proofs.ListLemmas.{count_by-cons, count_by-push}
 use Rattle.page_cache.proofs.CacheLemmas.{AreTaken}
 
 -- whether a page is a choice, by its two flags
@@ -21,7 +18,7 @@ choice_by_flags false r true t is in_transit = rw is refl
 choice_by_flags false r false t is in_transit = rw (is, in_transit) refl
 
 -- the same by the flags of its frame
-pub is_choice-seen : (pool : Pool) (s : Slot) (dirty : Bool) (flags : Flags) → flags ≡ (frame_in pool s.frame).flags → is_choice dirty (seen pool s) ≡ (beq flags.dirty dirty && not flags.transit)
+pub is_choice-seen : (pool : Pool) (s : Slot) (dirty : Bool) (flags : Flags) → flags ≡ (frame_in pool s.1).flags → is_choice dirty (seen pool s) ≡ (beq flags.dirty dirty && not flags.transit)
 is_choice-seen pool s dirty flags is = choice_by_flags dirty (seen pool s) flags.dirty flags.transit (ap (λ f. f.dirty) (sym is)) (ap (λ f. f.transit) (sym is))
 
 -- two tests fail where one does
@@ -48,24 +45,9 @@ module _ (pool : Pool) (all rest : List Slot) (s : Slot) (is : all ≡ rest ++ s
   pub oldest-before : (test : Resident → Bool) → test (seen pool s) ≡ false → oldest test (map (seen pool) all) ≡ oldest test (map (seen pool) rest)
   oldest-before test fails = rw (oldest-last test, fails) refl
 
--- the order of comparing does not matter
-lesser-lesser : (a b c : Option ℕ) → lesser a (lesser b c) ≡ lesser (lesser a b) c
-lesser-lesser None b c = refl
-lesser-lesser (Some a) None c = refl
-lesser-lesser (Some a) (Some b) None = refl
-lesser-lesser (Some a) (Some b) (Some c) = ap Some (omega arith)
-
 module _ (pool : Pool) (all rest : List Slot) (s : Slot) (is : all ≡ s ∷ rest) where
   -- the slots behind the first
   pub AreTaken-behind : AreTaken pool all → AreTaken pool rest
   AreTaken-behind taken frame =
       let more = ap (λ (xs : List Slot). count_by (slot_in frame) xs) is in
       omega (arith, taken frame, more, count_by-cons (slot_in frame) s rest)
-
-  -- a dirty page of the object is compared with the least so far
-  pub dirty_page-first : (uid : ObjectName) (lowest : Option ℕ) → is_dirty_of uid (seen pool s) ≡ true → lesser lowest (dirty_page (map (seen pool) all) uid) ≡ lesser (lesser lowest (Some s.page)) (dirty_page (map (seen pool) rest) uid)
-  dirty_page-first uid lowest passes = rw (is, passes) (lesser-lesser lowest (Some s.page) (dirty_page (map (seen pool) rest) uid))
-
-  -- another page is passed over
-  pub dirty_page-other : (uid : ObjectName) (lowest : Option ℕ) → is_dirty_of uid (seen pool s) ≡ false → lesser lowest (dirty_page (map (seen pool) all) uid) ≡ lesser lowest (dirty_page (map (seen pool) rest) uid)
-  dirty_page-other uid lowest fails = rw (is, fails) refl

@@ -1,19 +1,16 @@
 -- Rising lists of numbers: a list's numbers stand in one rising order.
-use Rattle.std.proofs.Common.{◌≡◌, ℕ, suc, ◌<◌, ◌≤◌, ◌==◌, true, false, cond, nat_lt, List, [], ◌∷◌, length, get_or, count_by, refl, sym, ap, subst, ◌∙◌, arith}
+use Rattle.std.proofs.Common.{◌≡◌, ℕ, suc, ◌<◌, ◌≤◌, ◌==◌, true, false, nat_lt, List, [], ◌∷◌, Option, Some, None, count_by, refl, sym, ap, subst, ◌∙◌, arith}
 use Rattle.std.proofs.lemmas.Bool.Decides.{nat_tests}
-use Rattle.std.proofs.lemmas.List.Sorted.{sum_by-IsPermutation, IsNonDecreasingBy-from_sort}
-use Rattle.std.specs.List.Sorted.{IsPermutation, IsNonDecreasing, IsSortedByKey}
-use Rattle.std.specs.Ordering.{nat_cmp}
-use Rattle.page_cache.specs.Numbers.{placed, rising}
-use Rattle.page_cache.proofs.ListLemmas.{by_cases, count_by-cons, count_by-cons_passes, count_by-cons_fails}
+use Rattle.page_cache.specs.Numbers.{lesser, least, placed, rising}
+use Rattle.uid_names.proofs.ListLemmas.{by_cases, count_by-cons, count_by-cons_passes, count_by-cons_fails}
 
 -- the numbers do not fall, and none is below n
-abbrev IsFrom : ℕ → List ℕ → Type 0
+abbrev pub IsFrom : ℕ → List ℕ → Type 0
 IsFrom n [] = Unit {0}
 IsFrom n (x ∷ xs) = (n ≤ x) × IsFrom x xs
 
 -- how often a number stands in a list
-abbrev copies : ℕ → List ℕ → ℕ
+abbrev pub copies : ℕ → List ℕ → ℕ
 copies k xs = count_by (λ x. x == k) xs
 
 -- one copy more of the number that is placed
@@ -34,7 +31,7 @@ copies-placed n k (x ∷ xs) =
     (λ is. rw is refl)
 
 -- as many copies of each number
-copies-rising : (n : ℕ) (xs : List ℕ) → copies n (rising xs) ≡ copies n xs
+pub copies-rising : (n : ℕ) (xs : List ℕ) → copies n (rising xs) ≡ copies n xs
 copies-rising n [] = refl
 copies-rising n (k ∷ xs) = omega (arith, copies-placed n k (rising xs), copies-rising n xs, count_by-cons (λ y. y == n) k (rising xs), count_by-cons (λ y. y == n) k xs)
 
@@ -49,17 +46,9 @@ IsFrom-placed n k (x ∷ xs) le from =
     (λ is. let above : k ≤ x = grind (arith, nat_tests) in rw is (le, (above, from.1)))
 
 -- so are the numbers that were brought to rise
-IsFrom-rising : (xs : List ℕ) → IsFrom 0 (rising xs)
+pub IsFrom-rising : (xs : List ℕ) → IsFrom 0 (rising xs)
 IsFrom-rising [] = tt
 IsFrom-rising (k ∷ xs) = IsFrom-placed 0 k (rising xs) (omega arith) (IsFrom-rising xs)
-
--- so are the numbers of a list that does not fall
-IsFrom-non_decreasing : (n : ℕ) (xs : List ℕ) → ((j d : ℕ) → j < length xs → n ≤ get_or xs j d) → IsNonDecreasing xs → IsFrom n xs
-IsFrom-non_decreasing n [] low up = tt
-IsFrom-non_decreasing n (x ∷ xs) low up = (
-  low 0 0 (omega arith),
-  IsFrom-non_decreasing x xs (λ j d lt. up 0 (suc j) d (omega arith) (omega arith)) (λ i j d le lt. up (suc i) (suc j) d (omega arith) (omega arith)),
-)
 
 -- no number stands in a list that begins above it
 copies-below : (n k : ℕ) (xs : List ℕ) → IsFrom n xs → k < n → copies k xs ≡ 0
@@ -97,13 +86,38 @@ same_from_copies n (x ∷ xs) (y ∷ ys) xfrom yfrom same =
     let P : ℕ → Type 0 = λ z. IsFrom z ys → ((k : ℕ) → copies k (x ∷ xs) ≡ copies k (z ∷ ys)) → x ∷ xs ≡ z ∷ ys in
     subst P heads (λ from all. ap (λ zs. x ∷ zs) (tails from all)) yfrom.1 same
 
--- a sorted list of some numbers has them rising
-pub rising-sorted : (xs ys : List ℕ) → IsPermutation xs ys → IsSortedByKey (λ x. x) nat_cmp ys → ys ≡ rising xs
-rising-sorted xs ys moved sorted =
-    same_from_copies
-    0
-    ys
-    (rising xs)
-    (IsFrom-non_decreasing 0 ys (λ j d lt. omega arith) (IsNonDecreasingBy-from_sort (λ x. x) ys sorted))
-    (IsFrom-rising xs)
-    (λ k. sum_by-IsPermutation (λ x. cond (x == k) 1 0) xs ys moved ∙ sym (copies-rising k xs))
+-- rising numbers that stand as often as some others are those, brought to rise
+pub rising-same : (xs ys : List ℕ) → IsFrom 0 ys → ((k : ℕ) → copies k ys ≡ copies k xs) → ys ≡ rising xs
+rising-same xs ys up same = same_from_copies 0 ys (rising xs) up (IsFrom-rising xs) (λ k. same k ∙ sym (copies-rising k xs))
+
+-- the order of comparing does not matter
+lesser-swapped : (a b : ℕ) (o : Option ℕ) → lesser (Some a) (lesser (Some b) o) ≡ lesser (Some b) (lesser (Some a) o)
+lesser-swapped a b None = ap Some (omega arith)
+lesser-swapped a b (Some c) = ap Some (omega arith)
+
+-- the least of numbers, one of which is in its place
+least-placed : (k : ℕ) (xs : List ℕ) → least (placed k xs) ≡ lesser (Some k) (least xs)
+least-placed k [] = refl
+least-placed k (x ∷ xs) =
+    by_cases
+    (nat_lt x k)
+    (least (placed k (x ∷ xs)) ≡ lesser (Some k) (least (x ∷ xs)))
+    (λ is. rw is (ap (lesser (Some x)) (least-placed k xs) ∙ lesser-swapped x k (least xs)))
+    (λ is. rw is refl)
+
+-- the least of numbers that were brought to rise
+least-rising : (xs : List ℕ) → least (rising xs) ≡ least xs
+least-rising [] = refl
+least-rising (k ∷ ks) = least-placed k (rising ks) ∙ ap (lesser (Some k)) (least-rising ks)
+
+-- two lists that have each number as often have one least number
+pub least-same : (xs ys : List ℕ) → ((k : ℕ) → copies k xs ≡ copies k ys) → least xs ≡ least ys
+least-same xs ys same =
+    sym (least-rising xs)
+    ∙ ap least (same_from_copies 0 (rising xs) (rising ys) (IsFrom-rising xs) (IsFrom-rising ys) (λ k. copies-rising k xs ∙ same k ∙ sym (copies-rising k ys)))
+    ∙ least-rising ys
+
+-- the least of numbers that do not fall is the first
+pub least-from : (x : ℕ) (xs : List ℕ) → IsFrom x xs → least (x ∷ xs) ≡ Some x
+least-from x [] from = refl
+least-from x (y ∷ ys) from = let above : x ≤ y = from.0 in ap (lesser (Some x)) (least-from y ys from.1) ∙ ap Some (omega arith)

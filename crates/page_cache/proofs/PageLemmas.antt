@@ -9,10 +9,7 @@ use Rattle.page_cache.specs.Caches.{Resident, IsResident, is_page, is_in, page_a
 use Rattle.page_cache.specs.Changes.{changed_in}
 use Rattle.page_cache.specs.Victims.{oldest, name_of}
 use Rattle.page_cache.specs.Numbers.{is_dirty_of, lesser, dirty_page}
-use Rattle.page_frames.specs.Pools.{Pool}
-use Rattle.page_cache.specs.declared.cache.Slot.{Slot}
-use Rattle.page_cache.specs.Insides.{seen}
-use Rattle.page_cache.proofs.ListLemmas.{by_cases, count_by-cons, count_by-push, count_by-cons_passes, count_by-cons_fails, find-none, find_once, find-push}
+use Rattle.uid_names.proofs.ListLemmas.{by_cases, count_by-cons, count_by-push, count_by-cons_passes, count_by-cons_fails, find-count_none, find_once, find-push}
 
 -- the first comes last
 reverse-cons : {X : Type 0} (x : X) (xs : List X) → reverse (x ∷ xs) ≡ reverse xs ++ x ∷ []
@@ -31,7 +28,7 @@ find-reverse p (x ∷ xs) once =
     (p x)
     (find p (reverse (x ∷ xs)) ≡ find p (x ∷ xs))
     (λ is.
-    let none : find p xs ≡ None = find-none p xs (omega (arith, count_by-cons_passes p x xs is)) in
+    let none : find p xs ≡ None = find-count_none p xs (omega (arith, count_by-cons_passes p x xs is)) in
     let before : find p (reverse xs) ≡ None = find-reverse p xs (omega (arith, count_by-cons_passes p x xs is)) ∙ none in
     rw (reverse-cons x xs, find-push p (reverse xs) x, before, is) refl)
     (λ is. rw (reverse-cons x xs, find-push p (reverse xs) x, is) (option_or-none (find p (reverse xs)) ∙ find-reverse p xs (omega (arith, count_by-cons_fails p x xs is))))
@@ -97,12 +94,6 @@ IsResident-dirty (r ∷ rest) uid page found =
 pub IsResident-lowest : (pages : List Resident) (uid : ObjectName) (lowest : Option ℕ) → dirty_page pages uid ≡ lowest → IfSome lowest (IsResident pages uid)
 IsResident-lowest pages uid None is = tt
 IsResident-lowest pages uid (Some page) is = IsResident-dirty pages uid page is
-
--- the least so far is the least where no page is left
-pub least_so_far : (pool : Pool) (rest : List Slot) (uid : ObjectName) (lowest : Option ℕ) → length rest ≡ 0 → lesser lowest (dirty_page (map (seen pool) rest) uid) ≡ lowest
-least_so_far pool [] uid None none = refl
-least_so_far pool [] uid (Some a) none = refl
-least_so_far pool (s ∷ rest) uid lowest none = absurd (omega arith)
 
 -- a change in a frame that no page is in changes nothing
 pub changed_in-none : (frame : ℕ) (change : Resident → Resident) (pages : List Resident) → count_by (is_in frame) pages ≡ 0 → changed_in frame change pages ≡ pages

@@ -3,6 +3,7 @@ use Rattle.std.specs.Prelude.{ℕ, ◌+◌, ◌-◌, ◌≤◌, Bool, ◌&&◌, 
 use Rattle.std.specs.List.{find}
 use Rattle.uid_names.specs.Names.{ObjectName, same_uid}
 use Rattle.page_frames.specs.declared.frame.Flags.{Flags}
+use Rattle.page_frames.specs.declared.frame.TheConstants.{FEWEST_FRAMES, MOST_FRAMES}
 
 -- a resident page: its object, its number there, its frame, and the frame's bytes and flags
 pub record Resident : Type 0 where
@@ -50,11 +51,11 @@ IsFrame pages frame = IsSome (page_in pages frame)
 abbrev pub free_count : Cached → ℕ
 free_count c = c.frames - (length c.pages + c.reserved)
 
--- what each cache keeps: 5 to 256 frames, of which no more are taken and reserved than there are;
+-- what each cache keeps: as many frames as a pool may have, of which no more are taken and reserved than there are;
 -- each page stands once, and each frame
 pub record IsCache (c : Cached) : Type 0 where
-  pub few : 5 ≤ c.frames
-  pub many : c.frames ≤ 256
+  pub few : FEWEST_FRAMES ≤ c.frames
+  pub many : c.frames ≤ MOST_FRAMES
   pub room : length c.pages + c.reserved ≤ c.frames
   pub pages : (uid : ObjectName) (page : ℕ) → count_by (is_page uid page) c.pages ≤ 1
   pub frames : (frame : ℕ) → count_by (is_in frame) c.pages ≤ 1

@@ -1,81 +1,23 @@
 //! The cache: which pages are resident, in which frames, and which of them was used last.
-ghost use Rattle.std.specs.Prelude.{◌≡◌, ℕ, ◌+◌, ◌-◌, ◌<◌, ◌≤◌, List, [], length, map, filter, count_by, not, position, ◌↔◌, OnOk, OnErr, IfOk, IfSome, IfNone, IsSome, None, Some};
+ghost use Rattle.std.specs.Prelude.{◌≡◌, ℕ, ◌+◌, ◌-◌, ◌<◌, ◌≤◌, [], length, ◌↔◌, OnOk, OnErr, IfOk, IfSome, IfNone, IsSome, None, Some};
 ghost use Rattle.std.specs.Option.{option_map};
 ghost use Rattle.std.specs.List.{find};
-ghost use Rattle.std.specs.VecDeque.{deque_capacity};
-ghost use Rattle.uid_names.specs.Names.{same_uid};
 ghost use Rattle.page_frames.specs.Pools.{frame_at, with_frame, no_flags, free_count as frames_free};
 ghost use Rattle.page_cache.specs.Caches.{Cached, IsCache, IsResident, IsFrame, is_of, page_at, page_in, free_count};
 ghost use Rattle.page_cache.specs.Changes.{without_page, without_object, used, installed, with_flags, with_bytes};
 ghost use Rattle.page_cache.specs.Victims.{victim_of, name_of, oldest, is_choice};
-ghost use Rattle.page_cache.specs.Numbers.{lesser, dirty_page, resident_pages};
-ghost use Rattle.page_cache.specs.Insides.{slot_is};
+ghost use Rattle.page_cache.specs.Numbers.{dirty_page, resident_pages};
 
 use crate::page_list::PageList;
-use page_frames::{Flags, FrameNo, Frames};
-use std::alloc::{AllocError, Global};
-use std::collections::{HashMap, VecDeque};
+use crate::slots::{Index, Order, PageName, enter, leave, names_of, numbers_of};
+use page_frames::{FEWEST_FRAMES, Flags, FrameNo, Frames, MOST_FRAMES};
+use std::alloc::Global;
 use std::marker::Model;
-use uid_names::{NoMemory, Uid};
-
-// Which page of which object.
-#[derive(Clone, Copy, PartialEq, Eq, Hash)]
-struct PageName {
-    uid: Uid,
-    page: u32,
-}
-
-// A resident page and its frame.
-#[derive(Clone, Copy)]
-struct Slot {
-    uid: Uid,
-    page: u32,
-    frame: FrameNo,
-}
-
-// The place of a page's slot.
-fn place_of(order: &VecDeque<Slot>, uid: Uid, page: u32) -> Option<usize>
-    ensures { result ≡ position (slot_is uid page) order.now.items }
-{
-    order
-        .iter()
-        .position(|slot| slot.uid.is(uid) && slot.page == page)
-}
-
-// The number of the object's page that was used last.
-fn page_of(order: &VecDeque<Slot>, uid: Uid) -> Option<u32>
-    ensures { result ≡ option_map (λ s. s.page) (find (λ s. same_uid s.uid uid) order.now.items) }
-{
-    order
-        .iter()
-        .find(|slot| slot.uid.is(uid))
-        .map(|slot| slot.page)
-}
-
-// The numbers of the object's pages, in their order.
-fn numbers_of(alloc: Global, order: &VecDeque<Slot>, uid: Uid) -> Result<Vec<u32>, AllocError>
-    ensures { IfOk result (λ v. v.items ≡ map (λ s. s.page) (filter (λ s. same_uid s.uid uid) order.now.items)) }
-{
-    order
-        .iter()
-        .filter(|slot| slot.uid.is(uid))
-        .map(|slot| slot.page)
-        .collect(alloc)
-}
-
-// Takes a page's slot, if there is one, out of the order.
-fn remove_slot(order: &mut VecDeque<Slot>, uid: Uid, page: u32) -> Option<Slot>
-    requires { count_by (slot_is uid page) order.old.items ≤ 1 }
-    ensures slot { result ≡ find (slot_is uid page) order.old.items }
-    ensures others { order.new.items ≡ filter (λ s. not (slot_is uid page s)) order.old.items }
-    ensures capacity { deque_capacity order.new ≡ deque_capacity order.old }
-{
-    let at = place_of(order, uid, page)?;
-    order.remove(at)
-}
+use std::num::NonZeroUsize;
+use uid_names::{NoMemory, PAGE_BYTES, Uid};
 
 // Fills a reserved frame.
-fn fill_reserved(pool: &mut Frames, reserved: &mut u16, bytes: &[u8; 1024]) -> FrameNo
+fn fill_reserved(pool: &mut Frames, reserved: &mut u16, bytes: &[u8; PAGE_BYTES]) -> FrameNo
     requires free { 0 < frames_free pool.old }
     requires some { 0 < reserved.old }
     ensures free { frame_at pool.old result ≡ None }
@@ -86,57 +28,46 @@ fn fill_reserved(pool: &mut Frames, reserved: &mut u16, bytes: &[u8; 1024]) -> F
     pool.take(bytes)
 }
 
-// The lower of the pages.
-fn lesser_page(lowest: Option<u32>, page: u32) -> Option<u32>
-    ensures { result ≡ lesser lowest (Some page) }
-{
-    match lowest {
-        None => Some(page),
-        Some(other) => Some(other.min(page)),
-    }
-}
-
 /// The resident pages, each in a frame of its own, and the frames that are reserved for pages to come.
 #[derive(Drop)]
 pub struct Cache {
     pool: Frames,
     reserved: u16,
-    // Finds a page's frame.
-    index: HashMap<PageName, FrameNo>,
-    // The last used page first.
-    order: VecDeque<Slot>,
+    // The pages with their frames, the last used one first.
+    order: Order,
+    // The same by their names, so that an object's pages stand together.
+    index: Index,
 }
 
 impl Model for Cache {
-    ghost use Rattle.std.specs.VecDeque.{deque_capacity};
-    ghost use Rattle.std.specs.HashMap as hash;
     ghost use Rattle.page_cache.specs.Caches.{Cached};
 
     ghost Value = { Cached };
 
-    ghost use Rattle.page_cache.specs.Insides.{cache_of, same_name, IsSound};
+    ghost use Rattle.page_cache.specs.Insides.{cache_of, IsSound};
 
-    ghost view = { λ c. cache_of c.pool c.reserved c.order.items };
+    ghost view = { λ c. cache_of c.pool c.reserved c.order.entries };
 
-    ghost invariant = { λ c. IsSound c.pool c.reserved c.order.items (deque_capacity c.order) (hash.get same_name c.index) };
+    ghost invariant = { λ c. IsSound c.pool c.reserved c.order.entries c.order.cap c.index.entries };
 }
 
 impl Cache {
     /// An empty cache of so many frames, none of them reserved.
     pub fn new(alloc: Global, frames: u16) -> Result<Cache, NoMemory>
-        requires few { 5 ≤ frames }
-        requires many { frames ≤ 256 }
+        requires few { FEWEST_FRAMES ≤ frames }
+        requires many { frames ≤ MOST_FRAMES }
         ensures { IfOk result (λ cache. cache ≡ record { frames = frames; reserved = 0; pages = [] }) }
     {
-        let count = usize::from(frames);
-        let index = HashMap::with_capacity(alloc, count)?;
-        let order = VecDeque::with_capacity(alloc, count)?;
+        let Some(places) = NonZeroUsize::new(usize::from(frames)) else {
+            unreachable!()
+        };
+        let order = Order::new(alloc, places)?;
         match Frames::new(alloc, frames) {
             Ok(pool) => Ok(Cache {
                 pool,
                 reserved: 0,
-                index,
                 order,
+                index: Index::new(alloc),
             }),
             Err(page_frames::NoMemory) => Err(NoMemory),
         }
@@ -153,7 +84,7 @@ impl Cache {
         ensures is_frame { IfSome result (IsFrame self.now.pages) }
         ensures cache { IsCache self.now }
     {
-        self.index.get(&PageName { uid, page }).copied()
+        self.order.peek(&PageName { uid, page }).copied()
     }
 
     /// How many frames are neither taken nor reserved. Takes no memory.
@@ -185,27 +116,27 @@ impl Cache {
         requires { IsResident self.old.pages uid page }
         ensures { self.new ≡ record self.old { pages = used self.old.pages uid page } }
     {
-        if let Some(used) = remove_slot(&mut self.order, uid, page) {
-            self.order.push_front_reserved(used);
-        }
+        self.order.promote(&PageName { uid, page });
     }
 
     /// A reserved frame becomes this page, clean, not in transit and the last used one; without
     /// memory the cache stays as it was.
-    pub fn install(&mut self, uid: Uid, page: u32, bytes: &[u8; 1024]) -> Result<(), NoMemory>
+    pub fn install(&mut self, uid: Uid, page: u32, bytes: &[u8; PAGE_BYTES]) -> Result<(), NoMemory>
         requires reserved { 0 < self.old.reserved }
         requires absent { page_at self.old.pages uid page ≡ None }
         ensures ok { OnOk result ((frame : ℕ) × (self.new ≡ installed self.old uid page bytes.now frame)) }
         ensures err { OnErr result (self.new ≡ self.old) }
     {
-        self.index.reserve(1)?;
         let frame = fill_reserved(&mut self.pool, &mut self.reserved, bytes);
-        match self.index.insert(PageName { uid, page }, frame) {
-            Ok(_) => {}
-            Err(_) => unreachable!(),
+        let name = PageName { uid, page };
+        match enter(&mut self.order, &mut self.index, name, frame) {
+            Ok(()) => Ok(()),
+            Err(error) => {
+                self.pool.give_back(frame);
+                self.reserved += 1;
+                Err(error)
+            }
         }
-        self.order.push_front_reserved(Slot { uid, page, frame });
-        Ok(())
     }
 
     /// The clean page that was used longest ago and is not in transit, or else the dirty one; None
@@ -225,10 +156,10 @@ impl Cache {
         ensures choice { result ≡ option_map name_of (oldest (is_choice dirty) self.now.pages) }
         ensures cache { IsCache self.now }
     {
-        for slot in self.order.iter().rev() {
-            let flags = self.pool.flags(slot.frame);
+        for (name, frame) in self.order.iter().rev() {
+            let flags = self.pool.flags(*frame);
             if flags.dirty == dirty && !flags.transit {
-                return Some((slot.uid, slot.page));
+                return Some((name.uid, name.page));
             }
         }
         None
@@ -238,9 +169,9 @@ impl Cache {
     pub fn remove(&mut self, uid: Uid, page: u32)
         ensures { self.new ≡ record self.old { pages = without_page self.old.pages uid page } }
     {
-        if let Some(slot) = remove_slot(&mut self.order, uid, page) {
-            self.index.remove(&PageName { uid, page });
-            self.pool.give_back(slot.frame);
+        let name = PageName { uid, page };
+        if let Some(frame) = leave(&mut self.order, &mut self.index, name) {
+            self.pool.give_back(frame);
         }
     }
 
@@ -255,9 +186,11 @@ impl Cache {
 
     // The number of one of the object's pages.
     fn any_page(&self, uid: Uid) -> Option<u32>
-        ensures { result ≡ option_map (λ r. r.page) (find (is_of uid) self.now.pages) }
+        ensures none { IfNone result (find (is_of uid) self.now.pages ≡ None) }
+        ensures resident { IfSome result (IsResident self.now.pages uid) }
     {
-        page_of(&self.order, uid)
+        let (name, _) = self.index.range(names_of(uid)).next()?;
+        Some(name.page)
     }
 
     /// The lowest dirty page of the object; None where none is dirty. Takes no memory.
@@ -265,26 +198,24 @@ impl Cache {
         ensures lowest { result ≡ dirty_page self.now.pages uid }
         ensures resident { IfSome result (IsResident self.now.pages uid) }
     {
-        let mut lowest = None;
-        for slot in &self.order {
-            if slot.uid.is(uid) && self.pool.flags(slot.frame).dirty {
-                lowest = lesser_page(lowest, slot.page);
+        for (name, frame) in self.index.range(names_of(uid)) {
+            if self.pool.flags(*frame).dirty {
+                return Some(name.page);
             }
         }
-        lowest
+        None
     }
 
     /// The resident pages of the object, rising.
     pub fn pages_of(&self, alloc: Global, uid: Uid) -> Result<PageList, NoMemory>
         ensures { IfOk result (λ pages. pages ≡ resident_pages self.now.pages uid) }
     {
-        let mut items = numbers_of(alloc, &self.order, uid)?;
-        items.sort_unstable();
+        let items = numbers_of(alloc, &self.index, uid)?;
         Ok(PageList::from_items(items))
     }
 
     /// The bytes in a resident page's frame. Takes no memory.
-    pub fn bytes(&self, frame: FrameNo) -> &[u8; 1024]
+    pub fn bytes(&self, frame: FrameNo) -> &[u8; PAGE_BYTES]
         requires { IsFrame self.now.pages frame }
         ensures { option_map (λ r. r.bytes) (page_in self.now.pages frame) ≡ Some result.now }
     {
@@ -310,7 +241,7 @@ impl Cache {
     /// Writes bytes at an offset of the page in a frame. Takes no memory.
     pub fn write(&mut self, frame: FrameNo, offset: u32, bytes: &[u8])
         requires frame { IsFrame self.old.pages frame }
-        requires within { offset + length bytes.now ≤ 1024 }
+        requires within { offset + length bytes.now ≤ PAGE_BYTES }
         ensures { self.new ≡ record self.old { pages = with_bytes self.old.pages frame offset bytes.now } }
     {
         let start = offset as usize;

@@ -3,6 +3,7 @@
 
 pub mod cache;
 pub mod page_list;
+mod slots;
 #[cfg(test)]
 mod tests;
 

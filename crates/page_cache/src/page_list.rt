@@ -1,9 +1,7 @@
 //! Lists of page numbers.
-ghost use Rattle.std.specs.Prelude.{◌≡◌, ℕ, List, [], ◌∷◌, ◌++◌, OnOk, OnErr};
+ghost use Rattle.std.specs.Prelude.{◌≡◌};
 
-use std::alloc::Global;
 use std::marker::Model;
-use uid_names::NoMemory;
 
 /// A list of page numbers.
 #[derive(Drop, Debug)]
@@ -20,28 +18,10 @@ impl Model for PageList {
 }
 
 impl PageList {
-    /// The empty list. Takes no memory.
-    pub fn new(alloc: Global) -> PageList
-        ensures { result ≡ [] }
-    {
-        PageList {
-            items: Vec::new(alloc),
-        }
-    }
-
     pub(crate) fn from_items(items: Vec<u32>) -> PageList
         ensures { result ≡ items.items }
     {
         PageList { items }
-    }
-
-    /// Puts a page last; without memory the list stays as it was.
-    pub fn push(&mut self, page: u32) -> Result<(), NoMemory>
-        ensures ok { OnOk result (self.new ≡ self.old ++ page ∷ []) }
-        ensures err { OnErr result (self.new ≡ self.old) }
-    {
-        self.items.push(page)?;
-        Ok(())
     }
 
     /// The pages.

@@ -1,9 +1,11 @@
--- The pool that a slab of flags and a list of pages stand for.
+-- The pool that a slab of flags and a list of pages stand for. It decides nothing that a caller sees: only the
+-- bodies and the model of `Frames` speak of it.
 use Rattle.std.specs.Prelude.{ℕ, ◌<◌, ◌≤◌, List, [], map, length, slice_index_or}
 use Rattle.std.specs.Ordering.{nat_cmp}
 use Rattle.std.specs.FinMap.{FinMap, from_entries}
 use Rattle.slab.specs.Slab.{Slab, ContainsKey, entries, slab_len}
 use Rattle.page_frames.specs.declared.frame.Flags.{Flags}
+use Rattle.page_frames.specs.declared.frame.TheConstants.{FEWEST_FRAMES, MOST_FRAMES}
 use Rattle.page_frames.specs.Pools.{Frame, Pool}
 
 -- the bytes of the frame of each number, with its flags
@@ -20,8 +22,8 @@ pool_of count numbers pages = record { count = count; taken = taken_of numbers p
 
 -- there is room for the flags of all frames, and each taken one has its bytes
 pub record IsSound (count : ℕ) (numbers : Slab Flags) (pages : List (List ℕ)) : Type 0 where
-  pub few : 5 ≤ count
-  pub many : count ≤ 256
+  pub few : FEWEST_FRAMES ≤ count
+  pub many : count ≤ MOST_FRAMES
   pub within : slab_len numbers ≤ count
   pub room : count ≤ numbers.capacity
   pub paged : numbers.capacity ≤ length pages

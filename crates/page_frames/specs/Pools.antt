@@ -3,6 +3,7 @@ use Rattle.std.specs.Prelude.{ℕ, ◌-◌, ◌≤◌, false, List, [], Option, 
 use Rattle.std.specs.Ordering.{nat_cmp}
 use Rattle.std.specs.FinMap as map
 use Rattle.page_frames.specs.declared.frame.Flags.{Flags}
+use Rattle.page_frames.specs.declared.frame.TheConstants.{FEWEST_FRAMES, MOST_FRAMES}
 
 -- what a taken frame holds: the bytes of a page, and its flags
 pub record Frame : Type 0 where
@@ -50,8 +51,9 @@ with_bytes p number bytes = with_frame p number (record (frame_in p number) { by
 abbrev pub with_flags : Pool → ℕ → Flags → Pool
 with_flags p number flags = with_frame p number (record (frame_in p number) { flags = flags })
 
--- what each pool keeps: 5 to 256 frames, and no more of them taken than there are
+-- what each pool keeps: no fewer frames than the fewest and no more than the most, and no more of them taken than
+-- there are
 pub record IsPool (p : Pool) : Type 0 where
-  pub few : 5 ≤ p.count
-  pub many : p.count ≤ 256
+  pub few : FEWEST_FRAMES ≤ p.count
+  pub many : p.count ≤ MOST_FRAMES
   pub within : map.len p.taken ≤ p.count

@@ -1,7 +1,16 @@
-//! The number of a frame, the flags of its page, and the refusal for want of memory.
+//! How large a frame and a pool may be, the number of a frame, the flags of its page, and the refusal for want of memory.
 use std::alloc::AllocError;
 use std::marker::Model;
 use thiserror::Error;
+
+/// The bytes of a page, and so of a frame.
+pub const PAGE_BYTES: usize = 1024;
+
+/// The fewest frames of a pool.
+pub const FEWEST_FRAMES: u16 = 5;
+
+/// The most frames of a pool.
+pub const MOST_FRAMES: u16 = 256;
 
 /// There was no memory.
 #[derive(Clone, Copy, Debug, PartialEq, Eq, Error)]

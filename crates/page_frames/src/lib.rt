@@ -6,5 +6,5 @@ pub mod pool;
 #[cfg(test)]
 mod tests;
 
-pub use frame::{Flags, FrameNo, NoMemory};
+pub use frame::{FEWEST_FRAMES, Flags, FrameNo, MOST_FRAMES, NoMemory, PAGE_BYTES};
 pub use pool::Frames;

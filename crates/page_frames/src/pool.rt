@@ -5,19 +5,20 @@ ghost use Rattle.std.specs.Borrow.{sem};
 ghost use Rattle.page_frames.specs.Pools.{Pool, IsPool, IsTaken, free_count, frame_at, frame_in, no_flags, with_frame, without_frame, with_flags};
 ghost use Rattle.page_frames.specs.Lending.{LendsBytes};
 
-use crate::frame::{Flags, FrameNo, NoMemory};
+use crate::frame::{FEWEST_FRAMES, Flags, FrameNo, MOST_FRAMES, NoMemory, PAGE_BYTES};
 use slab::Slab;
 use std::alloc::Global;
 use std::marker::Model;
 
-/// A pool of frames, each of which holds a page of 1,024 bytes with its flags, or is free.
+/// A pool of frames, each of which holds a page's bytes with its flags, or is free.
 #[derive(Drop)]
 pub struct Frames {
     count: u16,
     // The flags of the taken frames; their keys are the frames' numbers.
     numbers: Slab<Flags>,
-    // The bytes of the frame of each number; a free frame's are whatever it had last.
-    pages: Vec<[u8; 1024]>,
+    // One region, taken when the pool is made. A frame's number is its place there: the slab hands out numbers
+    // below its capacity, and the region has a page for each. A free frame's bytes are whatever it had last.
+    pages: Vec<[u8; PAGE_BYTES]>,
 }
 
 impl Model for Frames {
@@ -38,12 +39,12 @@ impl Model for Frames {
 impl Frames {
     /// A pool of so many frames, all free.
     pub fn new(alloc: Global, count: u16) -> Result<Frames, NoMemory>
-        requires few { 5 ≤ count }
-        requires many { count ≤ 256 }
+        requires few { FEWEST_FRAMES ≤ count }
+        requires many { count ≤ MOST_FRAMES }
         ensures { IfOk result (λ pool. pool ≡ record { count = count; taken = empty }) }
     {
         let numbers = Slab::with_capacity(alloc, usize::from(count))?;
-        let pages = vec![in alloc; [0; 1024]; numbers.capacity()]?;
+        let pages = vec![in alloc; [0; PAGE_BYTES]; numbers.capacity()]?;
         Ok(Frames {
             count,
             numbers,
@@ -60,7 +61,7 @@ impl Frames {
     }
 
     /// Takes a frame that was free for a page with these bytes and no flag. Takes no memory.
-    pub fn take(&mut self, bytes: &[u8; 1024]) -> FrameNo
+    pub fn take(&mut self, bytes: &[u8; PAGE_BYTES]) -> FrameNo
         requires { 0 < free_count self.old }
         ensures free { frame_at self.old result ≡ None }
         ensures taken { self.new ≡ with_frame self.old result (record { bytes = bytes.now; flags = no_flags }) }
@@ -83,7 +84,7 @@ impl Frames {
     }
 
     /// The bytes in a taken frame. Takes no memory.
-    pub fn bytes(&self, frame: FrameNo) -> &[u8; 1024]
+    pub fn bytes(&self, frame: FrameNo) -> &[u8; PAGE_BYTES]
         requires { IsTaken self.now frame }
         ensures { result.now ≡ (frame_in self.now frame).bytes }
     {
@@ -91,7 +92,7 @@ impl Frames {
     }
 
     /// The bytes in a taken frame, for writing. Takes no memory.
-    pub fn bytes_mut(&mut self, frame: FrameNo) -> &mut [u8; 1024]
+    pub fn bytes_mut(&mut self, frame: FrameNo) -> &mut [u8; PAGE_BYTES]
         requires { IsTaken self.old frame }
         ensures* writes_back { sem 𝓛 (LendsBytes self.entry frame result) }
         ensures value { result.now ≡ (frame_in self.old frame).bytes }

@@ -1,2 +1,5 @@
 pub mod Volumes
 pub mod Rows
+pub mod Stored
+pub mod Placed
+pub mod Housed

@@ -1,4 +1,5 @@
--- A list of pages in order, and the volume that it is.
+-- A list of pages in order, and the volume that it is. It decides nothing that a caller sees: only the private bodies of
+-- `ListPages` speak of it.
 use Rattle.std.specs.Prelude.{◌≡◌, ℕ, ◌<◌, ◌≤◌, List, length, map, IsTrue}
 use Rattle.std.specs.declared.cmp.Ordering.TheVariants.{Less, Equal, Greater}
 use Rattle.std.specs.List.{AllWithin, HoldsAt}

@@ -1,9 +1,10 @@
--- The pages of a node's objects: a finite map from (counter, page) to 1,024 bytes. An absent page is zeros.
-use Rattle.std.specs.Prelude.{ℕ, ◌==◌, Bool, not, List, replicate, unwrap_or}
+-- The pages of a node's objects: a finite map from (counter, page) to a page's bytes. An absent page is zeros.
+use Rattle.std.specs.Prelude.{ℕ, ◌==◌, Bool, not, List, replicate, IsSome, unwrap_or}
 use Rattle.std.specs.Ordering.{nat_cmp, ordering_then}
 use Rattle.std.specs.declared.cmp.Ordering.{Ordering}
 use Rattle.std.specs.Coded.{Coded, coded×, coded_list, coded_ℕ}
 use Rattle.std.specs.FinMap as map
+use Rattle.uid_names.specs.declared.limits.TheConstants.{PAGE_BYTES}
 
 -- a page's name at its node: the object's counter, and the page's number
 abbrev pub PageName : Type 0
@@ -23,7 +24,7 @@ volume_code = map.code (coded× coded_ℕ coded_ℕ) (coded_list coded_ℕ)
 
 -- a page of zeros
 unfoldable pub zeros : List ℕ
-zeros = replicate 1024 0
+zeros = replicate PAGE_BYTES 0
 
 -- no page was put
 abbrev pub no_pages : Volume
@@ -32,6 +33,10 @@ no_pages = map.empty
 -- the bytes of a page
 abbrev pub page_of : Volume → ℕ → ℕ → List ℕ
 page_of volume counter page = unwrap_or (map.get volume (counter, page)) zeros
+
+-- the page was put since its object was last dropped
+abbrev pub IsKept : Volume → ℕ → ℕ → Type 0
+IsKept volume counter page = IsSome (map.get volume (counter, page))
 
 -- the volume with these bytes as that page
 abbrev pub with_page : Volume → ℕ → ℕ → List ℕ → Volume

@@ -1,11 +1,15 @@
 //! Pages of objects: a finite map from an object's counter and a page's number to the page's bytes.
 #![tactic(auto)]
 
+pub mod block_pages;
+mod blocks;
 pub mod laws;
 pub mod list_pages;
 pub mod pages;
+mod places;
 #[cfg(test)]
 mod tests;
 
+pub use block_pages::BlockPages;
 pub use list_pages::ListPages;
-pub use pages::{PAGE_BYTES, Pages};
+pub use pages::Pages;

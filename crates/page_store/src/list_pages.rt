@@ -3,10 +3,10 @@ ghost use Rattle.std.specs.Prelude.{◌≡◌, MatchResult};
 ghost use Rattle.page_store.specs.Volumes.{no_pages};
 ghost use Rattle.page_store.specs.Rows.{AreInOrder, StandsAt, WouldStandAt};
 
-use crate::pages::{PAGE_BYTES, Pages};
+use crate::pages::Pages;
 use std::alloc::Global;
 use std::marker::Model;
-use uid_names::NoMemory;
+use uid_names::{NoMemory, PAGE_BYTES};
 
 /// A page that was put.
 #[derive(Clone, Copy)]

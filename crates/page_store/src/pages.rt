@@ -2,10 +2,7 @@
 ghost use Rattle.std.specs.Prelude.{◌≡◌, OnOk, OnErr};
 ghost use Rattle.page_store.specs.Volumes.{Volume, page_of, with_page, without_object};
 
-use uid_names::NoMemory;
-
-/// The bytes of a page.
-pub const PAGE_BYTES: usize = 1024;
+use uid_names::{NoMemory, PAGE_BYTES};
 
 /// Keeps pages, each named by the counter of its object and its number there. A page that was never
 /// put reads as zeros.

@@ -1,7 +1,8 @@
-//! What no clause says: that calls succeed, and that the contract holds of the list through the trait.
+//! What no clause says: that calls succeed, and that the contract holds of either kind through the trait.
 use super::*;
+use std::process::Abort;
 use std::test::Fail;
-use uid_names::NoMemory;
+use uid_names::{MAX_ROOM, NoMemory, PAGE_BYTES};
 
 /// A page, whatever keeps it.
 fn page_at<P: Pages>(pages: &P, counter: u64, page: u32) -> [u8; PAGE_BYTES] {
@@ -18,12 +19,56 @@ fn put_all<P: Pages>(pages: &mut P, rows: &[(u64, u32, u8)]) -> Result<(), NoMem
     Ok(())
 }
 
-#[test]
-fn a_page_that_was_put_is_read_and_its_neighbour_is_zeros(rt: HostRuntime) -> Result<(), Fail> {
-    let mut pages = ListPages::new(rt.alloc());
-    pages.put(2, 0, &[1; PAGE_BYTES])?;
-    assert_eq!(rt; page_at(&pages, 2, 0), [1; PAGE_BYTES]);
-    assert_eq!(rt; page_at(&pages, 2, 1), [0; PAGE_BYTES]);
+/// Compares pages with these bytes, whatever keeps them.
+fn compare<P: Pages>(rt: &impl Abort, pages: &P, rows: &[(u64, u32, u8)]) {
+    for (counter, page, byte) in rows {
+        assert_eq!(rt;
+            page_at(pages, *counter, *page),
+            [*byte; PAGE_BYTES],
+            "{counter} {page}"
+        );
+    }
+}
+
+/// Puts pages, some twice, drops an object and puts a page of it again.
+fn play<P: Pages>(rt: &impl Abort, pages: &mut P) -> Result<(), Fail> {
+    put_all(
+        pages,
+        &[
+            (3, 7, 1),
+            (2, 7, 2),
+            (2, 0, 3),
+            (3, 0, 4),
+            (2, 7, 5),
+            (1, MAX_ROOM - 1, 6),
+        ],
+    )?;
+    compare(
+        rt,
+        pages,
+        &[
+            (1, MAX_ROOM - 1, 6),
+            (2, 0, 3),
+            (2, 7, 5),
+            (3, 0, 4),
+            (3, 7, 1),
+            (2, 1, 0),
+        ],
+    );
+    pages.drop_object(2);
+    compare(
+        rt,
+        pages,
+        &[
+            (1, MAX_ROOM - 1, 6),
+            (2, 0, 0),
+            (2, 7, 0),
+            (3, 0, 4),
+            (3, 7, 1),
+        ],
+    );
+    put_all(pages, &[(2, 7, 8)])?;
+    compare(rt, pages, &[(2, 7, 8), (2, 0, 0), (3, 7, 1)]);
     Ok(())
 }
 
@@ -31,42 +76,57 @@ fn a_page_that_was_put_is_read_and_its_neighbour_is_zeros(rt: HostRuntime) -> Re
 fn the_last_bytes_of_each_page_are_read_until_its_object_is_dropped(
     rt: HostRuntime,
 ) -> Result<(), Fail> {
-    let mut pages = ListPages::new(rt.alloc());
-    put_all(
-        &mut pages,
-        &[
-            (3, 7, 1),
-            (2, 7, 2),
-            (2, 0, 3),
-            (3, 0, 4),
-            (2, 7, 5),
-            (1, 1023, 6),
-        ],
-    )?;
-    for (counter, page, byte) in [
-        (1, 1023, 6),
-        (2, 0, 3),
-        (2, 7, 5),
-        (3, 0, 4),
-        (3, 7, 1),
-        (2, 1, 0),
-    ] {
-        assert_eq!(rt;
-            page_at(&pages, counter, page),
-            [byte; PAGE_BYTES],
-            "{counter} {page}"
-        );
-    }
+    play(&rt, &mut ListPages::new(rt.alloc()))?;
+    play(&rt, &mut BlockPages::new(rt.alloc()))
+}
+
+#[test]
+fn a_page_is_kept_until_its_object_is_dropped(rt: HostRuntime) -> Result<(), Fail> {
+    let mut pages = BlockPages::new(rt.alloc());
+    pages.put(2, 0, &[1; PAGE_BYTES])?;
+    assert!(rt; pages.kept(2, 0));
+    assert!(rt; !pages.kept(2, 1));
     pages.drop_object(2);
-    for (counter, page, byte) in [(1, 1023, 6), (2, 0, 0), (2, 7, 0), (3, 0, 4), (3, 7, 1)] {
-        assert_eq!(rt;
-            page_at(&pages, counter, page),
-            [byte; PAGE_BYTES],
-            "{counter} {page}"
-        );
-    }
-    put_all(&mut pages, &[(2, 7, 8)])?;
-    assert_eq!(rt; page_at(&pages, 2, 7), [8; PAGE_BYTES]);
+    assert!(rt; !pages.kept(2, 0));
     assert_eq!(rt; page_at(&pages, 2, 0), [0; PAGE_BYTES]);
     Ok(())
+}
+
+/// Puts a hundred pages of an object, each of its own byte.
+fn put_a_hundred<P: Pages>(pages: &mut P, counter: u64, least: u8) -> Result<(), NoMemory> {
+    for page in 0..100u8 {
+        pages.put(
+            counter,
+            u32::from(page),
+            &[least.wrapping_add(page); PAGE_BYTES],
+        )?;
+    }
+    Ok(())
+}
+
+#[test]
+fn pages_of_several_blocks_stay_apart(rt: HostRuntime) -> Result<(), Fail> {
+    let mut pages = BlockPages::new(rt.alloc());
+    put_a_hundred(&mut pages, 1, 0)?;
+    put_a_hundred(&mut pages, 2, 100)?;
+    pages.drop_object(1);
+    put_a_hundred(&mut pages, 3, 50)?;
+    for page in 0..100u8 {
+        let at = u32::from(page);
+        compare(
+            &rt,
+            &pages,
+            &[(1, at, 0), (2, at, 100 + page), (3, at, 50 + page)],
+        );
+    }
+    Ok(())
+}
+
+/// What can be handed to another thread.
+fn is_send<T: Send>(_value: &T) {}
+
+#[test]
+fn pages_can_be_handed_to_another_thread(rt: HostRuntime) {
+    is_send(&ListPages::new(rt.alloc()));
+    is_send(&BlockPages::new(rt.alloc()));
 }

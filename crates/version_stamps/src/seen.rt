@@ -2,10 +2,10 @@
 ghost use Rattle.std.specs.Prelude.{◌≡◌, ◌↔◌, [], Some, is_some, false, IsSome, OnOk, OnErr};
 ghost use Rattle.version_stamps.specs.Stamps.{stamp_of, with_stamp, without_stamp, raised};
 
-use crate::stamps::{Stamp, search};
+use crate::stamps::Stamp;
 use std::alloc::Global;
 use std::marker::Model;
-use uid_names::{NoMemory, Uid};
+use uid_names::{NoMemory, Uid, UidTable};
 
 /// How a stamp stands to the one that is known of an object.
 #[derive(Clone, Copy, Debug, PartialEq, Eq)]
@@ -19,19 +19,16 @@ pub enum Checked {
 /// The stamp of each object that was seen, the objects rising.
 #[derive(Drop, Debug)]
 pub struct Seen {
-    rows: Vec<Stamp>,
+    rows: UidTable<Stamp>,
 }
 
 impl Model for Seen {
     ghost use Rattle.std.specs.Prelude.{List};
     ghost use Rattle.version_stamps.specs.declared.stamps.Stamp.{Stamp};
-    ghost use Rattle.version_stamps.specs.Stamps.{AreRising};
 
     ghost Value = { List Stamp };
 
-    ghost view = { λ s. s.rows.items };
-
-    ghost invariant = { λ s. AreRising s.rows.items };
+    ghost view = { λ s. s.rows };
 }
 
 impl Seen {
@@ -40,7 +37,7 @@ impl Seen {
         ensures { result ≡ [] }
     {
         Seen {
-            rows: Vec::new(alloc),
+            rows: UidTable::new(alloc),
         }
     }
 
@@ -48,9 +45,9 @@ impl Seen {
     pub fn of(&self, uid: Uid) -> Option<u64>
         ensures { result ≡ stamp_of uid self.now }
     {
-        match search(&self.rows, uid) {
-            Ok(at) => Some(self.rows[at].stamp),
-            Err(_) => None,
+        match self.rows.of(uid) {
+            Some(row) => Some(row.stamp),
+            None => None,
         }
     }
 
@@ -70,12 +67,7 @@ impl Seen {
         ensures refused { OnErr result (self.new ≡ self.old) }
         ensures memory { OnErr result (is_some (stamp_of uid self.old) ≡ false) }
     {
-        let row = Stamp { uid, stamp };
-        match search(&self.rows, uid) {
-            Ok(at) => self.rows[at] = row,
-            Err(at) => self.rows.insert(at, row)?,
-        }
-        Ok(())
+        self.rows.set(Stamp { uid, stamp })
     }
 
     /// The greater of this and the known stamp is that of an object from now on. Takes no memory.
@@ -84,13 +76,12 @@ impl Seen {
         ensures { self.new
             ≡ with_stamp (record { uid = uid; stamp = raised stamp (stamp_of uid self.old) }) self.old }
     {
-        match search(&self.rows, uid) {
-            Ok(at) => {
-                let known = self.rows[at].stamp;
+        match self.of(uid) {
+            Some(known) => {
                 let stamp = known.max(stamp);
-                self.rows[at] = Stamp { uid, stamp };
+                self.rows.replace(Stamp { uid, stamp });
             }
-            Err(_) => unreachable!(),
+            None => unreachable!(),
         }
     }
 
@@ -98,8 +89,6 @@ impl Seen {
     pub fn forget(&mut self, uid: Uid)
         ensures { self.new ≡ without_stamp uid self.old }
     {
-        if let Ok(at) = search(&self.rows, uid) {
-            self.rows.remove(at);
-        }
+        self.rows.forget(uid);
     }
 }

@@ -1,14 +1,12 @@
 //! What no clause says: that a stamp can be set, and that a node's calls on one object go together.
 use super::*;
-use std::process::Abort;
+use samples::object;
 use std::test::Fail;
-use uid_names::{NodeId, Uid};
 
 #[test]
 fn a_stamp_is_set_raised_and_forgotten(rt: HostRuntime) -> Result<(), Fail> {
     let mut seen = Seen::new(rt.alloc());
-    let home = NodeId::new(1).ok_or("no node")?;
-    let uid = Uid::from_parts(2, home);
+    let uid = object(2, 1)?;
     assert_eq!(rt; seen.check(uid, 1), Checked::Other);
     seen.set(uid, 1)?;
     assert_eq!(rt; seen.check(uid, 1), Checked::Same);
@@ -23,10 +21,7 @@ fn a_stamp_is_set_raised_and_forgotten(rt: HostRuntime) -> Result<(), Fail> {
 #[test]
 fn each_object_has_its_own_stamp(rt: HostRuntime) -> Result<(), Fail> {
     let mut seen = Seen::new(rt.alloc());
-    let home = NodeId::new(2).ok_or("no node")?;
-    let first = Uid::from_parts(2, home);
-    let second = Uid::from_parts(4, home);
-    let third = Uid::from_parts(9, home);
+    let (first, second, third) = (object(2, 2)?, object(4, 2)?, object(9, 2)?);
     seen.set(second, 8)?;
     seen.set(third, 5)?;
     seen.set(first, 6)?;

@@ -3,7 +3,7 @@ use Rattle.page_cache.proofs.CacheLemmas.{without_object-without_page, without_o
 use Rattle.page_cache.proofs.cache.Cache.drop_object.Goals as goal
 
 pub loop-page-smaller : goal.loop-page-smaller
-loop-page-smaller c = rw c.remove.ensures (length-without_page c.loop-page.self.pages c.args.uid c.in-Some.page (sym c.any_page.ensures ∙ c.in-Some.is))
+loop-page-smaller c = rw c.remove.ensures (length-without_page c.loop-page.self.pages c.args.uid c.in-Some.page c.in-Some.ensures.resident)
 
 pub loop-page-preserved : goal.loop-page-preserved
 loop-page-preserved c = record {
@@ -15,4 +15,4 @@ loop-page-preserved c = record {
 pub returns : goal.returns
 returns c =
     cache_from_fields c.loop-page.self _ _ _ c.loop-page.invariant.frames c.loop-page.invariant.reserved
-    (sym (without_object-none c.loop-page.self.pages c.args.uid (sym c.any_page.ensures ∙ c.in_default.is)) ∙ c.loop-page.invariant.pages)
+    (sym (without_object-none c.loop-page.self.pages c.args.uid c.in_default.ensures.none) ∙ c.loop-page.invariant.pages)

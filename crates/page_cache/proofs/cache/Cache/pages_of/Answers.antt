@@ -1,10 +1,16 @@
-use Rattle.std.proofs.Common.{ap, ◌∙◌}
-use Rattle.page_cache.specs.Numbers.{rising}
-use Rattle.page_cache.proofs.CacheLemmas.{numbers-seen}
-use Rattle.page_cache.proofs.NumberLemmas.{rising-sorted}
+use Rattle.std.proofs.Common.{◌∙◌, map}
+use Rattle.page_cache.specs.Caches.{is_of}
+use Rattle.page_cache.specs.Numbers.{numbers}
+use Rattle.page_cache.specs.Insides.{seen}
+use Rattle.page_cache.proofs.NumberLemmas.{rising-same}
+use Rattle.page_cache.proofs.IndexLemmas.{page_of, part_of, copies-part_of, IsFrom-part_of}
 use Rattle.page_cache.proofs.cache.Cache.pages_of.Goals as goal
 
 pub returns : goal.returns
 returns c =
+    let index = c.self.inside.index.entries in
+    let slots = c.self.inside.order.entries in
     rw (← c.self.view_is)
-    (c.from_items.ensures ∙ rising-sorted c.in_ok-items.items.items _ c.sort_unstable.ensures.permutation c.sort_unstable.ensures.sorted ∙ ap rising (c.in_ok-items.ensures ∙ numbers-seen c.self.inside.pool c.self.inside.order.items c.args.uid))
+    (c.from_items.ensures ∙ c.in_ok-items.ensures.pages
+    ∙ rising-same (numbers (is_of c.args.uid) (map (seen c.self.inside.pool) slots)) (map page_of (part_of c.args.uid index)) (IsFrom-part_of c.args.uid index c.in_ok-items.ensures.ordered)
+    (copies-part_of c.self.inside.pool index slots c.self.invariant.indexed c.self.invariant.numbered c.args.uid))

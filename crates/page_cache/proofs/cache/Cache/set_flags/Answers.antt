@@ -1,17 +1,14 @@
-use Rattle.std.specs.VecDeque.{deque_capacity}
-use Rattle.std.specs.HashMap as hash
 use Rattle.page_frames.specs.Pools.{frame_in}
-use Rattle.page_cache.specs.Insides.{same_name}
 use Rattle.page_cache.proofs.CacheLemmas.{IsTaken-frame, IsSound-with_frame, map-seen-flags, same_cache}
 use Rattle.page_cache.proofs.cache.Cache.set_flags.Goals as goal
 
 pub set_flags-requires : goal.set_flags-requires
-set_flags-requires c = IsTaken-frame c.self.inside.pool c.self.inside.reserved c.self.inside.order.items (deque_capacity c.self.inside.order) (hash.get same_name c.self.inside.index) c.self.invariant c.args.frame (rw (← c.self.view_is) at c.requires)
+set_flags-requires c = IsTaken-frame c.self.inside.pool c.self.inside.reserved c.self.inside.order.entries c.self.inside.order.cap c.self.inside.index.entries c.self.invariant c.args.frame (rw (← c.self.view_is) at c.requires)
 
 pub invariant_of-self : goal.invariant_of-self
 invariant_of-self c =
-    let taken = IsTaken-frame c.self.inside.pool c.self.inside.reserved c.self.inside.order.items (deque_capacity c.self.inside.order) (hash.get same_name c.self.inside.index) c.self.invariant c.args.frame (rw (← c.self.view_is) at c.requires) in
-    rw c.set_flags.ensures (IsSound-with_frame c.self.inside.pool c.self.inside.reserved c.self.inside.order.items (deque_capacity c.self.inside.order) (hash.get same_name c.self.inside.index) c.args.frame (record (frame_in c.self.inside.pool c.args.frame) { flags = c.args.flags }) c.self.invariant taken)
+    let taken = IsTaken-frame c.self.inside.pool c.self.inside.reserved c.self.inside.order.entries c.self.inside.order.cap c.self.inside.index.entries c.self.invariant c.args.frame (rw (← c.self.view_is) at c.requires) in
+    rw c.set_flags.ensures (IsSound-with_frame c.self.inside.pool c.self.inside.reserved c.self.inside.order.entries c.self.inside.order.cap c.self.inside.index.entries c.args.frame (record (frame_in c.self.inside.pool c.args.frame) { flags = c.args.flags }) c.self.invariant taken)
 
 pub returns : goal.returns
-returns c = rw (← c.self.view_is, c.set_flags.ensures) (same_cache _ _ _ _ (map-seen-flags c.self.inside.pool c.args.frame c.args.flags c.self.inside.order.items))
+returns c = rw (← c.self.view_is, c.set_flags.ensures) (same_cache _ _ _ _ (map-seen-flags c.self.inside.pool c.args.frame c.args.flags c.self.inside.order.entries))
