@@ -4,20 +4,21 @@ use Rattle.std.specs.Prelude.{All, Option, Some, None, find, filter, not, if◌t
 use Rattle.std.proofs.lemmas.Bool.Decides.{nat_tests}
 use Rattle.std.proofs.lemmas.List.Elements.{All-cons, All-nil, All-head, All-tail, All-push, All-filter, All-append}
 use Rattle.uid_names.specs.Names.{ProcName, ObjectName, same_proc, same_uid}
+use Rattle.uid_names.specs.Rooms.{IsLength}
 use Rattle.uid_names.specs.Openings.{Start, IsStart}
 use Rattle.uid_names.specs.declared.opening.Object.{Object}
-use Rattle.uid_names.specs.declared.mode.TheConstants.{MAX_ROOM}
+use Rattle.uid_names.specs.declared.limits.TheConstants.{MAX_ROOM, PAGE_BYTES, MAX_LENGTH}
 use Rattle.dom_history.specs.declared.op.Spot.{Spot}
 use Rattle.dom_history.specs.declared.op.Op.{Op}
 use Rattle.dom_history.specs.declared.op.Op.TheVariants.{New, Lock, Unlock, Delete, Store, Length, Map, Unmap}
 use Rattle.dom_history.specs.declared.op.Reply.{Reply}
 use Rattle.dom_history.specs.declared.op.Reply.TheVariants.{Made, Fine, At, NoLock, WrongMode, PastRoom}
 use Rattle.dom_history.specs.declared.deed.Deed.{Deed}
-use Rattle.dom_history.specs.Effects.{Effect, Makes, Locks, Unlocks, Deletes, Writes, Maps, Unmaps, effect_of, effects}
+use Rattle.dom_history.specs.StoreEffects.{StoreEffect, Makes, TakesLock, FreesLock, Deletes, Writes, Maps, Unmaps, store_effect, store_effects}
 use Rattle.uid_names.specs.Beginnings.{entry_directory}
 use Rattle.dom_history.specs.Objects.{made, room_of, room_or_none, entry_directories}
 use Rattle.dom_history.specs.Bytes.{length_of, end_after}
-use Rattle.uid_names.specs.declared.segment.TheConstants.{SEGMENT_SIZE}
+use Rattle.uid_names.specs.declared.segment.TheConstants.{SEGMENT_SIZE, SEGMENTS}
 use Rattle.dom_history.specs.Mappings.{Mapping, mappings, Target, target}
 use Rattle.dom_history.specs.Ranges.{IsOp}
 use Rattle.dom_history.specs.Fitting.{Fits, FitsLength, FitsMap}
@@ -26,14 +27,14 @@ use Rattle.dom_history.specs.Runs.{AreAnswered}
 use Rattle.dom_history.proofs.ReplyRows.{found, length_reply-one, map_reply-one}
 use Rattle.dom_history.proofs.Fits.{reply_of-fits}
 
--- an address at which one of the 256 segments begins
+-- an address at which a segment begins
 abbrev pub IsSegmentStart : ℕ → Type 0
-IsSegmentStart a = (a % 32768 ≡ 0) × (a < 8388608)
+IsSegmentStart a = (a % SEGMENT_SIZE ≡ 0) × (a < SEGMENTS * SEGMENT_SIZE)
 
 -- rooms, lengths and addresses are in their ranges
-pub record AreBounded (opening : Start) (past : List Effect) : Type 0 where
+pub record AreBounded (opening : Start) (past : List StoreEffect) : Type 0 where
   pub rooms : All (λ o. o.room ≤ MAX_ROOM) (made opening past)
-  pub lengths : (u : ObjectName) → length_of opening past u ≤ 1024 * MAX_ROOM
+  pub lengths : (u : ObjectName) → IsLength (length_of opening past u)
   pub addresses : (p : ProcName) → All (λ m. IsSegmentStart m.address) (mappings p past)
 
 -- a room that a choice gives is in range
@@ -65,16 +66,16 @@ refused_past_room false false true e = absurd cc
 refused_past_room false false false e = refl
 
 -- a store that is answered Fine ends within the room
-stored_in_room : (b : Before) (t : Option Target) (bytes : List ℕ) → Fine ≡ store_reply b t bytes → (s : Target) → t ≡ Some s → s.offset + length bytes ≤ 1024 * room_of b.opening b.past s.uid
+stored_in_room : (b : Before) (t : Option Target) (bytes : List ℕ) → Fine ≡ store_reply b t bytes → (s : Target) → t ≡ Some s → s.offset + length bytes ≤ PAGE_BYTES * room_of b.opening b.past s.uid
 stored_in_room b None bytes e s is = absurd cc
 stored_in_room b (Some t) bytes e s is =
-    let fits : nat_lt (1024 * room_of b.opening b.past t.uid) (t.offset + length bytes) ≡ false = refused_past_room _ _ _ e in
-    let within : t.offset + length bytes ≤ 1024 * room_of b.opening b.past t.uid = grind (arith, nat_tests, fits) in
+    let fits : nat_lt (PAGE_BYTES * room_of b.opening b.past t.uid) (t.offset + length bytes) ≡ false = refused_past_room _ _ _ e in
+    let within : t.offset + length bytes ≤ PAGE_BYTES * room_of b.opening b.past t.uid = grind (arith, nat_tests, fits) in
     let same : t ≡ s = cc in
-    subst (λ s. s.offset + length bytes ≤ 1024 * room_of b.opening b.past s.uid) same within
+    subst (λ s. s.offset + length bytes ≤ PAGE_BYTES * room_of b.opening b.past s.uid) same within
 
 -- a run of segments begins at one
-run_starts_segment : (n : ℕ) → n < 256 → IsSegmentStart (n * SEGMENT_SIZE)
+run_starts_segment : (n : ℕ) → n < SEGMENTS → IsSegmentStart (n * SEGMENT_SIZE)
 run_starts_segment n h = (grind (arith, h), omega (arith, h))
 
 -- a mapping that is new begins at a segment
@@ -84,16 +85,16 @@ mapped_at_start b p u a =
     (λ e. absurd cc) (λ m is e. absurd cc) (λ e. absurd cc) (λ e. absurd cc)
     (λ n small e. let same : a ≡ n * SEGMENT_SIZE = cc in rw same (run_starts_segment n small))
 
-module _ (opening : Start) (past : List Effect) (h : AreBounded opening past) where
+module _ (opening : Start) (past : List StoreEffect) (h : AreBounded opening past) where
   -- a new object keeps the bounds
   makes_bounded : (o : Object) → o.room ≤ MAX_ROOM → AreBounded opening (Makes o ∷ past)
   makes_bounded o room = record { rooms = All-push (λ q. q.room ≤ MAX_ROOM) (made opening past) o h.rooms room; lengths = h.lengths; addresses = h.addresses }
 
   -- and so does a store within its room
-  writes_bounded : (p : ProcName) (spot : Spot) (bytes : List ℕ) → ((t : Target) → target opening past p spot ≡ Some t → t.offset + length bytes ≤ 1024 * room_of opening past t.uid) → AreBounded opening (Writes p spot bytes ∷ past)
+  writes_bounded : (p : ProcName) (spot : Spot) (bytes : List ℕ) → ((t : Target) → target opening past p spot ≡ Some t → t.offset + length bytes ≤ PAGE_BYTES * room_of opening past t.uid) → AreBounded opening (Writes p spot bytes ∷ past)
   writes_bounded p spot bytes fits = record {
     rooms = h.rooms;
-    lengths = λ u. end_bounded (target opening past p spot) bytes u (length_of opening past u) (1024 * MAX_ROOM) (h.lengths u)
+    lengths = λ u. end_bounded (target opening past p spot) bytes u (length_of opening past u) MAX_LENGTH (h.lengths u)
         (λ t is. let within = fits t is in let room = found_room MAX_ROOM (λ o. same_uid o.uid t.uid) (made opening past) h.rooms in omega (arith, within, room));
     addresses = h.addresses;
   }
@@ -125,14 +126,14 @@ module _ (opening : Start) (past : List Effect) (h : AreBounded opening past) wh
   }
 
   -- and so does what leaves objects, lengths and mappings
-  locks_bounded : (e : Effect) → made opening (e ∷ past) ≡ made opening past → ((u : ObjectName) → length_of opening (e ∷ past) u ≡ length_of opening past u) → ((p : ProcName) → mappings p (e ∷ past) ≡ mappings p past) → AreBounded opening (e ∷ past)
+  locks_bounded : (e : StoreEffect) → made opening (e ∷ past) ≡ made opening past → ((u : ObjectName) → length_of opening (e ∷ past) u ≡ length_of opening past u) → ((p : ProcName) → mappings p (e ∷ past) ≡ mappings p past) → AreBounded opening (e ∷ past)
   locks_bounded e objects lengths maps = record { rooms = rw objects h.rooms; lengths = λ u. rw (lengths u) (h.lengths u); addresses = λ p. rw (maps p) (h.addresses p) }
 
 -- an answer keeps the bounds
-answer_bounded : (b : Before) (p : ProcName) (op : Op) (reply : Reply) → IsOp op → reply ≡ reply_of b p op → AreBounded b.opening b.past → AreBounded b.opening (effect_of p op reply ++ b.past)
-answer_bounded b p (New home kind room) (Made u) range e h = makes_bounded b.opening b.past h (record { uid = u; kind = kind; room = room }) range.1
-answer_bounded b p (Lock u m) Fine range e h = locks_bounded b.opening b.past h (Locks p u m) refl (λ v. refl) (λ q. refl)
-answer_bounded b p (Unlock u) Fine range e h = locks_bounded b.opening b.past h (Unlocks p u) refl (λ v. refl) (λ q. refl)
+answer_bounded : (b : Before) (p : ProcName) (op : Op) (reply : Reply) → IsOp op → reply ≡ reply_of b p op → AreBounded b.opening b.past → AreBounded b.opening (store_effect p op reply ++ b.past)
+answer_bounded b p (New home kind room) (Made u) range e h = makes_bounded b.opening b.past h (record { uid = u; kind = kind; room = room }) range.1.1
+answer_bounded b p (Lock u m) Fine range e h = locks_bounded b.opening b.past h (TakesLock p u m) refl (λ v. refl) (λ q. refl)
+answer_bounded b p (Unlock u) Fine range e h = locks_bounded b.opening b.past h (FreesLock p u) refl (λ v. refl) (λ q. refl)
 answer_bounded b p (Delete u) Fine range e h = locks_bounded b.opening b.past h (Deletes p u) refl (λ v. refl) (λ q. refl)
 answer_bounded b p (Store spot bytes) Fine range e h = writes_bounded b.opening b.past h p spot bytes (stored_in_room b (target b.opening b.past p spot) bytes e)
 answer_bounded b p (Map u) (At address true) range e h = maps_bounded b.opening b.past h p u address (mapped_at_start b p u address e)
@@ -154,7 +155,7 @@ opening_bounded opening start = record {
 }
 
 -- and so is what was answered from there
-pub past_bounded : (opening : Start) → IsStart opening → (past : List Deed) → AreAnswered opening past → All (λ d. IsOp d.op) past → AreBounded opening (effects past)
+pub past_bounded : (opening : Start) → IsStart opening → (past : List Deed) → AreAnswered opening past → All (λ d. IsOp d.op) past → AreBounded opening (store_effects past)
 past_bounded opening start [] h ranges = opening_bounded opening start
 past_bounded opening start (d ∷ past) h ranges =
     answer_bounded (before_of opening past d.proc) d.proc d.op d.reply (All-head (λ e. IsOp e.op) d past ranges) h.0

@@ -13,8 +13,8 @@ use Rattle.dom_history.specs.declared.op.Op.TheVariants.{New, Lock, Unlock, Dele
 use Rattle.dom_history.specs.declared.op.Reply.{Reply}
 use Rattle.dom_history.specs.declared.op.Reply.TheVariants.{Made, NoSpace, Fine, At}
 use Rattle.dom_history.specs.declared.deed.Deed.{Deed}
-use Rattle.dom_history.specs.Effects.{effect_of, effects}
-use Rattle.uid_names.specs.declared.opening.TheConstants.{VOLUME_ROOM}
+use Rattle.dom_history.specs.StoreEffects.{store_effect, store_effects}
+use Rattle.uid_names.specs.declared.limits.TheConstants.{VOLUME_ROOM}
 use Rattle.uid_names.specs.Beginnings.{at_home, entry_directory}
 use Rattle.dom_history.specs.Objects.{is_node, made, entry_directories, greatest_counter, room_taken}
 use Rattle.dom_history.specs.Replies.{Before, before_of, reply_of, new_reply}
@@ -46,7 +46,7 @@ made-bound b home room h o m =
       raised xs home h o counter at = rw (counter, at) (by_test xs home h (home == h) refl)
 
 -- a deed raises no counter by more than one
-counters-step : (b : Before) (p : ProcName) (op : Op) (reply : Reply) (h : ℕ) → reply ≡ reply_of b p op → greatest_counter b.opening (effect_of p op reply ++ b.past) h ≤ greatest_counter b.opening b.past h + 1
+counters-step : (b : Before) (p : ProcName) (op : Op) (reply : Reply) (h : ℕ) → reply ≡ reply_of b p op → greatest_counter b.opening (store_effect p op reply ++ b.past) h ≤ greatest_counter b.opening b.past h + 1
 counters-step b p (New home kind room) (Made u) h e = made-bound b home room h (record { uid = u; kind = kind; room = room }) e
 counters-step b p (Lock u m) Fine h e = omega arith
 counters-step b p (Unlock u) Fine h e = omega arith
@@ -57,7 +57,7 @@ counters-step b p (Unmap u) Fine h e = omega arith
 counters-step b p _ _ h e = omega arith
 
 -- after n deeds no counter is more than n above the opening's
-counters-bound : (opening : Start) (past : List Deed) (h : ℕ) → AreAnswered opening past → greatest_counter opening (effects past) h ≤ greatest_counter opening [] h + length past
+counters-bound : (opening : Start) (past : List Deed) (h : ℕ) → AreAnswered opening past → greatest_counter opening (store_effects past) h ≤ greatest_counter opening [] h + length past
 counters-bound opening [] h answered = omega arith
 counters-bound opening (d ∷ past) h answered =
     omega (arith, counters-bound opening past h answered.1, counters-step (before_of opening past d.proc) d.proc d.op d.reply h answered.0)
@@ -89,15 +89,15 @@ length-declared opening h begun start =
     let least = length-rooms opening.nodes opening.greatest (at_home h opening.objects) declared in
     omega (arith, least, (begun.homes h).fits)
 
--- an opening from which a store can begin has counters below 16,386
-opening-bound : (opening : Start) (h : ℕ) → CanBegin opening → IsStart opening → greatest_counter opening [] h ≤ 16386
+-- an opening from which a store can begin has counters up to two more than a volume has pages
+opening-bound : (opening : Start) (h : ℕ) → CanBegin opening → IsStart opening → greatest_counter opening [] h ≤ VOLUME_ROOM + 2
 opening-bound opening h begun start =
     rw (filter-append (λ o. o.uid.home == h) (entry_directories opening.nodes) opening.objects, fold-append (λ a o. max a o.uid.counter) 0 (at_home h (entry_directories opening.nodes)) (at_home h opening.objects))
-    (numbered-bound 2 (greatest h (entry_directories opening.nodes)) 16386 (at_home h opening.objects) (begun.homes h).counters
+    (numbered-bound 2 (greatest h (entry_directories opening.nodes)) (VOLUME_ROOM + 2) (at_home h opening.objects) (begun.homes h).counters
     (omega (arith, directories-bound opening.nodes h))
     (omega (arith, length-declared opening h begun start)))
 
 -- the counters stay far below those that a name can have
-pub counters-small : (opening : Start) (done : List Deed) (h : ℕ) → CanBegin opening → IsStart opening → AreAnswered opening (reverse done) → length done < 2 ^ 40 → greatest_counter opening (effects (reverse done)) h < 2 ^ 41
+pub counters-small : (opening : Start) (done : List Deed) (h : ℕ) → CanBegin opening → IsStart opening → AreAnswered opening (reverse done) → length done < 2 ^ 40 → greatest_counter opening (store_effects (reverse done)) h < 2 ^ 41
 counters-small opening done h begun start answered few =
     omega (arith, counters-bound opening (reverse done) h answered, opening-bound opening h begun start, length-reverse done)

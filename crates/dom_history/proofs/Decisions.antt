@@ -8,7 +8,7 @@ use Rattle.uid_names.specs.declared.ids.Place.{Place}
 use Rattle.dom_history.specs.declared.op.Op.{Op}
 use Rattle.dom_history.specs.declared.op.Op.TheVariants.{New, Lock, Unlock, Delete}
 use Rattle.dom_history.specs.declared.op.Reply.{Reply}
-use Rattle.dom_history.specs.Effects.{Effect, effects}
+use Rattle.dom_history.specs.StoreEffects.{StoreEffect, store_effects}
 use Rattle.dom_history.specs.Histories.{Item, Answered, Acted, Act, Pending, History, deeds, deed_of, place_of, place_lt, IsRising}
 use Rattle.dom_history.specs.Legal.{AreLegal, IsLegal, IsLegalItem, IsEarlier, IsAtHomeOf, MayAct, begun_of, is_of_home, home_of}
 use Rattle.uid_names.specs.Names.{ProcName}
@@ -51,7 +51,7 @@ module _ (opening : Start) (pending : List Pending) where
   decided_in_order middle older i (Acted a) rising legal same = at_later (IsEarlier opening a) middle i older legal.0.in_order same
 
 -- what acts was decided by a home
-act_of_home : (opening : Start) (past : List Effect) (p : ProcName) (op : Op) (reply : Reply) → MayAct opening past p op reply → IsTrue (is_of_home opening op reply)
+act_of_home : (opening : Start) (past : List StoreEffect) (p : ProcName) (op : Op) (reply : Reply) → MayAct opening past p op reply → IsTrue (is_of_home opening op reply)
 act_of_home opening past p (New home kind room) reply h = rw h.1 refl
 act_of_home opening past p (Lock u m) reply h = rw h.0 refl
 act_of_home opening past p (Unlock u) reply h = rw h refl
@@ -70,6 +70,6 @@ decided_in_history opening h l newer middle older i j is same =
 pub acts_apart : (opening : Start) (h : History) → IsLegal opening h → (newer middle older : List Item) (a b : Act) → h.items ≡ newer ++ Acted b ∷ (middle ++ Acted a ∷ older) → a.begun ≡ b.begun → a.deed.proc ≡ b.deed.proc → a.deed.op ≡ b.deed.op → ⊥
 acts_apart opening h l newer middle older a b is begun proc op =
     let older_act = legal_at opening h.open_ops middle (Acted a) older (legal_at opening h.open_ops newer (Acted b) (middle ++ Acted a ∷ older) (subst (AreLegal opening h.open_ops) is l.legal)).1 in
-    let decided = act_of_home opening (effects (deeds older)) a.deed.proc a.deed.op a.deed.reply older_act.0.may_act in
+    let decided = act_of_home opening (store_effects (deeds older)) a.deed.proc a.deed.op a.deed.reply older_act.0.may_act in
     let earlier = decided_in_history opening h l newer middle older (Acted a) (Acted b) is (proc, ap home_of op, decided) in
     place_lt-not_self b.begun (rw begun at earlier)

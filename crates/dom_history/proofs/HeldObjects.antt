@@ -12,7 +12,7 @@ use Rattle.dom_history.specs.declared.op.Reply.{Reply}
 use Rattle.dom_history.specs.declared.op.Reply.TheVariants.{Fine, Doubt, At, NoLock, AlreadyHeld, Unsettled, TooMany, NoObject}
 use Rattle.dom_history.specs.declared.deed.Deed.{Deed}
 use Rattle.dom_history.specs.declared.deed.LockState.{LockState}
-use Rattle.dom_history.specs.Effects.{Effect, effect_of, effects, own}
+use Rattle.dom_history.specs.StoreEffects.{StoreEffect, store_effect, store_effects, own}
 use Rattle.dom_history.specs.Objects.{made, is_deleted, is_present}
 use Rattle.dom_history.specs.Locks.{state, state_after, is_held, not_free}
 use Rattle.dom_history.specs.Replies.{Before, before_of, reply_of, lock_reply}
@@ -73,43 +73,43 @@ first-of true y e = refl
 first-of false y e = e
 
 -- an object that is there was made
-present-was_made : (opening : Start) (past : List Effect) (u : ObjectName) → is_present opening past u ≡ true → is_some (find (λ o. same_uid o.uid u) (made opening past)) ≡ true
+present-was_made : (opening : Start) (past : List StoreEffect) (u : ObjectName) → is_present opening past u ≡ true → is_some (find (λ o. same_uid o.uid u) (made opening past)) ≡ true
 present-was_made opening past u h = first-of _ _ (sym (find-present (λ v. is_deleted v past) (made opening past) u) ∙ h)
 
 -- what was made stays made
-made-stays : (p : ProcName) (op : Op) (reply : Reply) (opening : Start) (past : List Effect) (test : Object → Bool) → is_some (find test (made opening past)) ≡ true → is_some (find test (made opening (effect_of p op reply ++ past))) ≡ true
+made-stays : (p : ProcName) (op : Op) (reply : Reply) (opening : Start) (past : List StoreEffect) (test : Object → Bool) → is_some (find test (made opening past)) ≡ true → is_some (find test (made opening (store_effect p op reply ++ past))) ≡ true
 made-stays p op reply opening past test h = by_found (find test (made opening past)) refl h
   where
-    by_found : (x : Option Object) → find test (made opening past) ≡ x → is_some x ≡ true → is_some (find test (made opening (effect_of p op reply ++ past))) ≡ true
+    by_found : (x : Option Object) → find test (made opening past) ≡ x → is_some x ≡ true → is_some (find test (made opening (store_effect p op reply ++ past))) ≡ true
     by_found None e h = absurd cc
     by_found (Some o) e h = ap is_some (found-step p op reply opening past test o e)
 
 -- an object that a process holds was made
-pub held-was_made : (opening : Start) (deeds : List Deed) (p : ProcName) (u : ObjectName) → AreAnswered opening deeds → is_held (state u (own p deeds)) ≡ true → is_some (find (λ o. same_uid o.uid u) (made opening (effects deeds))) ≡ true
+pub held-was_made : (opening : Start) (deeds : List Deed) (p : ProcName) (u : ObjectName) → AreAnswered opening deeds → is_held (state u (own p deeds)) ≡ true → is_some (find (λ o. same_uid o.uid u) (made opening (store_effects deeds))) ≡ true
 held-was_made opening [] p u answered h = absurd cc
 held-was_made opening (d ∷ deeds) p u answered h = by_test (same_proc d.proc p) refl h (held-was_made opening deeds p u answered.1)
   where
-    after : is_some (find (λ o. same_uid o.uid u) (made opening (effects deeds))) ≡ true → is_some (find (λ o. same_uid o.uid u) (made opening (effects (d ∷ deeds)))) ≡ true
-    after = made-stays d.proc d.op d.reply opening (effects deeds) (λ o. same_uid o.uid u)
+    after : is_some (find (λ o. same_uid o.uid u) (made opening (store_effects deeds))) ≡ true → is_some (find (λ o. same_uid o.uid u) (made opening (store_effects (d ∷ deeds)))) ≡ true
+    after = made-stays d.proc d.op d.reply opening (store_effects deeds) (λ o. same_uid o.uid u)
 
-    locked : (m : Mode) → d.op ≡ Lock u m → d.reply ≡ Fine → is_present opening (effects deeds) u ≡ true
+    locked : (m : Mode) → d.op ≡ Lock u m → d.reply ≡ Fine → is_present opening (store_effects deeds) u ≡ true
     locked m op reply = granted-present (before_of opening deeds d.proc) d.proc u m (sym reply ∙ answered.0 ∙ ap (reply_of (before_of opening deeds d.proc) d.proc) op)
 
-    by_test : (b : Bool) → same_proc d.proc p ≡ b → is_held (state u (own p (d ∷ deeds))) ≡ true → (is_held (state u (own p deeds)) ≡ true → is_some (find (λ o. same_uid o.uid u) (made opening (effects deeds))) ≡ true)
-        → is_some (find (λ o. same_uid o.uid u) (made opening (effects (d ∷ deeds)))) ≡ true
+    by_test : (b : Bool) → same_proc d.proc p ≡ b → is_held (state u (own p (d ∷ deeds))) ≡ true → (is_held (state u (own p deeds)) ≡ true → is_some (find (λ o. same_uid o.uid u) (made opening (store_effects deeds))) ≡ true)
+        → is_some (find (λ o. same_uid o.uid u) (made opening (store_effects (d ∷ deeds)))) ≡ true
     by_test true e h before =
         let g = rw (e, state_in-lines_after u d.op d.reply (not_free (own p deeds))) at h in
         elim (held-before u d.op d.reply (state u (own p deeds)) g) [
           | inl held ↦ after (before held)
-          | inr (m, op, reply) ↦ after (present-was_made opening (effects deeds) u (locked m op reply))
+          | inr (m, op, reply) ↦ after (present-was_made opening (store_effects deeds) u (locked m op reply))
         ]
     by_test false e h before = after (before (rw e at h))
 
 -- an object that is mapped anew was made
-pub mapped-was_made : (opening : Start) (deeds : List Deed) (p : ProcName) (op : Op) (reply : Reply) → AreAnswered opening deeds → reply ≡ reply_of (before_of opening deeds p) p op → IsOfMade (made opening (effects deeds)) op reply
+pub mapped-was_made : (opening : Start) (deeds : List Deed) (p : ProcName) (op : Op) (reply : Reply) → AreAnswered opening deeds → reply ≡ reply_of (before_of opening deeds p) p op → IsOfMade (made opening (store_effects deeds)) op reply
 mapped-was_made opening deeds p (Map u) (At address true) answered e = by_test (is_held (state u (own p deeds))) refl _ e
   where
-    by_test : (b : Bool) → is_held (state u (own p deeds)) ≡ b → (rest : Reply) → At address true ≡ (if not b then NoLock else rest) → is_some (find (λ o. same_uid o.uid u) (made opening (effects deeds))) ≡ true
+    by_test : (b : Bool) → is_held (state u (own p deeds)) ≡ b → (rest : Reply) → At address true ≡ (if not b then NoLock else rest) → is_some (find (λ o. same_uid o.uid u) (made opening (store_effects deeds))) ≡ true
     by_test true h rest e = held-was_made opening deeds p u answered h
     by_test false h rest e = absurd cc
 mapped-was_made opening deeds p _ _ answered e = tt

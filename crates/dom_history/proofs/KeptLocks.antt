@@ -8,7 +8,7 @@ use Rattle.std.proofs.lemmas.List.{map-append, take_all}
 use Rattle.uid_names.specs.Names.{ProcName, ObjectName, same_proc, same_uid}
 use Rattle.uid_names.specs.InOrder.{AreInOrder, put_in_order}
 use Rattle.uid_names.specs.Rows.{row_lt, same_row, is_in_conflict}
-use Rattle.uid_names.specs.declared.lists.LockRow.{LockRow}
+use Rattle.uid_names.specs.declared.lock_row.LockRow.{LockRow}
 use Rattle.uid_names.specs.declared.mode.Mode.{Mode}
 use Rattle.uid_names.proofs.Finds.{filter-filter}
 use Rattle.uid_names.proofs.InOrder.{AllPairs-head, AllPairs-tail}
@@ -16,9 +16,9 @@ use Rattle.uid_names.proofs.Orders.{row_lt-trans}
 use Rattle.dom_history.specs.declared.deed.Deed.{Deed}
 use Rattle.dom_history.specs.declared.deed.LockState.TheVariants.{Held}
 use Rattle.dom_history.specs.declared.locks.Change.{Change}
-use Rattle.dom_history.specs.Effects.{effects, own}
+use Rattle.dom_history.specs.StoreEffects.{store_effects, own}
 use Rattle.dom_history.specs.Locks.{not_free, rows, rows_with, rows_without, lines_with, lines_without}
-use Rattle.dom_history.specs.KeptLocks.{line_of, lines_of, rows_of, rows_after, lines_after_change, Changes}
+use Rattle.dom_history.specs.KeptLocks.{line_of, lines_of, rows_of, rows_changed, lines_changed, Changes}
 use Rattle.dom_history.proofs.RowOrder.{without_rise}
 
 -- what passes only among those that are kept is found among them
@@ -46,17 +46,17 @@ turned p q = grind (arith, nat_tests)
 
 -- what a process knows after a deed
 pub held-step : (change : Change) (d : Deed) (deeds : List Deed) (old new : List LockRow) → Changes change d → ((p : ProcName) → lines_of p old ≡ not_free (own p deeds))
-    → ((p : ProcName) → lines_of p new ≡ (if same_proc p d.proc then lines_after_change change (lines_of p old) else lines_of p old)) → (p : ProcName) → lines_of p new ≡ not_free (own p (d ∷ deeds))
+    → ((p : ProcName) → lines_of p new ≡ (if same_proc p d.proc then lines_changed change (lines_of p old) else lines_of p old)) → (p : ProcName) → lines_of p new ≡ not_free (own p (d ∷ deeds))
 held-step change d deeds old new changes held after p = after p ∙ rw (turned p d.proc) (by_test (same_proc d.proc p) refl)
   where
-    by_test : (b : Bool) → same_proc d.proc p ≡ b → (if b then lines_after_change change (lines_of p old) else lines_of p old) ≡ not_free (own p (d ∷ deeds))
-    by_test true e = rw e (ap (lines_after_change change) (held p) ∙ sym (changes.lines (not_free (own p deeds))))
+    by_test : (b : Bool) → same_proc d.proc p ≡ b → (if b then lines_changed change (lines_of p old) else lines_of p old) ≡ not_free (own p (d ∷ deeds))
+    by_test true e = rw e (ap (lines_changed change) (held p) ∙ sym (changes.lines (not_free (own p deeds))))
     by_test false e = rw e (held p)
 
 -- the rows of a home after a deed
-pub rows-step : (change : Change) (d : Deed) (deeds : List Deed) (old new : List LockRow) → Changes change d → ((home : ℕ) → rows_of home old ≡ rows home (effects deeds))
-    → ((home : ℕ) → rows_of home new ≡ rows_after change home (rows_of home old)) → (home : ℕ) → rows_of home new ≡ rows home (effects (d ∷ deeds))
-rows-step change d deeds old new changes held after home = after home ∙ ap (rows_after change home) (held home) ∙ sym (changes.rows home (effects deeds))
+pub rows-step : (change : Change) (d : Deed) (deeds : List Deed) (old new : List LockRow) → Changes change d → ((home : ℕ) → rows_of home old ≡ rows home (store_effects deeds))
+    → ((home : ℕ) → rows_of home new ≡ rows_changed change home (rows_of home old)) → (home : ℕ) → rows_of home new ≡ rows home (store_effects (d ∷ deeds))
+rows-step change d deeds old new changes held after home = after home ∙ ap (rows_changed change home) (held home) ∙ sym (changes.rows home (store_effects deeds))
 
 -- the locks of a process without one of q on u
 pub lines_of-without : (q : ProcName) (u : ObjectName) (held : List LockRow) (p : ProcName) → lines_of p (rows_without q u held) ≡ (if same_proc p q then lines_without u (lines_of p held) else lines_of p held)

@@ -13,26 +13,26 @@ use Rattle.dom_history.specs.declared.op.Op.{Op}
 use Rattle.dom_history.specs.declared.op.Reply.{Reply}
 use Rattle.dom_history.specs.declared.maps.Mapped.{Mapped}
 use Rattle.dom_history.specs.declared.maps.MapChange.TheVariants.{Mapping as NewMapping, Unmapping}
-use Rattle.dom_history.specs.Effects.{Effect, effect_of}
+use Rattle.dom_history.specs.StoreEffects.{StoreEffect, store_effect}
 use Rattle.dom_history.specs.Objects.{room_or_none}
 use Rattle.dom_history.specs.Mappings.{Mapping, stretch_of}
 use Rattle.dom_history.specs.KeptMaps.{mapping_in, stretch_in, mappings_of, stretches_of, IsMapped, mappings_after}
 use Rattle.dom_history.proofs.MadeObjects.{found-step}
 
 -- the addresses of a mapping of an object that was made
-stretch-is : (opening : Start) (past : List Effect) (m : Mapped) → IsMapped opening past m → stretch_of opening past (mapping_in m) ≡ stretch_in m
+stretch-is : (opening : Start) (past : List StoreEffect) (m : Mapped) → IsMapped opening past m → stretch_of opening past (mapping_in m) ≡ stretch_in m
 stretch-is opening past m h =
     let high : ℕ → Stretch = λ n. record { low = m.first * SEGMENT_SIZE; high = m.first * SEGMENT_SIZE + n * SEGMENT_SIZE } in
     ap (λ o. high (segments (room_or_none o))) h.found ∙ ap high (sym h.count)
 
 -- and of all of them
-stretches-are : (opening : Start) (past : List Effect) (ms : List Mapped) → All (IsMapped opening past) ms → map (stretch_of opening past) (map mapping_in ms) ≡ map stretch_in ms
+stretches-are : (opening : Start) (past : List StoreEffect) (ms : List Mapped) → All (IsMapped opening past) ms → map (stretch_of opening past) (map mapping_in ms) ≡ map stretch_in ms
 stretches-are opening past [] h = refl
 stretches-are opening past (m ∷ ms) h =
     rw (stretch-is opening past m (All-head (IsMapped opening past) m ms h), stretches-are opening past ms (All-tail (IsMapped opening past) m ms h)) refl
 
 -- the addresses of the mappings of a process
-pub stretches_of-same : (opening : Start) (past : List Effect) (p : ProcName) (ms : List Mapped) → All (IsMapped opening past) ms → map (stretch_of opening past) (mappings_of p ms) ≡ stretches_of p ms
+pub stretches_of-same : (opening : Start) (past : List StoreEffect) (p : ProcName) (ms : List Mapped) → All (IsMapped opening past) ms → map (stretch_of opening past) (mappings_of p ms) ≡ stretches_of p ms
 stretches_of-same opening past p ms h =
     stretches-are opening past (filter (λ m. same_proc p m.proc) ms) (All-filter (λ m. same_proc p m.proc) (IsMapped opening past) ms h)
 
@@ -57,7 +57,7 @@ find-mapping test p ms =
     ∙ ap (option_map mapping_in) (sym (find-and (λ m. same_proc p m.proc) (λ m. test (mapping_in m)) ms))
 
 -- and at an address
-pub find-at : (opening : Start) (past : List Effect) (p : ProcName) (ms : List Mapped) (a : ℕ) → All (IsMapped opening past) ms
+pub find-at : (opening : Start) (past : List StoreEffect) (p : ProcName) (ms : List Mapped) (a : ℕ) → All (IsMapped opening past) ms
     → find (λ m. lies_in a (stretch_of opening past m)) (mappings_of p ms) ≡ option_map mapping_in (find (λ m. same_proc p m.proc && lies_in a (stretch_in m)) ms)
 find-at opening past p ms a h =
     find-mapping (λ m. lies_in a (stretch_of opening past m)) p ms
@@ -65,7 +65,7 @@ find-at opening past p ms a h =
     (λ k d below. ap (λ (s : Stretch). same_proc p (slice_index_or ms k d).proc && lies_in a s) (stretch-is opening past (slice_index_or ms k d) (h k d below))))
 
 -- what was made stays so
-pub mapped-stays : (p : ProcName) (op : Op) (reply : Reply) (opening : Start) (past : List Effect) (m : Mapped) → IsMapped opening past m → IsMapped opening (effect_of p op reply ++ past) m
+pub mapped-stays : (p : ProcName) (op : Op) (reply : Reply) (opening : Start) (past : List StoreEffect) (m : Mapped) → IsMapped opening past m → IsMapped opening (store_effect p op reply ++ past) m
 mapped-stays p op reply opening past m h = record {
   object = h.object;
   found = found-step p op reply opening past (λ o. same_uid o.uid m.uid) h.object h.found;

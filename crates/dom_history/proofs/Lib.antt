@@ -21,3 +21,4 @@ pub mod KeptLocks
 pub mod KeptMaps
 pub mod HeldObjects
 pub mod MapReplies
+pub mod EndTexts

@@ -10,7 +10,7 @@ use Rattle.dom_history.specs.declared.op.Op.{Op}
 use Rattle.dom_history.specs.declared.op.Op.TheVariants.{New, Lock, Unlock, Delete, Store, Map, Unmap}
 use Rattle.dom_history.specs.declared.op.Reply.{Reply}
 use Rattle.dom_history.specs.declared.op.Reply.TheVariants.{Made, Fine, At}
-use Rattle.dom_history.specs.Effects.{Effect, effect_of}
+use Rattle.dom_history.specs.StoreEffects.{StoreEffect, store_effect}
 use Rattle.dom_history.specs.Objects.{made}
 
 -- one element more behind others
@@ -20,7 +20,7 @@ one-more xs ys i y inside is =
     ap (λ zs. xs ++ zs) (take_more ys i y inside ∙ ap (λ zs. take i ys ++ zs) last) ∙ sym (append_assoc xs (take i ys) (y ∷ []))
 
 -- what was found is still the first after one effect more
-pub found-step : (p : ProcName) (op : Op) (reply : Reply) (opening : Start) (past : List Effect) (test : Object → Bool) (o : Object) → find test (made opening past) ≡ Some o → find test (made opening (effect_of p op reply ++ past)) ≡ Some o
+pub found-step : (p : ProcName) (op : Op) (reply : Reply) (opening : Start) (past : List StoreEffect) (test : Object → Bool) (o : Object) → find test (made opening past) ≡ Some o → find test (made opening (store_effect p op reply ++ past)) ≡ Some o
 found-step p (New home kind room) (Made v) opening past test o h = find-append test (made opening past) (record { uid = v; kind = kind; room = room } ∷ []) ∙ rw h refl
 found-step p (Lock v m) Fine opening past test o h = h
 found-step p (Unlock v) Fine opening past test o h = h

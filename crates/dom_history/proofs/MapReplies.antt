@@ -3,6 +3,7 @@ use Rattle.std.proofs.Common.{◌≡◌, ℕ, ◌≤◌, ◌<◌, arith, refl, t
 use Rattle.std.specs.Prelude.{nat_le, if◌then◌else◌, Option, Some, None}
 use Rattle.std.specs.Option.{option_map}
 use Rattle.std.proofs.lemmas.Bool.Decides.{nat_tests}
+use Rattle.uid_names.specs.declared.limits.TheConstants.{PROCESS_MAPPINGS}
 use Rattle.dom_history.specs.Mappings.{Mapping}
 
 -- an address is that of a mapping
@@ -16,8 +17,8 @@ none-mapped None e = refl
 none-mapped (Some m) e = absurd cc
 
 -- the choice by a count
-pub many : {X : Type 0} (n : ℕ) (x y : X) → 16 ≤ n → x ≡ (if nat_le 16 n then x else y)
-many n x y h = let test : nat_le 16 n ≡ true = grind (arith, nat_tests) in rw test refl
+pub many : {X : Type 0} (n : ℕ) (x y : X) → PROCESS_MAPPINGS ≤ n → x ≡ (if nat_le PROCESS_MAPPINGS n then x else y)
+many n x y h = let test : nat_le PROCESS_MAPPINGS n ≡ true = grind (arith, nat_tests) in rw test refl
 
-pub few : {X : Type 0} (n : ℕ) (x y : X) → n < 16 → y ≡ (if nat_le 16 n then x else y)
-few n x y h = let test : nat_le 16 n ≡ false = grind (arith, nat_tests) in rw test refl
+pub few : {X : Type 0} (n : ℕ) (x y : X) → n < PROCESS_MAPPINGS → y ≡ (if nat_le PROCESS_MAPPINGS n then x else y)
+few n x y h = let test : nat_le PROCESS_MAPPINGS n ≡ false = grind (arith, nat_tests) in rw test refl

@@ -6,7 +6,7 @@ use Rattle.uid_names.specs.Names.{ProcName}
 use Rattle.uid_names.specs.Openings.{Start}
 use Rattle.dom_history.specs.declared.op.Op.{Op}
 use Rattle.dom_history.specs.declared.op.Op.TheVariants.{New, Lock, Unlock, Delete, Load, Store, List as ListOp}
-use Rattle.dom_history.specs.declared.op.Reply.TheVariants.{Made, Fine, Bytes, Locks as LocksReply, Conflict, NoObject, NoSpace, Kept, Doubt, LinkFault}
+use Rattle.dom_history.specs.declared.op.Reply.TheVariants.{Made, Fine, Bytes, Locks, Conflict, NoObject, NoSpace, Kept, Doubt, LinkFault}
 use Rattle.dom_history.specs.declared.deed.LockState.{LockState}
 use Rattle.dom_history.specs.declared.op.Reply.{Reply}
 use Rattle.dom_history.specs.declared.op.Want.{Want}
@@ -56,7 +56,7 @@ link_faults-faulty (Unlock u) s Fine = unlock_faulty (may_write s)
 link_faults-faulty (Delete u) s Fine = two_faulty
 link_faults-faulty (Load spot n) s (Bytes bytes) = one_faulty LinkFault (λ h. h)
 link_faults-faulty (Store spot bytes) s Fine = one_faulty LinkFault (λ h. h)
-link_faults-faulty (ListOp home after) s (LocksReply rows more) = one_faulty LinkFault (λ h. h)
+link_faults-faulty (ListOp home after) s (Locks rows more) = one_faulty LinkFault (λ h. h)
 link_faults-faulty _ _ _ = none_faulty
 
 -- a reply of no link fault is that of one store

@@ -5,21 +5,22 @@ use Rattle.std.proofs.lemmas.List.{length-take}
 use Rattle.std.proofs.lemmas.List.Elements.{All-head, All-tail}
 use Rattle.uid_names.specs.Names.{ProcName, ObjectName}
 use Rattle.uid_names.specs.Openings.{Start}
-use Rattle.uid_names.specs.declared.lists.LockRow.{LockRow}
+use Rattle.uid_names.specs.declared.lock_row.LockRow.{LockRow}
 use Rattle.uid_names.specs.declared.mode.Mode.{Mode}
 use Rattle.dom_history.specs.declared.op.Reply.{Reply}
-use Rattle.dom_history.specs.declared.op.Reply.TheVariants.{Made, Fine, Bytes, Size, At, Locks as LocksReply, Conflict, NoObject, AlreadyHeld, NotHeld, Unsettled, TooMany, NoLock, WrongMode, PastRoom, PastEnd, NoSpace, TooManyMaps, NoSegment, NotMapped}
-use Rattle.dom_history.specs.Effects.{Effect}
+use Rattle.dom_history.specs.declared.op.Reply.TheVariants.{Made, Fine, Bytes, Size, At, Locks, Conflict, NoObject, AlreadyHeld, NotHeld, Unsettled, TooMany, NoLock, WrongMode, PastRoom, PastEnd, NoSpace, TooManyMaps, NoSegment, NotMapped}
+use Rattle.dom_history.specs.StoreEffects.{StoreEffect}
 use Rattle.uid_names.specs.Segments.{segments}
 use Rattle.uid_names.specs.declared.segment.TheConstants.{SEGMENT_SIZE}
 use Rattle.uid_names.proofs.Runs.{starts-below}
+use Rattle.uid_names.specs.declared.limits.TheConstants.{LISTED_ROWS}
 use Rattle.dom_history.specs.Mappings.{Mapping, Target, lowest_run}
 use Rattle.dom_history.specs.Bytes.{bytes_from, length_of}
 use Rattle.dom_history.specs.Objects.{room_of}
 use Rattle.dom_history.specs.Replies.{Before, new_reply, lock_reply, conflict_or_fine, unlock_reply, delete_reply, load_reply, store_reply, length_reply, map_reply, map_anew_reply, run_or_none, mapping_of, unmap_reply, list_reply}
 
 -- as many bytes as were asked for
-length-bytes_from : (opening : Start) (past : List Effect) (u : ObjectName) (o n : ℕ) → length (bytes_from opening past u o n) ≡ n
+length-bytes_from : (opening : Start) (past : List StoreEffect) (u : ObjectName) (o n : ℕ) → length (bytes_from opening past u o n) ≡ n
 length-bytes_from opening past u o zero = refl
 length-bytes_from opening past u o (suc n) = grind (arith, length-append, length-bytes_from opening past u o n)
 
@@ -108,5 +109,5 @@ module _ (P : Reply → Type 0) where
     unmap_reply-one p u unmapped fine = search (either, unmapped, fine)
 
   -- the replies to List
-  pub list_reply-one : ((rows : List LockRow) (more : Bool) → length rows ≤ 64 → P (LocksReply rows more)) → (listed : List LockRow) → P (list_reply listed)
-  list_reply-one locks listed = let short = length-take 64 listed in locks (take 64 listed) _ (grind (arith, short))
+  pub list_reply-one : ((rows : List LockRow) (more : Bool) → length rows ≤ LISTED_ROWS → P (Locks rows more)) → (listed : List LockRow) → P (list_reply listed)
+  list_reply-one locks listed = let short = length-take LISTED_ROWS listed in locks (take LISTED_ROWS listed) _ (grind (arith, short))

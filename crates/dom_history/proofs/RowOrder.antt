@@ -7,11 +7,11 @@ use Rattle.std.proofs.lemmas.List.Kept.{AllPairs-filter}
 use Rattle.uid_names.specs.Names.{ProcName, ObjectName}
 use Rattle.uid_names.specs.InOrder.{AreInOrder}
 use Rattle.uid_names.specs.Rows.{row_lt, same_row}
-use Rattle.uid_names.specs.declared.lists.LockRow.{LockRow}
+use Rattle.uid_names.specs.declared.lock_row.LockRow.{LockRow}
 use Rattle.uid_names.specs.declared.mode.Mode.{Mode}
 use Rattle.uid_names.proofs.InOrder.{AllPairs-nil, chosen, put_in_order-all, replaced-rising}
 use Rattle.uid_names.proofs.Orders.{row_lt-trans, row_lt-total}
-use Rattle.dom_history.specs.Effects.{Effect, Locks, Unlocks, Deletes}
+use Rattle.dom_history.specs.StoreEffects.{StoreEffect, TakesLock, FreesLock, Deletes}
 use Rattle.dom_history.specs.Locks.{rows_without, rows_with, rows}
 
 -- rows stay in order when one is taken out
@@ -23,10 +23,10 @@ pub set_rise : (new : LockRow) (rs : List LockRow) → AreInOrder row_lt rs → 
 set_rise new = replaced-rising row_lt row_lt-trans (same_row new.proc new.uid) new (λ row apart above. row_lt-total new row above apart)
 
 -- the rows of a home stand in order
-pub rows-rise : (home : ℕ) (past : List Effect) → AreInOrder row_lt (rows home past)
+pub rows-rise : (home : ℕ) (past : List StoreEffect) → AreInOrder row_lt (rows home past)
 rows-rise home [] = AllPairs-nil (λ a b. IsTrue (row_lt a b))
-rows-rise home (Locks p u m ∷ past) = chosen (AreInOrder row_lt) (u.home == home) (set_rise (record { uid = u; proc = p; mode = m }) (rows home past) (rows-rise home past)) (rows-rise home past)
-rows-rise home (Unlocks p u ∷ past) = chosen (AreInOrder row_lt) (u.home == home) (without_rise p u (rows home past) (rows-rise home past)) (rows-rise home past)
+rows-rise home (TakesLock p u m ∷ past) = chosen (AreInOrder row_lt) (u.home == home) (set_rise (record { uid = u; proc = p; mode = m }) (rows home past) (rows-rise home past)) (rows-rise home past)
+rows-rise home (FreesLock p u ∷ past) = chosen (AreInOrder row_lt) (u.home == home) (without_rise p u (rows home past) (rows-rise home past)) (rows-rise home past)
 rows-rise home (Deletes p u ∷ past) = chosen (AreInOrder row_lt) (u.home == home) (without_rise p u (rows home past) (rows-rise home past)) (rows-rise home past)
 rows-rise home (_ ∷ past) = rows-rise home past
 
@@ -36,9 +36,9 @@ locked_at_home home p u m rs true e others = put_in_order-all row_lt (λ r. r.ui
 locked_at_home home p u m rs false e others = others
 
 -- and are of its objects
-pub rows-at_home : (home : ℕ) (past : List Effect) → All (λ r. r.uid.home ≡ home) (rows home past)
+pub rows-at_home : (home : ℕ) (past : List StoreEffect) → All (λ r. r.uid.home ≡ home) (rows home past)
 rows-at_home home [] = All-nil (λ r. r.uid.home ≡ home)
-rows-at_home home (Locks p u m ∷ past) = locked_at_home home p u m (rows home past) (u.home == home) refl (rows-at_home home past)
-rows-at_home home (Unlocks p u ∷ past) = chosen (All (λ r. r.uid.home ≡ home)) (u.home == home) (All-filter (λ r. not (same_row p u r)) (λ r. r.uid.home ≡ home) (rows home past) (rows-at_home home past)) (rows-at_home home past)
+rows-at_home home (TakesLock p u m ∷ past) = locked_at_home home p u m (rows home past) (u.home == home) refl (rows-at_home home past)
+rows-at_home home (FreesLock p u ∷ past) = chosen (All (λ r. r.uid.home ≡ home)) (u.home == home) (All-filter (λ r. not (same_row p u r)) (λ r. r.uid.home ≡ home) (rows home past) (rows-at_home home past)) (rows-at_home home past)
 rows-at_home home (Deletes p u ∷ past) = chosen (All (λ r. r.uid.home ≡ home)) (u.home == home) (All-filter (λ r. not (same_row p u r)) (λ r. r.uid.home ≡ home) (rows home past) (rows-at_home home past)) (rows-at_home home past)
 rows-at_home home (_ ∷ past) = rows-at_home home past

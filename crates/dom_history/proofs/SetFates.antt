@@ -7,7 +7,8 @@ use Rattle.std.proofs.lemmas.List.Elements.{All-append, All-cons, All-nil}
 use Rattle.std.proofs.lemmas.List.Quantifiers.{all_pairs_push}
 use Rattle.std.proofs.lemmas.Bool.Decides.{nat_tests}
 use Rattle.dom_history.specs.declared.plan.FateRow.{FateRow}
-use Rattle.dom_history.specs.Plans.{is_of_frame, fate_in, set_fate, is_set, IsPlan, same_frame}
+use Rattle.dom_history.specs.Plans.{is_of_frame, fate_in, set_fate, is_set, IsPlan}
+use Rattle.dom_history.specs.KeptFates.{same_frame}
 
 -- a test that finds nothing fails at each element
 unfound : {X : Type 0} (p : X → Bool) (xs : List X) → find p xs ≡ None → (k : ℕ) (d : X) → k < length xs → p (get_or xs k d) ≡ false

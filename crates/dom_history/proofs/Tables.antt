@@ -3,7 +3,7 @@ use Rattle.std.proofs.Common.{◌≡◌, ◌∙◌, Bool, true, false, List, [],
 use Rattle.std.specs.Prelude.{if◌then◌else◌, ◌&&◌, ◌==◌, Option, Some, None, find}
 use Rattle.std.proofs.lemmas.Bool.Decides.{nat_tests}
 use Rattle.uid_names.specs.Names.{ProcName, ObjectName, same_proc, same_uid}
-use Rattle.uid_names.specs.declared.lists.LockRow.{LockRow}
+use Rattle.uid_names.specs.declared.lock_row.LockRow.{LockRow}
 use Rattle.uid_names.specs.declared.mode.Mode.{Mode}
 use Rattle.dom_history.specs.declared.deed.LockLine.{LockLine}
 use Rattle.dom_history.specs.declared.deed.LockState.{LockState}
@@ -14,9 +14,9 @@ use Rattle.dom_history.specs.declared.op.Op.TheVariants.{Lock, Unlock, Delete}
 use Rattle.dom_history.specs.declared.op.Reply.{Reply}
 use Rattle.dom_history.specs.declared.op.Reply.TheVariants.{Fine, Doubt}
 use Rattle.dom_history.specs.declared.deed.Deed.{Deed}
-use Rattle.dom_history.specs.Effects.{Effect, Locks, Unlocks, Deletes}
+use Rattle.dom_history.specs.StoreEffects.{StoreEffect, TakesLock, FreesLock, Deletes}
 use Rattle.uid_names.specs.Rows.{same_row, row_lt}
-use Rattle.dom_history.specs.Locks.{state, state_by_last, state_after, lines_after, not_free, mode_of, state_in, lines_with, lines_without, holds, rows, rows_with, rows_without, mode_in}
+use Rattle.dom_history.specs.Locks.{state, state_by_last, state_after, lines_after, not_free, mode_at_home, state_in, lines_with, lines_without, holds, rows, rows_with, rows_without, mode_in}
 
 -- the state where an object was made free
 state_in-lines_without : (u v : ObjectName) (lines : List LockLine) → state_in u (lines_without v lines) ≡ (if same_uid u v then Free else state_in u lines)
@@ -68,12 +68,12 @@ found_if p u true changed rest = refl
 found_if p u false changed rest = refl
 
 -- what a process holds is in the rows of the home
-pub holds-rows : (p : ProcName) (u : ObjectName) (past : List Effect) → holds p u past ≡ mode_in (find (same_row p u) (rows u.home past))
+pub holds-rows : (p : ProcName) (u : ObjectName) (past : List StoreEffect) → holds p u past ≡ mode_in (find (same_row p u) (rows u.home past))
 holds-rows p u [] = refl
-holds-rows p u (Locks q v m ∷ past) =
+holds-rows p u (TakesLock q v m ∷ past) =
     rw (found_if p u (v.home == u.home) (rows_with (record { uid = v; proc = q; mode = m }) (rows_without q v (rows u.home past))) (rows u.home past))
     (at_home (same_proc p q && same_uid u v) (v.home == u.home) (Some m) _ _ _ (holds-rows p u past) (home_apart p q u v) (row_of-set p q u v m (rows u.home past)))
-holds-rows p u (Unlocks q v ∷ past) =
+holds-rows p u (FreesLock q v ∷ past) =
     rw (found_if p u (v.home == u.home) (rows_without q v (rows u.home past)) (rows u.home past))
     (at_home (same_proc p q && same_uid u v) (v.home == u.home) None _ _ _ (holds-rows p u past) (home_apart p q u v) (row_of-without p q u v (rows u.home past)))
 holds-rows p u (Deletes q v ∷ past) =
@@ -86,9 +86,9 @@ state_in-named : (u v : ObjectName) (lines : List LockLine) → same_uid u v ≡
 state_in-named u v lines e = grind (arith, nat_tests, e)
 
 -- the mode of a releasing is that of the state before it
-released : (u v : ObjectName) (lines : List LockLine) (b : Bool) → same_uid u v ≡ b → state_in u (lines_with v (Releasing (mode_of (state_in v lines))) lines) ≡ (if same_uid u v then Releasing (mode_of (state_in u lines)) else state_in u lines)
-released u v lines true e = rw (state_in-lines_with u v (Releasing (mode_of (state_in v lines))) lines, e, state_in-named u v lines e) refl
-released u v lines false e = rw (state_in-lines_with u v (Releasing (mode_of (state_in v lines))) lines, e) refl
+released : (u v : ObjectName) (lines : List LockLine) (b : Bool) → same_uid u v ≡ b → state_in u (lines_with v (Releasing (mode_at_home (state_in v lines))) lines) ≡ (if same_uid u v then Releasing (mode_at_home (state_in u lines)) else state_in u lines)
+released u v lines true e = rw (state_in-lines_with u v (Releasing (mode_at_home (state_in v lines))) lines, e, state_in-named u v lines e) refl
+released u v lines false e = rw (state_in-lines_with u v (Releasing (mode_at_home (state_in v lines))) lines, e) refl
 
 -- the state after a reply
 pub state_in-lines_after : (u : ObjectName) (op : Op) (reply : Reply) (lines : List LockLine) → state_in u (lines_after op reply lines) ≡ state_after u op reply (state_in u lines)

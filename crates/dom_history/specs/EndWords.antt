@@ -1,5 +1,6 @@
 -- How an operation ended, in one word: the one table of the words, and which reply has which.
-use Rattle.std.specs.Prelude.{ℕ, List, [], ◌∷◌, codes}
+use Rattle.std.specs.Prelude.{ℕ, Option, List, [], ◌∷◌, codes}
+use Rattle.uid_names.specs.Texts.{written_so}
 use Rattle.dom_history.specs.declared.end_word.EndWord.{EndWord}
 use Rattle.dom_history.specs.declared.end_word.EndWord.TheVariants as word
 use Rattle.dom_history.specs.declared.op.Reply.{Reply}
@@ -31,6 +32,10 @@ all_ends =
     word.Fine ∷ word.Conflict ∷ word.NoObject ∷ word.AlreadyHeld ∷ word.NotHeld ∷ word.Unsettled ∷ word.TooMany ∷ word.NoLock
     ∷ word.WrongMode ∷ word.PastRoom ∷ word.PastEnd ∷ word.NoSpace ∷ word.Kept ∷ word.Doubt ∷ word.LinkFault
     ∷ word.TooManyMaps ∷ word.NoSegment ∷ word.NotMapped ∷ []
+
+-- the one that is written so
+abbrev pub end_of_word : List ℕ → Option EndWord
+end_of_word word = written_so word_text all_ends word
 
 -- the word of a reply: one word for all those of an operation that was done
 abbrev pub word_of : Reply → EndWord

@@ -1,10 +1,11 @@
 -- What happens at a node, and what it does.
-use Rattle.std.specs.Prelude.{ℕ, ◌≡◌, ◌≤◌, nat_lt, Bool, ◌&&◌, ◌||◌, List, IfSome}
+use Rattle.std.specs.Prelude.{ℕ, ◌≡◌, nat_lt, Bool, ◌&&◌, ◌||◌, List, IfSome}
 use Rattle.uid_names.specs.Names.{ObjectName, uid_lt, same_uid}
 use Rattle.uid_names.specs.InOrder.{AreInOrder}
 use Rattle.uid_names.specs.FrameKinds.{kind_number}
 use Rattle.uid_names.specs.declared.frame_kind.FrameKind.{FrameKind}
 use Rattle.uid_names.specs.declared.ids.Place.{Place}
+use Rattle.dom_history.specs.Ranges.{IsProcNumber}
 use Rattle.dom_history.specs.declared.event.What.{What}
 use Rattle.dom_history.specs.declared.event.What.TheVariants.{Begin, Go, Take, Notice, Ready, Mark}
 use Rattle.dom_history.specs.declared.event.Effects.{Effects}
@@ -14,10 +15,6 @@ pub record Happening : Type 0 where
   pub place : Place
   pub what : What
   pub effects : Effects
-
--- the number of a process at its node
-abbrev pub IsProcNumber : ℕ → Type 0
-IsProcNumber p = (1 ≤ p) × (p ≤ 4)
 
 -- the processes that it names are 1 to 4
 abbrev pub IsWhat : What → Type 0

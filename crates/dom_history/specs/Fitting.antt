@@ -1,12 +1,14 @@
 -- Which replies an operation can have at all, those of a link fault included.
 use Rattle.std.specs.Prelude.{ℕ, ◌≡◌, ◌*◌, ◌%◌, ◌≤◌, ◌<◌, length}
-use Rattle.uid_names.specs.declared.mode.TheConstants.{MAX_ROOM}
+use Rattle.uid_names.specs.Rooms.{IsLength}
+use Rattle.uid_names.specs.declared.limits.TheConstants.{LISTED_ROWS}
+use Rattle.uid_names.specs.declared.segment.TheConstants.{SEGMENT_SIZE, SEGMENTS}
 use Rattle.dom_history.specs.declared.op.Spot.{Spot}
 use Rattle.dom_history.specs.declared.op.Spot.TheVariants.{Of, Addr}
 use Rattle.dom_history.specs.declared.op.Op.{Op}
 use Rattle.dom_history.specs.declared.op.Op.TheVariants.{New, Lock, Unlock, Delete, Load, Store, Length, Map, Unmap, List as ListOp}
 use Rattle.dom_history.specs.declared.op.Reply.{Reply}
-use Rattle.dom_history.specs.declared.op.Reply.TheVariants.{Made, Fine, Bytes, Size, At, Locks as LocksReply, Conflict, NoObject, AlreadyHeld, NotHeld, Unsettled, TooMany, NoLock, WrongMode, PastRoom, PastEnd, NoSpace, Kept, Doubt, LinkFault, TooManyMaps, NoSegment, NotMapped}
+use Rattle.dom_history.specs.declared.op.Reply.TheVariants.{Made, Fine, Bytes, Size, At, Locks, Conflict, NoObject, AlreadyHeld, NotHeld, Unsettled, TooMany, NoLock, WrongMode, PastRoom, PastEnd, NoSpace, Kept, Doubt, LinkFault, TooManyMaps, NoSegment, NotMapped}
 
 abbrev pub FitsNew : Reply → Type 0
 FitsNew (Made u) = Unit {0}
@@ -63,12 +65,12 @@ FitsStore spot _ = ⊥
 
 abbrev pub FitsLength : Reply → Type 0
 FitsLength NoLock = Unit {0}
-FitsLength (Size n) = n ≤ 1024 * MAX_ROOM
+FitsLength (Size n) = IsLength n
 FitsLength _ = ⊥
 
 abbrev pub FitsMap : Reply → Type 0
 FitsMap NoLock = Unit {0}
-FitsMap (At address fresh) = (address % 32768 ≡ 0) × (address < 8388608)
+FitsMap (At address fresh) = (address % SEGMENT_SIZE ≡ 0) × (address < SEGMENTS * SEGMENT_SIZE)
 FitsMap TooManyMaps = Unit {0}
 FitsMap NoSegment = Unit {0}
 FitsMap _ = ⊥
@@ -80,7 +82,7 @@ FitsUnmap _ = ⊥
 
 abbrev pub FitsList : Reply → Type 0
 FitsList LinkFault = Unit {0}
-FitsList (LocksReply rows more) = length rows ≤ 64
+FitsList (Locks rows more) = length rows ≤ LISTED_ROWS
 FitsList _ = ⊥
 
 -- the operation can have this reply

@@ -1,18 +1,19 @@
--- The locks that the plain store keeps.
+-- The locks that the plain store keeps, for its private code alone (see Kept).
 use Rattle.std.specs.Prelude.{ℕ, ◌≡◌, ◌==◌, ◌<◌, if◌then◌else◌, Option, Some, None, Bool, nat_lt, length, take, List, ◌++◌, filter, map, vec_len, vec_capacity}
 use Rattle.uid_names.specs.Names.{ProcName, same_proc}
 use Rattle.uid_names.specs.InOrder.{AreInOrder}
 use Rattle.uid_names.specs.Rows.{row_lt}
-use Rattle.uid_names.specs.declared.lists.LockRow.{LockRow}
+use Rattle.uid_names.specs.declared.lock_row.LockRow.{LockRow}
 use Rattle.uid_names.specs.declared.mode.Mode.{Mode}
+use Rattle.uid_names.specs.declared.limits.TheConstants.{LISTED_ROWS}
 use Rattle.dom_history.specs.declared.locks.Change.{Change}
-use Rattle.dom_history.specs.declared.locks.Change.TheVariants.{Taken, Freed, Kept}
+use Rattle.dom_history.specs.declared.locks.Change.TheVariants.{Taken, Freed, Same}
 use Rattle.dom_history.specs.declared.locks.LockTable.{LockTable}
 use Rattle.dom_history.specs.declared.deed.Deed.{Deed}
 use Rattle.dom_history.specs.declared.deed.LockLine.{LockLine}
 use Rattle.dom_history.specs.declared.deed.LockState.{LockState}
 use Rattle.dom_history.specs.declared.deed.LockState.TheVariants.{Free, Held}
-use Rattle.dom_history.specs.Effects.{Effect, effect_of, effects, own}
+use Rattle.dom_history.specs.StoreEffects.{StoreEffect, store_effect, store_effects, own}
 use Rattle.dom_history.specs.Locks.{not_free, rows, rows_with, rows_without, lines_with, lines_without, lines_after}
 
 -- a lock that is held, as its process knows it
@@ -36,30 +37,30 @@ held_state (Some m) = Held m
 pub record HoldLocks (kept : LockTable) (deeds : List Deed) : Type 0 where
   pub held : (p : ProcName) → lines_of p kept.held.items ≡ not_free (own p deeds)
   pub rising : AreInOrder row_lt kept.rows.items
-  pub rows : (home : ℕ) → rows_of home kept.rows.items ≡ rows home (effects deeds)
+  pub rows : (home : ℕ) → rows_of home kept.rows.items ≡ rows home (store_effects deeds)
 
 -- the rows of a home after a change
-abbrev pub rows_after : Change → ℕ → List LockRow → List LockRow
-rows_after (Taken row) home rows = if row.uid.home == home then rows_with row (rows_without row.proc row.uid rows) else rows
-rows_after (Freed p u) home rows = if u.home == home then rows_without p u rows else rows
-rows_after Kept home rows = rows
+abbrev pub rows_changed : Change → ℕ → List LockRow → List LockRow
+rows_changed (Taken row) home rows = if row.uid.home == home then rows_with row (rows_without row.proc row.uid rows) else rows
+rows_changed (Freed p u) home rows = if u.home == home then rows_without p u rows else rows
+rows_changed Same home rows = rows
 
 -- what the process of a change knows of its locks after it
-abbrev pub lines_after_change : Change → List LockLine → List LockLine
-lines_after_change (Taken row) lines = lines_with row.uid (Held row.mode) lines
-lines_after_change (Freed p u) lines = lines_without u lines
-lines_after_change Kept lines = lines
+abbrev pub lines_changed : Change → List LockLine → List LockLine
+lines_changed (Taken row) lines = lines_with row.uid (Held row.mode) lines
+lines_changed (Freed p u) lines = lines_without u lines
+lines_changed Same lines = lines
 
 -- the change is of a lock of p
 abbrev pub IsOfProc : ProcName → Change → Type 0
 IsOfProc p (Taken row) = p ≡ row.proc
 IsOfProc p (Freed q u) = p ≡ q
-IsOfProc p Kept = Unit {0}
+IsOfProc p Same = Unit {0}
 
 -- what a deed of p does to the rows of each home, and to what p knows
 pub record Changes (change : Change) (d : Deed) : Type 0 where
-  pub rows : (home : ℕ) (past : List Effect) → rows home (effect_of d.proc d.op d.reply ++ past) ≡ rows_after change home (rows home past)
-  pub lines : (lines : List LockLine) → lines_after d.op d.reply lines ≡ lines_after_change change lines
+  pub rows : (home : ℕ) (past : List StoreEffect) → rows home (store_effect d.proc d.op d.reply ++ past) ≡ rows_changed change home (rows home past)
+  pub lines : (lines : List LockLine) → lines_after d.op d.reply lines ≡ lines_changed change lines
   pub proc : IsOfProc d.proc change
 
 -- there is room for one lock more
@@ -67,6 +68,6 @@ pub record HaveRoom (kept : LockTable) : Type 0 where
   pub held : vec_len kept.held < vec_capacity kept.held
   pub rows : vec_len kept.rows < vec_capacity kept.rows
 
--- the first 64 of some rows, and whether further ones follow
+-- the first of some rows, as many as are listed, and whether further ones follow
 abbrev pub AreListed : List LockRow → List LockRow × Bool → Type 0
-AreListed rows list = (list.0 ≡ take 64 rows) × (list.1 ≡ nat_lt 64 (length rows))
+AreListed rows list = (list.0 ≡ take LISTED_ROWS rows) × (list.1 ≡ nat_lt LISTED_ROWS (length rows))

@@ -1,4 +1,4 @@
--- The mappings that the plain store keeps.
+-- The mappings that the plain store keeps, for its private code alone (see Kept).
 use Rattle.std.specs.Prelude.{ℕ, ◌≡◌, ◌+◌, ◌*◌, ◌<◌, true, not, if◌then◌else◌, IsSome, Option, Some, None, List, ◌∷◌, ◌++◌, All, filter, find, map, vec_len, vec_capacity}
 use Rattle.uid_names.specs.Names.{ProcName, ObjectName, same_proc, same_uid}
 use Rattle.uid_names.specs.Openings.{Start}
@@ -15,7 +15,7 @@ use Rattle.dom_history.specs.declared.op.Op.TheVariants.{Map}
 use Rattle.dom_history.specs.declared.op.Reply.{Reply}
 use Rattle.dom_history.specs.declared.op.Reply.TheVariants.{At}
 use Rattle.dom_history.specs.declared.deed.Deed.{Deed}
-use Rattle.dom_history.specs.Effects.{Effect, effect_of}
+use Rattle.dom_history.specs.StoreEffects.{StoreEffect, store_effect}
 use Rattle.dom_history.specs.Objects.{made}
 use Rattle.dom_history.specs.Mappings.{Mapping, Target, mappings}
 use Rattle.dom_history.specs.KeptObjects.{HoldObjects}
@@ -36,13 +36,13 @@ abbrev pub stretches_of : ProcName → List Mapped → List Stretch
 stretches_of p maps = map stretch_in (filter (λ m. same_proc p m.proc) maps)
 
 -- a mapping of an object that was made takes its segments
-pub record IsMapped (opening : Start) (past : List Effect) (m : Mapped) : Type 0 where
+pub record IsMapped (opening : Start) (past : List StoreEffect) (m : Mapped) : Type 0 where
   pub object : Object
   pub found : find (λ o. same_uid o.uid m.uid) (made opening past) ≡ Some object
   pub count : m.segments ≡ segments object.room
 
 -- the mappings of all processes, the newest first
-pub record HoldMaps (kept : MapTable) (opening : Start) (past : List Effect) : Type 0 where
+pub record HoldMaps (kept : MapTable) (opening : Start) (past : List StoreEffect) : Type 0 where
   pub maps : (p : ProcName) → mappings_of p kept.items.items ≡ mappings p past
   pub mapped : All (IsMapped opening past) kept.items.items
 
@@ -59,12 +59,12 @@ mappings_after Same p ms = ms
 
 -- a new mapping is one of an object that was made
 abbrev pub IsMappedBy : ObjectTable → MapChange → Type 0
-IsMappedBy objects (NewMapping m) = (opening : Start) → (past : List Effect) → HoldObjects objects opening past → IsMapped opening past m
+IsMappedBy objects (NewMapping m) = (opening : Start) → (past : List StoreEffect) → HoldObjects objects opening past → IsMapped opening past m
 IsMappedBy objects _ = Unit {0}
 
 -- what a deed does to the mappings of each process
 pub record ChangesMaps (change : MapChange) (objects : ObjectTable) (d : Deed) : Type 0 where
-  pub maps : (p : ProcName) (past : List Effect) → mappings p (effect_of d.proc d.op d.reply ++ past) ≡ mappings_after change p (mappings p past)
+  pub maps : (p : ProcName) (past : List StoreEffect) → mappings p (store_effect d.proc d.op d.reply ++ past) ≡ mappings_after change p (mappings p past)
   pub mapped : IsMappedBy objects change
 
 -- an object that an operation maps anew was made

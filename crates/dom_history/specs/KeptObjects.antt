@@ -1,15 +1,15 @@
--- The objects that the plain store keeps.
+-- The objects that the plain store keeps, for its private code alone (see Kept).
 use Rattle.std.specs.Prelude.{ℕ, ◌≡◌, ◌<◌, ◌^◌, List, fold, max, vec_len, vec_capacity}
 use Rattle.std.specs.HashSet.{contains, spare}
 use Rattle.uid_names.specs.Names.{ObjectName, same_uid}
 use Rattle.uid_names.specs.Openings.{Start}
 use Rattle.uid_names.specs.Beginnings.{at_home}
 use Rattle.dom_history.specs.declared.objects.ObjectTable.{ObjectTable}
-use Rattle.dom_history.specs.Effects.{Effect}
+use Rattle.dom_history.specs.StoreEffects.{StoreEffect}
 use Rattle.dom_history.specs.Objects.{made, is_deleted}
 
 -- the objects that were made, in order, and the names of those that were deleted
-pub record HoldObjects (kept : ObjectTable) (opening : Start) (past : List Effect) : Type 0 where
+pub record HoldObjects (kept : ObjectTable) (opening : Start) (past : List StoreEffect) : Type 0 where
   pub made : kept.made.items ≡ made opening past
   pub deleted : (u : ObjectName) → contains same_uid kept.deleted u ≡ is_deleted u past
 

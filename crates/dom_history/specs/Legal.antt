@@ -3,16 +3,15 @@ use Rattle.std.specs.Prelude.{ℕ, ◌≡◌, Bool, true, false, ◌⊎◌, Opti
 use Rattle.uid_names.specs.Names.{ProcName, ObjectName, same_proc}
 use Rattle.uid_names.specs.Openings.{Start}
 use Rattle.uid_names.specs.declared.ids.Place.{Place}
-use Rattle.uid_names.specs.declared.mode.Mode.TheVariants.{Write}
 use Rattle.dom_history.specs.declared.op.Op.{Op}
 use Rattle.dom_history.specs.declared.op.Op.TheVariants.{New, Lock, Unlock, Delete, List as ListOp}
 use Rattle.dom_history.specs.declared.op.Reply.{Reply}
 use Rattle.dom_history.specs.declared.op.Reply.TheVariants.{Made, Fine, NoObject, Conflict, NoSpace, Locks, Doubt, LinkFault}
 use Rattle.dom_history.specs.declared.op.Entry.{Entry}
 use Rattle.dom_history.specs.declared.deed.Deed.{Deed}
-use Rattle.dom_history.specs.Effects.{Effect, effects}
+use Rattle.dom_history.specs.StoreEffects.{StoreEffect, store_effects}
 use Rattle.dom_history.specs.Objects.{is_node, is_present}
-use Rattle.dom_history.specs.Locks.{holds}
+use Rattle.dom_history.specs.Locks.{holds, is_to_remove}
 use Rattle.dom_history.specs.Replies.{Before, reply_of, link_faults, new_reply, home_lock_reply, unlock_state}
 use Rattle.dom_history.specs.Histories.{Item, Answered, Acted, Act, Pending, History, deeds, before_op, SomeOf, place_of, deed_of, place_lt, same_place, IsRising}
 
@@ -21,11 +20,11 @@ abbrev pub IsAllowed : Before → ProcName → Op → Reply → Type 0
 IsAllowed b p op reply = (reply ≡ reply_of b p op) ⊎ Contains (link_faults op (unlock_state op b.told) (reply_of b p op)) reply
 
 -- what an act owes to what stands before it
-abbrev pub MayAct : Start → List Effect → ProcName → Op → Reply → Type 0
+abbrev pub MayAct : Start → List StoreEffect → ProcName → Op → Reply → Type 0
 MayAct opening past p (New home kind room) reply = (u : ObjectName) × (reply ≡ Made u) × (new_reply (record { opening = opening; past = past; told = [] }) home room ≡ Made u)
 MayAct opening past p (Lock u m) reply = (reply ≡ Fine) × (home_lock_reply opening past p u m ≡ Fine)
 MayAct opening past p (Unlock u) reply = reply ≡ Fine
-MayAct opening past p (Delete u) reply = (reply ≡ Fine) × IsTrue (is_present opening past u) × (holds p u past ≡ Some Write)
+MayAct opening past p (Delete u) reply = (reply ≡ Fine) × IsTrue (is_present opening past u) × IsTrue (is_to_remove (holds p u past))
 MayAct opening past p _ reply = ⊥
 
 -- the home that an operation is for
@@ -37,14 +36,15 @@ home_of (Delete u) = Some u.home
 home_of (ListOp home after) = Some home
 home_of _ = None
 
--- a reply that the home decides. A New at a home that is no node, or of too great a room, is refused without it
+-- a reply that the home decides. Where a home is no node its operations are answered without it, and so is a New of
+-- too great a room
 abbrev pub is_of_home : Start → Op → Reply → Bool
 is_of_home opening (New home kind room) NoSpace = is_node opening home && nat_le room opening.greatest
+is_of_home opening (Lock u m) NoObject = is_node opening u.home
+is_of_home opening (ListOp home after) (Locks rows more) = is_node opening home
 is_of_home opening op (Made u) = true
 is_of_home opening op Fine = true
-is_of_home opening op NoObject = true
 is_of_home opening op (Conflict q m) = true
-is_of_home opening op (Locks rows more) = true
 is_of_home opening op _ = false
 
 -- the place that tells where an item stands among the operations of its process
@@ -80,7 +80,7 @@ abbrev pub IsInOrder : Start → List Item → Act → Type 0
 IsInOrder opening past a = All (IsEarlier opening a) past
 
 pub record IsLegalAct (opening : Start) (pending : List Pending) (past : List Item) (a : Act) : Type 0 where
-  pub may_act : MayAct opening (effects (deeds past)) a.deed.proc a.deed.op a.deed.reply
+  pub may_act : MayAct opening (store_effects (deeds past)) a.deed.proc a.deed.op a.deed.reply
   pub belongs : Belongs pending past a
   pub begun_before : IsTrue (place_lt a.begun a.place)
   pub in_order : IsInOrder opening past a

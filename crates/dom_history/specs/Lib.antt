@@ -1,5 +1,5 @@
 pub mod Ranges
-pub mod Effects
+pub mod StoreEffects
 pub mod Objects
 pub mod Locks
 pub mod Mappings
@@ -19,7 +19,9 @@ pub mod KeptLengths
 pub mod Kept
 pub mod Plain
 pub mod Samples
+pub mod FaultSamples
 pub mod Plans
+pub mod KeptFates
 pub mod NodeTexts
 pub mod EndWords
 pub mod Events

@@ -1,11 +1,12 @@
 -- The names of the nodes, by number.
 use Rattle.std.specs.Prelude.{ℕ, ◌≢◌, ◌-◌, ◌≤◌, Option, List, length, slice_get, All, AllPairs}
 use Rattle.uid_names.specs.NameTexts.{IsNameText}
+use Rattle.uid_names.specs.declared.limits.TheConstants.{MAX_NODES}
 
--- 1 to 8 names, no two of them equal
+-- a name for each of some nodes, no two of them equal
 pub record AreNodeNames (names : List (List ℕ)) : Type 0 where
   pub some : 1 ≤ length names
-  pub few : length names ≤ 8
+  pub few : length names ≤ MAX_NODES
   pub texts : All IsNameText names
   pub once : AllPairs (λ a b. a ≢ b) names
 

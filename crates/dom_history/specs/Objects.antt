@@ -4,7 +4,7 @@ use Rattle.uid_names.specs.Names.{ObjectName, same_uid}
 use Rattle.uid_names.specs.Openings.{Start}
 use Rattle.uid_names.specs.declared.opening.Object.{Object}
 use Rattle.uid_names.specs.Beginnings.{at_home, entry_directory}
-use Rattle.dom_history.specs.Effects.{Effect, Makes, Deletes}
+use Rattle.dom_history.specs.StoreEffects.{StoreEffect, Makes, Deletes}
 
 -- a node of the opening
 abbrev pub is_node : Start → ℕ → Bool
@@ -16,21 +16,21 @@ entry_directories zero = []
 entry_directories (suc n) = entry_directories n ++ entry_directory (suc n) ∷ []
 
 -- the objects that were made, the oldest first
-abbrev pub made : Start → List Effect → List Object
+abbrev pub made : Start → List StoreEffect → List Object
 made opening [] = entry_directories opening.nodes ++ opening.objects
 made opening (Makes object ∷ past) = made opening past ++ object ∷ []
 made opening (_ ∷ past) = made opening past
 
-abbrev pub is_deleted : ObjectName → List Effect → Bool
+abbrev pub is_deleted : ObjectName → List StoreEffect → Bool
 is_deleted u [] = false
 is_deleted u (Deletes p v ∷ past) = same_uid u v || is_deleted u past
 is_deleted u (_ ∷ past) = is_deleted u past
 
 -- those that are still there
-abbrev pub present : Start → List Effect → List Object
+abbrev pub present : Start → List StoreEffect → List Object
 present opening past = filter (λ o. not (is_deleted o.uid past)) (made opening past)
 
-abbrev pub is_present : Start → List Effect → ObjectName → Bool
+abbrev pub is_present : Start → List StoreEffect → ObjectName → Bool
 is_present opening past u = is_some (find (λ o. same_uid o.uid u) (present opening past))
 
 abbrev pub room_or_none : Option Object → ℕ
@@ -38,15 +38,15 @@ room_or_none None = 0
 room_or_none (Some o) = o.room
 
 -- the room that u was made with
-abbrev pub room_of : Start → List Effect → ObjectName → ℕ
+abbrev pub room_of : Start → List StoreEffect → ObjectName → ℕ
 room_of opening past u = room_or_none (find (λ o. same_uid o.uid u) (made opening past))
 
 -- the room that the present objects of a home take
-abbrev pub room_taken : Start → List Effect → ℕ → ℕ
+abbrev pub room_taken : Start → List StoreEffect → ℕ → ℕ
 room_taken opening past home = sum_by (λ o. o.room) (at_home home (present opening past))
 
 -- the greatest counter that was given at a home
-abbrev pub greatest_counter : Start → List Effect → ℕ → ℕ
+abbrev pub greatest_counter : Start → List StoreEffect → ℕ → ℕ
 greatest_counter opening past home = fold (λ a o. max a o.uid.counter) 0 (at_home home (made opening past))
 
 -- the name, where there is one, is that of u

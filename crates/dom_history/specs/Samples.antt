@@ -6,6 +6,7 @@ use Rattle.uid_names.specs.declared.mode.Mode.{Mode}
 use Rattle.uid_names.specs.declared.mode.Mode.TheVariants.{Read, Write}
 use Rattle.uid_names.specs.declared.mode.ObjKind.TheVariants.{File}
 use Rattle.uid_names.specs.declared.ids.Place.{Place}
+use Rattle.uid_names.specs.declared.limits.TheConstants.{MAX_ROOM}
 use Rattle.dom_history.specs.declared.op.Spot.TheVariants.{Of}
 use Rattle.dom_history.specs.declared.op.Op.TheVariants.{New, Lock, Unlock, Delete, Load, Store}
 use Rattle.dom_history.specs.declared.op.Reply.{Reply}
@@ -30,11 +31,11 @@ abbrev pub y : ObjectName
 y = record { counter = 2; home = 2 }
 
 abbrev pub one_node : Start
-one_node = record { nodes = 1; greatest = 1024; objects = [] }
+one_node = record { nodes = 1; greatest = MAX_ROOM; objects = [] }
 
 -- two nodes, and a file of one page at the second
 abbrev pub two_nodes : Start
-two_nodes = record { nodes = 2; greatest = 1024; objects = record { uid = y; kind = File; room = 1 } ∷ [] }
+two_nodes = record { nodes = 2; greatest = MAX_ROOM; objects = record { uid = y; kind = File; room = 1 } ∷ [] }
 
 abbrev pub at : ℕ → ℕ → Place
 at tick node = record { tick = tick; node = node }

@@ -3,7 +3,7 @@ ghost use Rattle.std.specs.Prelude.{◌≡◌, ◌+◌, ◌≤◌, None, List, I
 ghost use Rattle.uid_names.specs.Openings.{Start};
 ghost use Rattle.dom_history.specs.declared.deed.Deed.{Deed};
 ghost use Rattle.uid_names.specs.Rows.{rows_after};
-ghost use Rattle.dom_history.specs.Effects.{effects};
+ghost use Rattle.dom_history.specs.StoreEffects.{store_effects};
 ghost use Rattle.dom_history.specs.Fitting.{Fits, FitsNew, FitsLock, FitsUnlock, FitsDelete, FitsLoad, FitsStore, FitsLength, FitsMap, FitsUnmap, FitsList};
 ghost use Rattle.dom_history.specs.Kept.{HoldDeeds};
 ghost use Rattle.dom_history.specs.KeptLengths.{AreShort};
@@ -16,9 +16,11 @@ ghost use Rattle.dom_history.specs.Runs.{IsFaultless};
 
 use crate::kept::Kept;
 use crate::op::{Op, Reply, Spot};
-use crate::pages::PAGE_SIZE;
 use std::alloc::Global;
-use uid_names::{Mode, NoMemory, NodeId, Opening, ProcId, SEGMENT_SIZE, Uid, VOLUME_ROOM};
+use uid_names::{
+    Mode, NoMemory, NodeId, Opening, PAGE_BYTES, PROCESS_LOCKS, PROCESS_MAPPINGS, ProcId,
+    SEGMENT_SIZE, Uid, VOLUME_ROOM,
+};
 
 fn new_reply(opening: &Opening, kept: &Kept, p: ProcId, home: NodeId, room: u32) -> Reply
     requires { HaveSmallCounters kept.now.objects }
@@ -36,9 +38,6 @@ fn new_reply(opening: &Opening, kept: &Kept, p: ProcId, home: NodeId, room: u32)
     Reply::Made(Uid::from_parts(volume.greatest + 1, home))
 }
 
-/// The most objects on which a process is not free.
-const MAX_LOCKS: usize = 8;
-
 fn lock_reply(kept: &Kept, p: ProcId, uid: Uid, mode: Mode) -> Reply
     ensures value { (opening : Start) → (deeds : List Deed) → HoldDeeds kept.now opening deeds → result ≡ lock_reply_of (before_of opening deeds p) p uid mode }
     ensures fits { FitsLock result }
@@ -47,7 +46,7 @@ fn lock_reply(kept: &Kept, p: ProcId, uid: Uid, mode: Mode) -> Reply
     if kept.locks.mode_of(p, uid).is_some() {
         return Reply::AlreadyHeld;
     }
-    if kept.locks.count_of(p) >= MAX_LOCKS {
+    if kept.locks.count_of(p) >= PROCESS_LOCKS {
         return Reply::TooMany;
     }
     if !kept.objects.is_present(uid) {
@@ -76,8 +75,8 @@ fn delete_reply(kept: &Kept, p: ProcId, uid: Uid) -> Reply
     ensures faultless { IsFaultless result }
 {
     match kept.locks.mode_of(p, uid) {
-        Some(Mode::Write) => Reply::Fine,
-        Some(Mode::Read) => Reply::WrongMode,
+        Some(mode) if mode.removes() => Reply::Fine,
+        Some(_) => Reply::WrongMode,
         None => Reply::NoLock,
     }
 }
@@ -89,8 +88,8 @@ fn load_reply(
     spot: Spot,
     count: u32,
 ) -> Result<Reply, NoMemory>
-    requires { offset_in_page spot + count ≤ 1024 }
-    ensures value { IfOk result (λ reply. (opening : Start) → (deeds : List Deed) → HoldDeeds kept.now opening deeds → reply ≡ load_reply_of (before_of opening deeds p) (target opening (effects deeds) p spot) count) }
+    requires { offset_in_page spot + count ≤ PAGE_BYTES }
+    ensures value { IfOk result (λ reply. (opening : Start) → (deeds : List Deed) → HoldDeeds kept.now opening deeds → reply ≡ load_reply_of (before_of opening deeds p) (target opening (store_effects deeds) p spot) count) }
     ensures fits { IfOk result (FitsLoad spot count) }
     ensures faultless { IfOk result IsFaultless }
 {
@@ -110,7 +109,7 @@ fn load_reply(
 }
 
 fn store_reply(kept: &Kept, p: ProcId, spot: Spot, bytes: &[u8]) -> Reply
-    ensures value { (opening : Start) → (deeds : List Deed) → HoldDeeds kept.now opening deeds → result ≡ store_reply_of (before_of opening deeds p) (target opening (effects deeds) p spot) bytes.now }
+    ensures value { (opening : Start) → (deeds : List Deed) → HoldDeeds kept.now opening deeds → result ≡ store_reply_of (before_of opening deeds p) (target opening (store_effects deeds) p spot) bytes.now }
     ensures fits { FitsStore spot result }
     ensures faultless { IsFaultless result }
 {
@@ -121,7 +120,7 @@ fn store_reply(kept: &Kept, p: ProcId, spot: Spot, bytes: &[u8]) -> Reply
             Some(mode) if !mode.writes() => Reply::WrongMode,
             Some(_) => {
                 let room = kept.objects.room_of(uid);
-                if PAGE_SIZE as u64 * (room as u64) < offset as u64 + bytes.len() as u64 {
+                if PAGE_BYTES as u64 * (room as u64) < offset as u64 + bytes.len() as u64 {
                     Reply::PastRoom
                 } else {
                     Reply::Fine
@@ -143,16 +142,13 @@ fn length_reply(kept: &Kept, p: ProcId, uid: Uid) -> Reply
     }
 }
 
-/// The most mappings of a process.
-const MAX_MAPPINGS: usize = 16;
-
 /// The reply to the mapping of an object that a process holds and has not mapped.
 fn map_anew_reply(kept: &Kept, p: ProcId, uid: Uid) -> Reply
     ensures value { (opening : Start) → (deeds : List Deed) → HoldDeeds kept.now opening deeds → result ≡ map_anew_reply_of (before_of opening deeds p) p uid None }
     ensures fits { FitsMap result }
     ensures faultless { IsFaultless result }
 {
-    if kept.maps.count_of(p) >= MAX_MAPPINGS {
+    if kept.maps.count_of(p) >= PROCESS_MAPPINGS {
         return Reply::TooManyMaps;
     }
     match kept.maps.run_of(p, kept.objects.room_of(uid)) {
@@ -207,7 +203,7 @@ fn list_reply(
     home: NodeId,
     after: Option<(Uid, ProcId)>,
 ) -> Result<Reply, NoMemory>
-    ensures value { IfOk result (λ reply. (opening : Start) → (deeds : List Deed) → HoldDeeds kept.now opening deeds → reply ≡ list_reply_of (rows_after after (rows home (effects deeds)))) }
+    ensures value { IfOk result (λ reply. (opening : Start) → (deeds : List Deed) → HoldDeeds kept.now opening deeds → reply ≡ list_reply_of (rows_after after (rows home (store_effects deeds)))) }
     ensures fits { IfOk result FitsList }
     ensures faultless { IfOk result IsFaultless }
 {

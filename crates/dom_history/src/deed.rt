@@ -1,7 +1,7 @@
 //! What was decided, and what a process knows of its locks.
 ghost use Rattle.std.specs.Prelude.{◌≡◌};
-ghost use Rattle.dom_history.specs.Locks.{is_held as held, mode_of};
-ghost use Rattle.dom_history.specs.Replies.{may_write as writing};
+ghost use Rattle.dom_history.specs.Locks.{is_held as held, mode_at_home};
+ghost use Rattle.dom_history.specs.Replies.{may_write as writing, may_delete as deleting};
 
 use crate::op::{Op, Reply};
 use uid_names::{Mode, ProcId, Uid};
@@ -52,9 +52,22 @@ impl LockState {
         }
     }
 
+    /// Whether it is Held in a mode that removes.
+    pub fn may_delete(self) -> bool
+        ensures { result ≡ deleting self }
+    {
+        match self {
+            LockState::Held(mode) => mode.removes(),
+            LockState::Free
+            | LockState::Taking(_)
+            | LockState::Releasing(_)
+            | LockState::Deleting => false,
+        }
+    }
+
     /// The mode that a lock in this state may still have at the home.
     pub fn mode(self) -> Mode
-        ensures { result ≡ mode_of self }
+        ensures { result ≡ mode_at_home self }
     {
         match self {
             LockState::Held(mode) | LockState::Taking(mode) | LockState::Releasing(mode) => mode,

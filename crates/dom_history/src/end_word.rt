@@ -1,7 +1,7 @@
 //! How an operation ended, in one word.
 ghost use Rattle.std.specs.Prelude.{◌≡◌, ◌≢◌, MatchOption};
 ghost use Rattle.dom_history.specs.declared.end_word.EndWord.{EndWord};
-ghost use Rattle.dom_history.specs.EndWords.{word_text, word_of};
+ghost use Rattle.dom_history.specs.EndWords.{word_text, end_of_word, word_of};
 
 use crate::op::Reply;
 
@@ -57,29 +57,10 @@ impl EndWord {
 
     /// The one that is written so; None exactly where none is.
     pub fn from_word(word: &[u8]) -> Option<EndWord>
-        ensures { MatchOption result ((w : EndWord) → word.now ≢ word_text w) (λ w. word.now ≡ word_text w) }
+        ensures value { result ≡ end_of_word word.now }
+        ensures word { MatchOption result ((w : EndWord) → word.now ≢ word_text w) (λ w. word.now ≡ word_text w) }
     {
-        match word {
-            b"ok" => Some(EndWord::Fine),
-            b"conflict" => Some(EndWord::Conflict),
-            b"no-object" => Some(EndWord::NoObject),
-            b"already-held" => Some(EndWord::AlreadyHeld),
-            b"not-held" => Some(EndWord::NotHeld),
-            b"unsettled" => Some(EndWord::Unsettled),
-            b"too-many" => Some(EndWord::TooMany),
-            b"no-lock" => Some(EndWord::NoLock),
-            b"wrong-mode" => Some(EndWord::WrongMode),
-            b"past-room" => Some(EndWord::PastRoom),
-            b"past-end" => Some(EndWord::PastEnd),
-            b"no-space" => Some(EndWord::NoSpace),
-            b"kept" => Some(EndWord::Kept),
-            b"doubt" => Some(EndWord::Doubt),
-            b"link-fault" => Some(EndWord::LinkFault),
-            b"too-many-maps" => Some(EndWord::TooManyMaps),
-            b"no-segment" => Some(EndWord::NoSegment),
-            b"not-mapped" => Some(EndWord::NotMapped),
-            _ => None,
-        }
+        written_so(word)
     }
 
     /// How an operation ended that has this reply.
@@ -114,5 +95,32 @@ impl EndWord {
             Reply::NoSegment => EndWord::NoSegment,
             Reply::NotMapped => EndWord::NotMapped,
         }
+    }
+}
+
+/// The end that is written so.
+fn written_so(word: &[u8]) -> Option<EndWord>
+    ensures { MatchOption result ((w : EndWord) → word.now ≢ word_text w) (λ w. word.now ≡ word_text w) }
+{
+    match word {
+        b"ok" => Some(EndWord::Fine),
+        b"conflict" => Some(EndWord::Conflict),
+        b"no-object" => Some(EndWord::NoObject),
+        b"already-held" => Some(EndWord::AlreadyHeld),
+        b"not-held" => Some(EndWord::NotHeld),
+        b"unsettled" => Some(EndWord::Unsettled),
+        b"too-many" => Some(EndWord::TooMany),
+        b"no-lock" => Some(EndWord::NoLock),
+        b"wrong-mode" => Some(EndWord::WrongMode),
+        b"past-room" => Some(EndWord::PastRoom),
+        b"past-end" => Some(EndWord::PastEnd),
+        b"no-space" => Some(EndWord::NoSpace),
+        b"kept" => Some(EndWord::Kept),
+        b"doubt" => Some(EndWord::Doubt),
+        b"link-fault" => Some(EndWord::LinkFault),
+        b"too-many-maps" => Some(EndWord::TooManyMaps),
+        b"no-segment" => Some(EndWord::NoSegment),
+        b"not-mapped" => Some(EndWord::NotMapped),
+        _ => None,
     }
 }

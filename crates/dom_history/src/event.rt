@@ -1,11 +1,12 @@
 //! What happens at a node, and what it does.
 ghost use Rattle.std.specs.Prelude.{◌≡◌, ◌↔◌, List, [], ◌∷◌, ◌++◌, IsTrue, IfOk, OnOk, OnErr};
-ghost use Rattle.dom_history.specs.Events.{IsProcNumber, IsWhat, ArePagesRising, page_lt};
+ghost use Rattle.dom_history.specs.Events.{IsWhat, ArePagesRising, page_lt};
+ghost use Rattle.dom_history.specs.Ranges.{IsProcNumber};
 
 use crate::end_word::EndWord;
 use std::alloc::Global;
 use std::marker::Model;
-use uid_names::{NoMemory, NodeId, Place, Uid};
+use uid_names::{ItemList, NoMemory, NodeId, Place, Uid};
 
 /// An event. Processes are named by their number at the node, 1 to 4; frames by their link and their number on it.
 #[derive(Clone, Copy, Debug, PartialEq, Eq)]
@@ -221,46 +222,7 @@ impl Event {
 }
 
 /// A list of events.
-#[derive(Drop, Debug)]
-pub struct EventList {
-    items: Vec<Event>,
-}
-
-impl Model for EventList {
-    ghost use Rattle.std.specs.Prelude.{List};
-    ghost use Rattle.dom_history.specs.Events.{Happening};
-
-    ghost Value = { List Happening };
-
-    ghost view = { λ l. l.items.items };
-}
-
-impl EventList {
-    /// The empty list. Takes no memory.
-    pub fn new(alloc: Global) -> EventList
-        ensures { result ≡ [] }
-    {
-        EventList {
-            items: Vec::new(alloc),
-        }
-    }
-
-    /// Puts an event last; without memory the list stays as it was.
-    pub fn push(&mut self, event: Event) -> Result<(), NoMemory>
-        ensures ok { OnOk result (self.new ≡ self.old ++ event ∷ []) }
-        ensures err { OnErr result (self.new ≡ self.old) }
-    {
-        self.items.push(event)?;
-        Ok(())
-    }
-
-    /// The events.
-    pub fn items(&self) -> &[Event]
-        ensures { result.now ≡ self.now }
-    {
-        self.items.as_slice()
-    }
-}
+pub type EventList = ItemList<Event>;
 
 /// The events of one node.
 #[derive(Drop, Debug)]

@@ -3,7 +3,7 @@ ghost use Rattle.std.specs.Prelude.{◌≡◌, ◌+◌, ◌%◌, ◌≤◌, ℕ,
 ghost use Rattle.uid_names.specs.Names.{ObjectName};
 ghost use Rattle.uid_names.specs.Openings.{Start, IsStart};
 ghost use Rattle.dom_history.specs.declared.deed.Deed.{Deed};
-ghost use Rattle.dom_history.specs.Effects.{Effect, effect_of};
+ghost use Rattle.dom_history.specs.StoreEffects.{StoreEffect, store_effect};
 ghost use Rattle.dom_history.specs.Bytes.{byte_after, end_after};
 ghost use Rattle.dom_history.specs.Fitting.{Fits};
 ghost use Rattle.dom_history.specs.KeptLengths.{length_in, HoldLengths, HasLengthRoom};
@@ -20,7 +20,7 @@ use crate::objects::ObjectTable;
 use crate::op::{Op, Reply};
 use crate::pages::Pages;
 use std::alloc::Global;
-use uid_names::{NoMemory, Opening, Uid};
+use uid_names::{NoMemory, Opening, PAGE_BYTES, Uid};
 
 /// Puts bytes, which lie in one page, at an offset of an object. Without memory no byte and no length changes.
 fn store_at(
@@ -30,7 +30,7 @@ fn store_at(
     bytes: &[u8],
 ) -> Result<(), NoMemory>
     requires room { HasLengthRoom lengths.old }
-    requires page { IfSome target (λ t. t.1 % 1024 + length bytes.now ≤ 1024) }
+    requires page { IfSome target (λ t. t.1 % PAGE_BYTES + length bytes.now ≤ PAGE_BYTES) }
     ensures bytes { OnOk result ((v : ObjectName) → (o : ℕ) → byte_in pages.new v o ≡ byte_after (target_given target) bytes.now v o (byte_in pages.old v o)) }
     ensures ends { OnOk result ((v : ObjectName) → length_in lengths.new v ≡ end_after (target_given target) bytes.now v (length_in lengths.old v)) }
     ensures bytes_stay { OnErr result ((v : ObjectName) → (o : ℕ) → byte_in pages.new v o ≡ byte_in pages.old v o) }
@@ -55,10 +55,10 @@ fn write(
 ) -> Result<(), NoMemory>
     requires room { HasLengthRoom lengths.old }
     requires range { IsOp deed.now.op }
-    ensures bytes { OnOk result ((opening : Start) → (past : List Effect) → HoldMaps maps.now opening past → HoldBytes pages.old opening past → HoldBytes pages.new opening (effect_of deed.now.proc deed.now.op deed.now.reply ++ past)) }
-    ensures ends { OnOk result ((opening : Start) → (past : List Effect) → HoldMaps maps.now opening past → HoldLengths lengths.old opening past → HoldLengths lengths.new opening (effect_of deed.now.proc deed.now.op deed.now.reply ++ past)) }
-    ensures bytes_stay { OnErr result ((opening : Start) → (past : List Effect) → HoldBytes pages.old opening past → HoldBytes pages.new opening past) }
-    ensures lengths_stay { OnErr result ((opening : Start) → (past : List Effect) → HoldLengths lengths.old opening past → HoldLengths lengths.new opening past) }
+    ensures bytes { OnOk result ((opening : Start) → (past : List StoreEffect) → HoldMaps maps.now opening past → HoldBytes pages.old opening past → HoldBytes pages.new opening (store_effect deed.now.proc deed.now.op deed.now.reply ++ past)) }
+    ensures ends { OnOk result ((opening : Start) → (past : List StoreEffect) → HoldMaps maps.now opening past → HoldLengths lengths.old opening past → HoldLengths lengths.new opening (store_effect deed.now.proc deed.now.op deed.now.reply ++ past)) }
+    ensures bytes_stay { OnErr result ((opening : Start) → (past : List StoreEffect) → HoldBytes pages.old opening past → HoldBytes pages.new opening past) }
+    ensures lengths_stay { OnErr result ((opening : Start) → (past : List StoreEffect) → HoldLengths lengths.old opening past → HoldLengths lengths.new opening past) }
 {
     match &deed.op {
         Op::Store { spot, bytes } => match &deed.reply {

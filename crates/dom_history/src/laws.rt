@@ -9,7 +9,7 @@ ghost use Rattle.dom_history.specs.declared.op.Op.TheVariants.{Length, Map};
 ghost use Rattle.dom_history.specs.declared.op.Reply.{Reply};
 ghost use Rattle.dom_history.specs.declared.op.Entry.{Entry};
 ghost use Rattle.dom_history.specs.declared.deed.Deed.{Deed};
-ghost use Rattle.dom_history.specs.Effects.{Effect};
+ghost use Rattle.dom_history.specs.StoreEffects.{StoreEffect};
 ghost use Rattle.uid_names.specs.InOrder.{AreInOrder};
 ghost use Rattle.uid_names.specs.Rows.{same_row, row_lt};
 ghost use Rattle.dom_history.specs.Locks.{state, state_by_last, holds, mode_in, rows};
@@ -20,8 +20,9 @@ ghost use Rattle.dom_history.specs.Ranges.{IsOp};
 ghost use Rattle.dom_history.specs.Fitting.{Fits};
 ghost use Rattle.dom_history.specs.Replies.{Before, before_of, reply_of};
 ghost use Rattle.dom_history.specs.Runs.{AreAnswered, history_at, history_of, IsFaultless, IsPlainRun, AreTicked};
-ghost use Rattle.uid_names.specs.declared.mode.Mode.TheVariants.{Write};
-ghost use Rattle.dom_history.specs.declared.op.Reply.TheVariants.{Bytes, Conflict, Fine, NoSpace, PastEnd};
+ghost use Rattle.uid_names.specs.declared.mode.Mode.TheVariants.{Read, Write};
+ghost use Rattle.dom_history.specs.declared.op.Reply.TheVariants.{AlreadyHeld, Bytes, Conflict, Fine, LinkFault, NoSpace, PastEnd};
+ghost use Rattle.dom_history.specs.FaultSamples.{p2, z, kept_in, locks_what_is_kept, acts_after, locked_by_other, unlocked_by_other, acts_on_both, lock_acts, unlock_acts, makes_behind_act, asks_readers};
 ghost use Rattle.dom_history.specs.Samples.{one_node, two_nodes, p, at, first_run, in_doubt, acted_in_doubt, closed, loads, locks_too, locks_first, deletes_under, makes_again, makes_nowhere, locked_in, opens, unlocks_from, loads_another_byte, loads_past_the_end, locked_twice, conflicts_with_nobody, acts_twice, deletes_under_read, makes_one_name_twice, makes_at_no_node, phases_fall, opens_meet, answered_behind_open};
 
 /// Two small histories of one store.
@@ -60,6 +61,28 @@ pub fn wrong_histories_are_refuted()
     ensures answered_behind_open { IsLegal two_nodes answered_behind_open → ⊥ }
 {}
 
+/// Small histories with link faults and acts, and of several holders, are of one store.
+pub fn histories_with_faults_are_legal()
+    ensures kept_where_it_was_to_write { IsLegal two_nodes (closed (kept_in Write)) }
+    ensures what_is_kept_is_held { IsLegal two_nodes (locks_what_is_kept AlreadyHeld) }
+    ensures load_by_a_link_fault { IsLegal two_nodes (loads 2 LinkFault) }
+    ensures late_act { IsLegal two_nodes (acts_after unlocked_by_other) }
+    ensures acts_in_order { IsLegal two_nodes (acts_on_both (lock_acts (at 5 2)) (unlock_acts (at 6 2))) }
+    ensures next_counter_behind_an_act { IsLegal two_nodes (makes_behind_act (record { counter = 4; home = 2 })) }
+    ensures first_row_of_a_conflict { IsLegal two_nodes (asks_readers (Conflict p Read)) }
+{}
+
+/// Their neighbours are not.
+pub fn wrong_histories_with_faults_are_refuted()
+    ensures kept_where_it_was_to_read { IsLegal two_nodes (closed (kept_in Read)) → ⊥ }
+    ensures kept_and_free { IsLegal two_nodes (locks_what_is_kept Fine) → ⊥ }
+    ensures refusal_by_a_link_fault { IsLegal two_nodes (loads 3 LinkFault) → ⊥ }
+    ensures acts_under_a_lock { IsLegal two_nodes (acts_after locked_by_other) → ⊥ }
+    ensures acts_out_of_order { IsLegal two_nodes (acts_on_both (unlock_acts (at 5 2)) (lock_acts (at 6 2))) → ⊥ }
+    ensures counter_of_an_act_again { IsLegal two_nodes (makes_behind_act z) → ⊥ }
+    ensures second_row_of_a_conflict { IsLegal two_nodes (asks_readers (Conflict p2 Read)) → ⊥ }
+{}
+
 /// Programs that pass a phase and then are done have ended where nothing was done.
 pub fn phases_alone_end()
     ensures { (ask : Heard → Want) → ask [] ≡ Phase → ask (None ∷ []) ≡ Done → IsEnded (λ _. ask) (closed []) }
@@ -72,14 +95,14 @@ pub fn answered_deeds_are_legal()
 
 /// The table of locks that are held, and the table of what a process knows, say what the last deed said.
 pub fn lock_tables_say_the_last()
-    ensures held { (p : ProcName) → (u : ObjectName) → (past : List Effect) → holds p u past ≡ mode_in (find (same_row p u) (rows u.home past)) }
+    ensures held { (p : ProcName) → (u : ObjectName) → (past : List StoreEffect) → holds p u past ≡ mode_in (find (same_row p u) (rows u.home past)) }
     ensures known { (u : ObjectName) → (told : List Deed) → state u told ≡ state_by_last u told }
 {}
 
 /// The rows of a home stand in order of object and process, and are of its objects.
 pub fn lock_rows_are_in_order()
-    ensures rise { (home : ℕ) → (past : List Effect) → AreInOrder row_lt (rows home past) }
-    ensures of_home { (home : ℕ) → (past : List Effect) → All (λ row. row.uid.home ≡ home) (rows home past) }
+    ensures rise { (home : ℕ) → (past : List StoreEffect) → AreInOrder row_lt (rows home past) }
+    ensures of_home { (home : ℕ) → (past : List StoreEffect) → All (λ row. row.uid.home ≡ home) (rows home past) }
 {}
 
 /// What one home decides for one process stands in the order of the operations, and no operation acts twice.

@@ -2,7 +2,7 @@
 ghost use Rattle.std.specs.Prelude.{◌≡◌, List, [], if◌then◌else◌, max, OnOk};
 ghost use Rattle.uid_names.specs.Names.{ObjectName, same_uid};
 ghost use Rattle.uid_names.specs.Openings.{Start};
-ghost use Rattle.dom_history.specs.Effects.{Effect};
+ghost use Rattle.dom_history.specs.StoreEffects.{StoreEffect};
 ghost use Rattle.dom_history.specs.Bytes.{length_of};
 
 use std::alloc::Global;
@@ -30,7 +30,7 @@ impl Lengths {
     /// The length of an object.
     pub fn of(&self, uid: Uid) -> u64
         ensures value { result ≡ length_in self.now uid }
-        ensures held { (opening : Start) → (past : List Effect) → HoldLengths self.now opening past → result ≡ length_of opening past uid }
+        ensures held { (opening : Start) → (past : List StoreEffect) → HoldLengths self.now opening past → result ≡ length_of opening past uid }
     {
         self.ends.get(&uid).copied().unwrap_or(0)
     }
@@ -38,7 +38,7 @@ impl Lengths {
     /// Makes room for one change.
     pub fn reserve(&mut self) -> Result<(), NoMemory>
         ensures room { OnOk result (HasLengthRoom self.new) }
-        ensures held { (opening : Start) → (past : List Effect) → HoldLengths self.old opening past → HoldLengths self.new opening past }
+        ensures held { (opening : Start) → (past : List StoreEffect) → HoldLengths self.old opening past → HoldLengths self.new opening past }
     {
         self.ends.reserve(1)?;
         Ok(())

@@ -21,8 +21,6 @@ pub mod program;
 mod reply_tests;
 pub mod store;
 #[cfg(test)]
-mod tests;
-#[cfg(test)]
 mod value_tests;
 
 pub use deed::{Deed, LockLine, LockState};

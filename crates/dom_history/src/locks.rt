@@ -2,7 +2,7 @@
 ghost use Rattle.std.specs.Prelude.{◌≡◌, ◌<◌, ◌≤◌, ◌++◌, ◌∷◌, List, [], IfOk, OnOk, nat_lt, length, take, filter, find, insert, vec_len, vec_capacity};
 ghost use Rattle.uid_names.specs.Rows.{is_in_conflict, is_after, rows_after};
 ghost use Rattle.dom_history.specs.declared.deed.Deed.{Deed};
-ghost use Rattle.dom_history.specs.Effects.{effects, own};
+ghost use Rattle.dom_history.specs.StoreEffects.{store_effects, own};
 ghost use Rattle.dom_history.specs.Locks.{state, state_in, not_free, rows as rows_of_home, rows_with, rows_without};
 ghost use Rattle.dom_history.specs.KeptLocks.{lines_of, rows_of, held_state, Changes, AreListed};
 ghost use Rattle.dom_history.specs.Runs.{IsFaultless};
@@ -10,7 +10,7 @@ ghost use Rattle.dom_history.specs.Runs.{IsFaultless};
 use crate::deed::Deed;
 use crate::op::{Op, Reply};
 use std::alloc::Global;
-use uid_names::{LockRow, LockRows, Mode, NoMemory, NodeId, ProcId, Uid};
+use uid_names::{LISTED_ROWS, LockRow, LockRows, Mode, NoMemory, NodeId, ProcId, Uid};
 
 /// The mode in which a process holds an object.
 fn held_mode(held: &[LockRow], p: ProcId, uid: Uid) -> Option<Mode>
@@ -76,15 +76,12 @@ fn rows_behind(
     Ok(listed)
 }
 
-/// The most rows that one list tells.
-const MAX_LISTED: usize = 64;
-
 /// The first rows.
 fn first_rows(alloc: Global, rows: &[LockRow]) -> Result<LockRows, NoMemory>
-    ensures rows { IfOk result (λ first. first ≡ take 64 rows.now) }
-    ensures few { IfOk result (λ first. length first ≤ 64) }
+    ensures rows { IfOk result (λ first. first ≡ take LISTED_ROWS rows.now) }
+    ensures few { IfOk result (λ first. length first ≤ LISTED_ROWS) }
 {
-    let head = &rows[..rows.len().min(MAX_LISTED)];
+    let head = &rows[..rows.len().min(LISTED_ROWS)];
     let mut first = LockRows::new(alloc);
     for row in head {
         first.push(*row)?;
@@ -138,7 +135,7 @@ fn set_last(new: &LockRow, held: &mut Vec<LockRow>)
 enum Change {
     Taken(LockRow),
     Freed(ProcId, Uid),
-    Kept,
+    Same,
 }
 
 /// What a deed does, whose reply no link fault gave.
@@ -153,13 +150,13 @@ fn change_of(deed: &Deed) -> Change
                 proc: deed.proc,
                 mode: *mode,
             }),
-            _ => Change::Kept,
+            _ => Change::Same,
         },
         Op::Unlock { uid } | Op::Delete { uid } => match &deed.reply {
             Reply::Fine => Change::Freed(deed.proc, *uid),
-            _ => Change::Kept,
+            _ => Change::Same,
         },
-        _ => Change::Kept,
+        _ => Change::Same,
     }
 }
 
@@ -199,24 +196,24 @@ impl LockTable {
 
     /// The first lock of another process that is in conflict with one on an object.
     pub fn conflict(&self, p: ProcId, uid: Uid, mode: Mode) -> Option<LockRow>
-        ensures { (deeds : List Deed) → HoldLocks self.now deeds → result ≡ find (is_in_conflict p uid mode) (rows_of_home uid.home (effects deeds)) }
+        ensures { (deeds : List Deed) → HoldLocks self.now deeds → result ≡ find (is_in_conflict p uid mode) (rows_of_home uid.home (store_effects deeds)) }
     {
         conflict_in(&self.rows, p, uid, mode)
     }
 
-    /// The first 64 locks on objects of a home behind one, in order, and whether further ones follow.
+    /// The first locks on objects of a home behind one, in order, as many as are listed, and whether further ones follow.
     pub fn list(
         &self,
         alloc: Global,
         home: NodeId,
         after: Option<(Uid, ProcId)>,
     ) -> Result<(LockRows, bool), NoMemory>
-        ensures few { IfOk result (λ list. length list.0 ≤ 64) }
-        ensures rows { IfOk result (λ list. (deeds : List Deed) → HoldLocks self.now deeds → AreListed (rows_after after (rows_of_home home (effects deeds))) list) }
+        ensures few { IfOk result (λ list. length list.0 ≤ LISTED_ROWS) }
+        ensures rows { IfOk result (λ list. (deeds : List Deed) → HoldLocks self.now deeds → AreListed (rows_after after (rows_of_home home (store_effects deeds))) list) }
     {
         let listed = rows_behind(alloc, &self.rows, home, &after)?;
         let first = first_rows(alloc, &listed)?;
-        Ok((first, listed.len() > MAX_LISTED))
+        Ok((first, listed.len() > LISTED_ROWS))
     }
 
     /// Makes room for one change.
@@ -244,7 +241,7 @@ impl LockTable {
                 remove_row(p, uid, &mut self.held);
                 remove_row(p, uid, &mut self.rows);
             }
-            Change::Kept => {}
+            Change::Same => {}
         }
     }
 }

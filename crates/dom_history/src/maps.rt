@@ -5,7 +5,7 @@ ghost use Rattle.std.specs.Option.{option_map};
 ghost use Rattle.uid_names.specs.Names.{same_proc, same_uid};
 ghost use Rattle.uid_names.specs.Openings.{Start};
 ghost use Rattle.uid_names.specs.Segments.{segments, lies_in, is_apart, is_free_run, lowest_run};
-ghost use Rattle.dom_history.specs.Effects.{Effect, effect_of};
+ghost use Rattle.dom_history.specs.StoreEffects.{StoreEffect, store_effect};
 ghost use Rattle.dom_history.specs.Fitting.{Fits, IsAddress};
 ghost use Rattle.dom_history.specs.Mappings.{mappings, target, lowest_run as lowest_run_of};
 ghost use Rattle.dom_history.specs.Ranges.{offset_in_page};
@@ -16,7 +16,7 @@ use crate::deed::Deed;
 use crate::objects::ObjectTable;
 use crate::op::{Op, Reply, Spot};
 use std::alloc::Global;
-use uid_names::{NoMemory, ProcId, SEGMENT_PAGES, SEGMENT_SIZE, SEGMENTS, Uid};
+use uid_names::{NoMemory, PAGE_BYTES, ProcId, SEGMENT_PAGES, SEGMENT_SIZE, SEGMENTS, Uid};
 
 /// An object that a process has mapped: its first segment, and how many it takes.
 #[derive(Clone, Copy, Debug)]
@@ -197,8 +197,8 @@ impl MapTable {
 
     /// The first address of an object that a process has mapped.
     pub fn address_of(&self, p: ProcId, uid: Uid) -> Option<u32>
-        ensures segment { IfSome result (λ a. (a % 32768 ≡ 0) × (a < 8388608)) }
-        ensures mapped { (opening : Start) → (past : List Effect) → HoldMaps self.now opening past → result ≡ option_map (λ m. m.address) (find (λ m. same_uid uid m.uid) (mappings p past)) }
+        ensures segment { IfSome result (λ a. (a % SEGMENT_SIZE ≡ 0) × (a < SEGMENTS * SEGMENT_SIZE)) }
+        ensures mapped { (opening : Start) → (past : List StoreEffect) → HoldMaps self.now opening past → result ≡ option_map (λ m. m.address) (find (λ m. same_uid uid m.uid) (mappings p past)) }
     {
         match mapping_of(&self.items, p, uid) {
             Some(mapped) => Some(mapped.low()),
@@ -208,8 +208,8 @@ impl MapTable {
 
     /// The object and the offset in it that a spot of a process names; None where nothing is mapped there.
     pub fn target_of(&self, p: ProcId, spot: Spot) -> Option<(Uid, u32)>
-        ensures named { (opening : Start) → (past : List Effect) → HoldMaps self.now opening past → target_given result ≡ target opening past p spot }
-        ensures page { IfSome result (λ t. t.1 % 1024 ≡ offset_in_page spot) }
+        ensures named { (opening : Start) → (past : List StoreEffect) → HoldMaps self.now opening past → target_given result ≡ target opening past p spot }
+        ensures page { IfSome result (λ t. t.1 % PAGE_BYTES ≡ offset_in_page spot) }
         ensures unmapped { result ≡ None → IsAddress spot }
     {
         match spot {
@@ -223,14 +223,14 @@ impl MapTable {
 
     /// How many mappings a process has.
     pub fn count_of(&self, p: ProcId) -> usize
-        ensures { (opening : Start) → (past : List Effect) → HoldMaps self.now opening past → result ≡ length (mappings p past) }
+        ensures { (opening : Start) → (past : List StoreEffect) → HoldMaps self.now opening past → result ≡ length (mappings p past) }
     {
         count_maps(&self.items, p)
     }
 
     /// The first of the lowest run of free segments that an object of a room takes.
     pub fn run_of(&self, p: ProcId, room: u32) -> Option<u16>
-        ensures lowest { (opening : Start) → (past : List Effect) → HoldMaps self.now opening past → result ≡ lowest_run_of opening past p (segments room) }
+        ensures lowest { (opening : Start) → (past : List StoreEffect) → HoldMaps self.now opening past → result ≡ lowest_run_of opening past p (segments room) }
         ensures bound { IfSome result (λ first. first < 256) }
     {
         lowest_run(&self.items, p, segments_of(room))
@@ -239,7 +239,7 @@ impl MapTable {
     /// Makes room for one change.
     pub fn reserve(&mut self) -> Result<(), NoMemory>
         ensures room { OnOk result (HasRoom self.new) }
-        ensures held { (opening : Start) → (past : List Effect) → HoldMaps self.old opening past → HoldMaps self.new opening past }
+        ensures held { (opening : Start) → (past : List StoreEffect) → HoldMaps self.old opening past → HoldMaps self.new opening past }
     {
         self.items.reserve(1)?;
         Ok(())
@@ -250,7 +250,7 @@ impl MapTable {
         requires room { HasRoom self.old }
         requires fits { Fits deed.now.op deed.now.reply }
         requires made { IsOfMade objects.now.made.items deed.now.op deed.now.reply }
-        ensures { (opening : Start) → (past : List Effect) → HoldObjects objects.now opening past → HoldMaps self.old opening past → HoldMaps self.new opening (effect_of deed.now.proc deed.now.op deed.now.reply ++ past) }
+        ensures { (opening : Start) → (past : List StoreEffect) → HoldObjects objects.now opening past → HoldMaps self.old opening past → HoldMaps self.new opening (store_effect deed.now.proc deed.now.op deed.now.reply ++ past) }
     {
         match change_of(deed, objects) {
             MapChange::Mapping(mapped) => match self.items.insert(0, mapped) {

@@ -45,7 +45,7 @@ impl NodeNames {
         Ok(NodeNames { names: copies })
     }
 
-    /// How many nodes have a name, 1 to 8. Takes no memory.
+    /// How many nodes have a name, at least one. Takes no memory.
     pub fn len(&self) -> usize
         ensures value { result ≡ length self.now }
         ensures names { AreNodeNames self.now }

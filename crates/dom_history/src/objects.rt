@@ -4,7 +4,7 @@ ghost use Rattle.std.specs.HashSet.{contains, spare};
 ghost use Rattle.uid_names.specs.Names.{ProcName, ObjectName, same_uid};
 ghost use Rattle.uid_names.specs.Openings.{Start, IsStart};
 ghost use Rattle.uid_names.specs.Beginnings.{at_home};
-ghost use Rattle.dom_history.specs.Effects.{Effect, effect_of};
+ghost use Rattle.dom_history.specs.StoreEffects.{StoreEffect, store_effect};
 ghost use Rattle.dom_history.specs.Objects.{is_named, is_deleted, is_present, made, room_of, room_taken, greatest_counter};
 
 use crate::deed::Deed;
@@ -15,7 +15,7 @@ use uid_names::{NoMemory, NodeId, Object, Opening, Uid};
 
 /// The object that a deed made.
 fn made_by(op: &Op, reply: &Reply) -> Option<Object>
-    ensures { (p : ProcName) → (opening : Start) → (past : List Effect) → made opening (effect_of p op.now reply.now ++ past) ≡ made opening past ++ option_to_list result }
+    ensures { (p : ProcName) → (opening : Start) → (past : List StoreEffect) → made opening (store_effect p op.now reply.now ++ past) ≡ made opening past ++ option_to_list result }
 {
     match op {
         Op::New {
@@ -36,7 +36,7 @@ fn made_by(op: &Op, reply: &Reply) -> Option<Object>
 
 /// The name of the object that a deed deleted.
 fn deleted_by(op: &Op, reply: &Reply) -> Option<Uid>
-    ensures { (p : ProcName) → (past : List Effect) → (u : ObjectName) → is_deleted u (effect_of p op.now reply.now ++ past) ≡ (is_named result u || is_deleted u past) }
+    ensures { (p : ProcName) → (past : List StoreEffect) → (u : ObjectName) → is_deleted u (store_effect p op.now reply.now ++ past) ≡ (is_named result u || is_deleted u past) }
 {
     match op {
         Op::Delete { uid } => match reply {
@@ -108,7 +108,7 @@ fn object_in(objects: &[Object], uid: Uid) -> Option<Object>
 /// Puts the object that a deed made last, for which there is room.
 fn add_made(objects: &mut Vec<Object>, deed: &Deed)
     requires { vec_len objects.old < vec_capacity objects.old }
-    ensures { (opening : Start) → (past : List Effect) → objects.old.items ≡ made opening past → objects.new.items ≡ made opening (effect_of deed.now.proc deed.now.op deed.now.reply ++ past) }
+    ensures { (opening : Start) → (past : List StoreEffect) → objects.old.items ≡ made opening past → objects.new.items ≡ made opening (store_effect deed.now.proc deed.now.op deed.now.reply ++ past) }
 {
     if let Some(object) = made_by(&deed.op, &deed.reply) {
         if objects.push(object).is_err() {
@@ -120,7 +120,7 @@ fn add_made(objects: &mut Vec<Object>, deed: &Deed)
 /// Puts in the name of the object that a deed deleted, for which there is room.
 fn add_deleted(names: &mut HashSet<Uid>, deed: &Deed)
     requires { 0 < spare names.old }
-    ensures { (past : List Effect) → ((u : ObjectName) → contains same_uid names.old u ≡ is_deleted u past) → (u : ObjectName) → contains same_uid names.new u ≡ is_deleted u (effect_of deed.now.proc deed.now.op deed.now.reply ++ past) }
+    ensures { (past : List StoreEffect) → ((u : ObjectName) → contains same_uid names.old u ≡ is_deleted u past) → (u : ObjectName) → contains same_uid names.new u ≡ is_deleted u (store_effect deed.now.proc deed.now.op deed.now.reply ++ past) }
 {
     if let Some(uid) = deleted_by(&deed.op, &deed.reply) {
         if names.insert(uid).is_err() {
@@ -160,14 +160,14 @@ impl ObjectTable {
 
     /// The object of this name, deleted or not.
     pub fn find(&self, uid: Uid) -> Option<Object>
-        ensures { (opening : Start) → (past : List Effect) → HoldObjects self.now opening past → result ≡ find (λ o. same_uid o.uid uid) (made opening past) }
+        ensures { (opening : Start) → (past : List StoreEffect) → HoldObjects self.now opening past → result ≡ find (λ o. same_uid o.uid uid) (made opening past) }
     {
         object_in(&self.made, uid)
     }
 
     /// The room that the object of this name was made with; 0 where none was.
     pub fn room_of(&self, uid: Uid) -> u32
-        ensures { (opening : Start) → (past : List Effect) → HoldObjects self.now opening past → result ≡ room_of opening past uid }
+        ensures { (opening : Start) → (past : List StoreEffect) → HoldObjects self.now opening past → result ≡ room_of opening past uid }
     {
         match self.find(uid) {
             Some(object) => object.room,
@@ -177,7 +177,7 @@ impl ObjectTable {
 
     /// Whether an object of this name is there.
     pub fn is_present(&self, uid: Uid) -> bool
-        ensures { (opening : Start) → (past : List Effect) → HoldObjects self.now opening past → result ≡ is_present opening past uid }
+        ensures { (opening : Start) → (past : List StoreEffect) → HoldObjects self.now opening past → result ≡ is_present opening past uid }
     {
         match self.find(uid) {
             Some(_) => !self.deleted.contains(&uid),
@@ -187,10 +187,10 @@ impl ObjectTable {
 
     /// The volume of a node.
     pub fn volume_of(&self, home: NodeId) -> Volume
-        ensures taken { (opening : Start) → (past : List Effect) → HoldObjects self.now opening past → result.taken ≡ room_taken opening past home }
+        ensures taken { (opening : Start) → (past : List StoreEffect) → HoldObjects self.now opening past → result.taken ≡ room_taken opening past home }
         ensures bound { result.taken ≤ 2 ^ 100 }
         ensures small { HaveSmallCounters self.now → result.greatest < 2 ^ 41 }
-        ensures greatest { (opening : Start) → (past : List Effect) → HoldObjects self.now opening past → result.greatest ≡ greatest_counter opening past home }
+        ensures greatest { (opening : Start) → (past : List StoreEffect) → HoldObjects self.now opening past → result.greatest ≡ greatest_counter opening past home }
     {
         volume_in(&self.made, &self.deleted, home)
     }
@@ -198,7 +198,7 @@ impl ObjectTable {
     /// Makes room for one change.
     pub fn reserve(&mut self) -> Result<(), NoMemory>
         ensures room { OnOk result (HaveRoom self.new) }
-        ensures held { (opening : Start) → (past : List Effect) → HoldObjects self.old opening past → HoldObjects self.new opening past }
+        ensures held { (opening : Start) → (past : List StoreEffect) → HoldObjects self.old opening past → HoldObjects self.new opening past }
     {
         self.made.reserve(1)?;
         self.deleted.reserve(1)?;
@@ -208,7 +208,7 @@ impl ObjectTable {
     /// Takes in what a deed does, for which there is room.
     pub fn change(&mut self, deed: &Deed)
         requires { HaveRoom self.old }
-        ensures { (opening : Start) → (past : List Effect) → HoldObjects self.old opening past → HoldObjects self.new opening (effect_of deed.now.proc deed.now.op deed.now.reply ++ past) }
+        ensures { (opening : Start) → (past : List StoreEffect) → HoldObjects self.old opening past → HoldObjects self.new opening (store_effect deed.now.proc deed.now.op deed.now.reply ++ past) }
     {
         add_made(&mut self.made, deed);
         add_deleted(&mut self.deleted, deed);

@@ -2,21 +2,18 @@
 ghost use Rattle.std.specs.Prelude.{◌≡◌, ◌+◌, ◌%◌, ◌≤◌, ℕ, List, length, IfOk, OnOk, OnErr, Some};
 ghost use Rattle.uid_names.specs.Names.{ObjectName};
 ghost use Rattle.uid_names.specs.Openings.{Start};
-ghost use Rattle.dom_history.specs.Effects.{Effect};
+ghost use Rattle.dom_history.specs.StoreEffects.{StoreEffect};
 ghost use Rattle.dom_history.specs.Bytes.{byte_after, bytes_from};
 ghost use Rattle.dom_history.specs.KeptPages.{page_in, byte_in, HoldBytes};
 
 use std::alloc::Global;
 use std::collections::HashMap;
-use uid_names::{ByteList, NoMemory, Uid};
-
-/// The bytes of a page.
-pub const PAGE_SIZE: usize = 1024;
+use uid_names::{ByteList, NoMemory, PAGE_BYTES, Uid};
 
 /// What was stored, by object and number of the page. A page that is missing is zero.
 #[derive(Drop, Debug)]
 pub struct Pages {
-    pages: HashMap<(Uid, u32), [u8; PAGE_SIZE]>,
+    pages: HashMap<(Uid, u32), [u8; PAGE_BYTES]>,
 }
 
 impl Pages {
@@ -30,13 +27,13 @@ impl Pages {
     }
 
     /// A page, as the stores left it.
-    fn page(&self, uid: Uid, number: u32) -> [u8; PAGE_SIZE]
+    fn page(&self, uid: Uid, number: u32) -> [u8; PAGE_BYTES]
         ensures { result ≡ page_in self.now uid number }
     {
         self.pages
             .get(&(uid, number))
             .copied()
-            .unwrap_or([0; PAGE_SIZE])
+            .unwrap_or([0; PAGE_BYTES])
     }
 
     /// So many bytes from an offset on, which lie in one page.
@@ -47,23 +44,23 @@ impl Pages {
         offset: u32,
         count: u32,
     ) -> Result<ByteList, NoMemory>
-        requires { offset % 1024 + count ≤ 1024 }
+        requires { offset % PAGE_BYTES + count ≤ PAGE_BYTES }
         ensures count { IfOk result (λ list. length list ≡ count) }
-        ensures bytes { IfOk result (λ list. (opening : Start) → (past : List Effect) → HoldBytes self.now opening past → list ≡ bytes_from opening past uid offset count) }
+        ensures bytes { IfOk result (λ list. (opening : Start) → (past : List StoreEffect) → HoldBytes self.now opening past → list ≡ bytes_from opening past uid offset count) }
     {
-        let page = self.page(uid, offset / PAGE_SIZE as u32);
-        let start = offset as usize % PAGE_SIZE;
+        let page = self.page(uid, offset / PAGE_BYTES as u32);
+        let start = offset as usize % PAGE_BYTES;
         ByteList::from_slice(alloc, &page[start..start + count as usize])
     }
 
     /// Puts bytes, which lie in one page, at an offset. Without memory no byte changes.
     pub fn store(&mut self, uid: Uid, offset: u32, bytes: &[u8]) -> Result<(), NoMemory>
-        requires { offset % 1024 + length bytes.now ≤ 1024 }
+        requires { offset % PAGE_BYTES + length bytes.now ≤ PAGE_BYTES }
         ensures ok { OnOk result ((v : ObjectName) → (o : ℕ) → byte_in self.new v o ≡ byte_after (Some (record { uid = uid; offset = offset })) bytes.now v o (byte_in self.old v o)) }
         ensures err { OnErr result ((v : ObjectName) → (o : ℕ) → byte_in self.new v o ≡ byte_in self.old v o) }
     {
-        let number = offset / PAGE_SIZE as u32;
-        let start = offset as usize % PAGE_SIZE;
+        let number = offset / PAGE_BYTES as u32;
+        let start = offset as usize % PAGE_BYTES;
         let mut page = self.page(uid, number);
         page[start..start + bytes.len()].copy_from_slice(bytes);
         self.pages.insert((uid, number), page)?;

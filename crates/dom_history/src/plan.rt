@@ -40,7 +40,7 @@ pub struct FaultPlan {
 impl Model for FaultPlan {
     ghost use Rattle.std.specs.Prelude.{List};
     ghost use Rattle.dom_history.specs.declared.plan.FateRow.{FateRow};
-    ghost use Rattle.dom_history.specs.Plans.{HoldsPlan};
+    ghost use Rattle.dom_history.specs.KeptFates.{HoldsPlan};
 
     ghost Value = { List FateRow };
 

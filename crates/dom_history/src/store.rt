@@ -22,7 +22,8 @@ pub struct PlainStore {
 
 impl Model for PlainStore {
     ghost use Rattle.std.specs.Prelude.{reverse};
-    ghost use Rattle.dom_history.specs.Plain.{Plain, IsPlain};
+    ghost use Rattle.dom_history.specs.Plain.{Plain};
+    ghost use Rattle.dom_history.specs.Kept.{IsPlain};
 
     ghost Value = { Plain };
 

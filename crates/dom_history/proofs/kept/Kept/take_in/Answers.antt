@@ -1,5 +1,5 @@
 use Rattle.std.specs.Prelude.{Result, Ok, Err, OnErr}
-use Rattle.dom_history.specs.Effects.{effects}
+use Rattle.dom_history.specs.StoreEffects.{store_effects}
 use Rattle.dom_history.proofs.kept.Kept.take_in.Goals as goal
 
 -- what holds anyway holds of an error
@@ -12,15 +12,15 @@ returns-in_err-write-clause-err c = on_err c.from_residual.result (λ opening de
   objects = held.objects;
   locks = held.locks;
   maps = held.maps;
-  bytes = c.in_err-write.ensures.bytes_stay opening (effects deeds) held.bytes;
-  lengths = c.in_err-write.ensures.lengths_stay opening (effects deeds) held.lengths;
+  bytes = c.in_err-write.ensures.bytes_stay opening (store_effects deeds) held.bytes;
+  lengths = c.in_err-write.ensures.lengths_stay opening (store_effects deeds) held.lengths;
 })
 
 pub returns-clause-ok : goal.returns-clause-ok
 returns-clause-ok c = λ opening deeds held. record {
-  objects = c.change-3.ensures opening (effects deeds) held.objects;
+  objects = c.change-3.ensures opening (store_effects deeds) held.objects;
   locks = c.change.ensures deeds held.locks;
-  maps = c.change-2.ensures opening (effects deeds) held.objects held.maps;
-  bytes = c.in_ok-write.ensures.bytes opening (effects deeds) held.maps held.bytes;
-  lengths = c.in_ok-write.ensures.ends opening (effects deeds) held.maps held.lengths;
+  maps = c.change-2.ensures opening (store_effects deeds) held.objects held.maps;
+  bytes = c.in_ok-write.ensures.bytes opening (store_effects deeds) held.maps held.bytes;
+  lengths = c.in_ok-write.ensures.ends opening (store_effects deeds) held.maps held.lengths;
 }

@@ -3,7 +3,7 @@ use Rattle.std.specs.Prelude.{All}
 use Rattle.std.proofs.lemmas.List.Elements.{All-cons, All-filter}
 use Rattle.dom_history.specs.declared.maps.Mapped.{Mapped}
 use Rattle.dom_history.specs.declared.maps.MapChange.TheVariants.{Mapping, Unmapping}
-use Rattle.dom_history.specs.Effects.{effect_of}
+use Rattle.dom_history.specs.StoreEffects.{store_effect}
 use Rattle.dom_history.specs.KeptMaps.{IsMapped, mappings_of, mappings_after}
 use Rattle.dom_history.proofs.KeptMaps.{mapped-stays, mappings_of-cons, mappings_of-without}
 use Rattle.dom_history.proofs.maps.MapTable.change.Goals as goal
@@ -13,7 +13,7 @@ returns-in-Ok c = λ opening past objects held.
     let m = c.in-Mapping.mapped in
     let changes = c.in-Mapping.ensures in
     let items : c.insert.new.self.items ≡ m ∷ c.args.self.now.items.items = c.in-Ok.ensures.items in
-    let after = effect_of c.args.deed.now.proc c.args.deed.now.op c.args.deed.now.reply ++ past in
+    let after = store_effect c.args.deed.now.proc c.args.deed.now.op c.args.deed.now.reply ++ past in
     let all : All (IsMapped opening after) (m ∷ c.args.self.now.items.items) =
     (λ k d below. mapped-stays _ _ _ opening past _ (All-cons (IsMapped opening past) m c.args.self.now.items.items (changes.mapped opening past objects) held.mapped k d below)) in
     record {
@@ -26,7 +26,7 @@ returns-in-Unmapping c = λ opening past objects held.
     let q = c.in-Unmapping.p in
     let u = c.in-Unmapping.uid in
     let changes = c.in-Unmapping.ensures in
-    let after = effect_of c.args.deed.now.proc c.args.deed.now.op c.args.deed.now.reply ++ past in
+    let after = store_effect c.args.deed.now.proc c.args.deed.now.op c.args.deed.now.reply ++ past in
     let all : All (IsMapped opening after) c.args.self.now.items.items = (λ k d below. mapped-stays _ _ _ opening past _ (held.mapped k d below)) in
     record {
       maps = λ p. ap (mappings_of p) c.remove_mapping.ensures ∙ mappings_of-without q u c.args.self.now.items.items p ∙ ap (mappings_after (Unmapping q u) p) (held.maps p) ∙ sym (changes.maps p past);

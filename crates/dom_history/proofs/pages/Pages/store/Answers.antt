@@ -2,15 +2,16 @@ use Rattle.std.proofs.Common.{rules, ◌≡◌, ◌+◌, ◌-◌, ◌/◌, ◌%�
 use Rattle.std.specs.Prelude.{replicate}
 use Rattle.std.specs.HashMap.{get}
 use Rattle.uid_names.specs.Names.{same_uid}
+use Rattle.uid_names.specs.declared.limits.TheConstants.{PAGE_BYTES}
 use Rattle.dom_history.specs.KeptPages.{same_page, page_in}
 use Rattle.dom_history.proofs.PageBytes.{same_uid-≡, stored-byte}
 use Rattle.dom_history.proofs.pages.Pages.store.Goals as goal
 
 pub returns-clause-ok : goal.returns-clause-ok
 returns-clause-ok c = λ v o.
-    let l : length c.page-page.result ≡ 1024 = search rules in
-    let k : c.args.offset % 1024 + length c.args.bytes.now - c.args.offset % 1024 ≡ length c.args.bytes.now = omega arith in
-    let was : same_uid c.args.uid v ≡ true → c.args.offset / 1024 ≡ o / 1024 → page_in c.args.self.now v (o / 1024) ≡ c.page-page.result =
-    λ same number. ap (λ u. page_in c.args.self.now u (o / 1024)) (sym (same_uid-≡ c.args.uid v same)) ∙ ap (page_in c.args.self.now c.args.uid) (sym number) ∙ sym c.page-page.ensures in
-    rw (c.in_ok-insert.ensures.updates.0 (v, o / 1024), c.copy_from_slice.ensures.after)
-    (stored-byte (same_uid c.args.uid v) _ (get same_page c.args.self.now.pages (v, o / 1024)) c.page-page.result (replicate 1024 0) c.args.bytes.now c.args.offset o _ c.requires l k refl was)
+    let l : length c.page-page.result ≡ PAGE_BYTES = search rules in
+    let k : c.args.offset % PAGE_BYTES + length c.args.bytes.now - c.args.offset % PAGE_BYTES ≡ length c.args.bytes.now = omega arith in
+    let was : same_uid c.args.uid v ≡ true → c.args.offset / PAGE_BYTES ≡ o / PAGE_BYTES → page_in c.args.self.now v (o / PAGE_BYTES) ≡ c.page-page.result =
+    λ same number. ap (λ u. page_in c.args.self.now u (o / PAGE_BYTES)) (sym (same_uid-≡ c.args.uid v same)) ∙ ap (page_in c.args.self.now c.args.uid) (sym number) ∙ sym c.page-page.ensures in
+    rw (c.in_ok-insert.ensures.updates.0 (v, o / PAGE_BYTES), c.copy_from_slice.ensures.after)
+    (stored-byte (same_uid c.args.uid v) _ (get same_page c.args.self.now.pages (v, o / PAGE_BYTES)) c.page-page.result (replicate PAGE_BYTES 0) c.args.bytes.now c.args.offset o _ c.requires l k refl was)

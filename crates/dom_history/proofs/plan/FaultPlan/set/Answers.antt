@@ -1,7 +1,8 @@
 use Rattle.std.proofs.Common.{◌≡◌, List, [], ◌∷◌, ◌++◌, ap, ◌∙◌, sym, subst, false, cond}
 use Rattle.std.specs.Prelude.{Some}
 use Rattle.dom_history.specs.declared.plan.FateRow.{FateRow}
-use Rattle.dom_history.specs.Plans.{is_set, same_frame, HoldsPlan}
+use Rattle.dom_history.specs.Plans.{is_set}
+use Rattle.dom_history.specs.KeptFates.{same_frame, HoldsPlan}
 use Rattle.dom_history.proofs.SetFates.{set_fate-push, IsPlan-push}
 use Rattle.dom_history.proofs.plan.FaultPlan.set.Goals as goal
 
