@@ -5,9 +5,10 @@ use Rattle.std.specs.Str.{all_ascii_digits}
 use Rattle.std.proofs.lemmas.Bool.{false≢true, eqb-true}
 use Rattle.std.proofs.lemmas.Fmt.{decimal_digit, decimal_nonempty, first_decimal, digits_decimal, digits_value-decimal, decimal-digits_value}
 use Rattle.std.proofs.lemmas.List.Elements.{All-head, All-tail}
-use Rattle.dom_text.specs.Numbers.{hex_value, is_decimal_text, number_of, value_on}
-use Rattle.dom_text.specs.Reading.{AreApart, is_word_byte, with_tokens}
-use Rattle.dom_text.specs.Spelled.{AreWritten, IsWritten, line_of, spelling}
+use Rattle.dom_text.specs.Numbers.{hex_value, is_decimal_text, number_spelled, value_on}
+use Rattle.dom_text.specs.Spelled.{is_word_byte}
+use Rattle.dom_text.specs.Walk.{AreApart, with_tokens}
+use Rattle.dom_text.specs.Spelled.{AreWritable, IsWritable, line_of, spelling}
 use Rattle.dom_text.specs.Texts.{all_escaped, escaped, hex_digit, is_printed, quoted_text}
 use Rattle.dom_text.specs.Tokens.{Between, InText, High, Behind, after_move, as_text, high_move, low_move, is_blank, reading, tokens_in, tokens_of, with_byte}
 use Rattle.dom_text.specs.declared.token.Token.{Token}
@@ -27,8 +28,8 @@ decimal_spells : (n : ℕ) → n < 2 ^ 64 → is_decimal_text (decimal n) ≡ tr
 decimal_spells zero h = ap is_decimal_text (decimal_digit 0 (omega arith))
 decimal_spells (suc n) h = digits_spell (decimal (suc n)) (digits_decimal own (suc n) h) (decimal_nonempty (suc n) h) (inr (first_decimal (suc n) (omega arith) h))
 
-pub number_of-decimal : (n : ℕ) → n < 2 ^ 64 → number_of (decimal n) ≡ Some n
-number_of-decimal n h =
+pub number_spelled-decimal : (n : ℕ) → n < 2 ^ 64 → number_spelled (decimal n) ≡ Some n
+number_spelled-decimal n h =
     let value : value_on 0 (decimal n) ≡ n = digits_value-decimal own n h in
     let small : nat_lt n (2 ^ 64) ≡ true = search rules in
     rw (decimal_spells n h, value, small) refl
@@ -45,7 +46,7 @@ number_parts word n true true e = (refl, refl, cc)
 number_parts word n true false e = cc
 number_parts word n false b e = cc
 
-pub decimal_of_number : (word : List ℕ) (n : ℕ) → number_of word ≡ Some n → word ≡ decimal n
+pub decimal_of_number : (word : List ℕ) (n : ℕ) → number_spelled word ≡ Some n → word ≡ decimal n
 decimal_of_number word n e =
     let p = number_parts word n (is_decimal_text word) (nat_lt (value_on 0 word) (2 ^ 64)) e in
     let d = decimal_digits word p.0 in
@@ -122,12 +123,12 @@ word_begun b word behind hash h a rest e =
     (ap is_blank (sym same) ∙ facts.1, λ quote. absurd (false≢true (sym facts.2 ∙ eq-eqb b 34 (same ∙ quote))), λ is. hash (same ∙ is))
 
 -- a token, and what is apart from it
-token_is_first : (token : Token) (behind : List ℕ) → IsWritten token → AreApart behind → tokens_of (spelling token ++ behind) ≡ with_tokens (token ∷ []) (tokens_of behind)
+token_is_first : (token : Token) (behind : List ℕ) → IsWritable token → AreApart behind → tokens_of (spelling token ++ behind) ≡ with_tokens (token ∷ []) (tokens_of behind)
 token_is_first (Word []) behind h apart = absurd h
 token_is_first (Word (b ∷ word)) behind h apart = word_is_first (b ∷ word) behind (word_begun b word behind h.0 (All-head (λ b. IsTrue (is_word_byte b)) b word h.1)) (omega arith) h.1 apart
 token_is_first (Text bytes) behind h apart = quoted_is_first bytes behind h apart
 
-pub line_again : (tokens : List Token) → AreWritten tokens → tokens_of (line_of tokens) ≡ Ok tokens
+pub line_again : (tokens : List Token) → AreWritable tokens → tokens_of (line_of tokens) ≡ Ok tokens
 line_again [] h = refl
 line_again (token ∷ []) h = ap tokens_of (sym (append-nil (spelling token))) ∙ token_is_first token [] h.0 tt
 line_again (token ∷ other ∷ rest) h =

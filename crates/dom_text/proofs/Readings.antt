@@ -1,8 +1,8 @@
 -- Readings with bytes and tokens in front.
 use Rattle.std.proofs.Common.{◌≡◌, ℕ, true, false, List, [], ◌∷◌, ◌++◌, Result, Ok, Err, refl, ap, ◌∙◌, append_assoc, append-nil}
 use Rattle.std.specs.Prelude.{◌==◌, if◌then◌else◌}
-use Rattle.dom_text.specs.Answers.{Fails}
-use Rattle.dom_text.specs.Reading.{with_tokens}
+use Rattle.dom_text.specs.Answers.{Gives, text_refusal}
+use Rattle.dom_text.specs.Walk.{with_tokens}
 use Rattle.dom_text.specs.Texts.{is_printed}
 use Rattle.dom_text.specs.Tokens.{Reading, Between, InText, InWord, Skips, EndsAll, BeginsText, BeginsWord, Breaks, after_move, as_text, as_word, is_blank, reading, tokens_in, with_byte}
 use Rattle.dom_text.specs.declared.token.Token.{Token}
@@ -35,27 +35,11 @@ pub with_tokens-append : (xs ys : List Token) (r : Result (List Token) TextFault
 with_tokens-append xs ys (Ok tokens) = ap Ok (append_assoc xs ys tokens)
 with_tokens-append xs ys (Err fault) = refl
 
--- a fault fails so itself
-pub Fails-same : (A : Type 0) (fault : TextFault) → Fails {A = A} fault (Err fault)
-Fails-same A Byte = refl
-Fails-same A Quote = refl
-Fails-same A NoMemory = tt
-
--- what stands in front changes no fault
-pub Fails-with_bytes : (fault : TextFault) (front : List ℕ) (r : Result Reading TextFault) → Fails fault r → Fails fault (with_bytes front r)
-Fails-with_bytes Byte front r h = ap (with_bytes front) h
-Fails-with_bytes Quote front r h = ap (with_bytes front) h
-Fails-with_bytes NoMemory front r h = tt
-
-pub Fails-with_tokens : (fault : TextFault) (front : List Token) (r : Result (List Token) TextFault) → Fails fault r → Fails fault (with_tokens front r)
-Fails-with_tokens Byte front r h = ap (with_tokens front) h
-Fails-with_tokens Quote front r h = ap (with_tokens front) h
-Fails-with_tokens NoMemory front r h = tt
-
-pub Fails-as_text : (fault : TextFault) (r : Result Reading TextFault) → Fails fault r → Fails fault (tokens_in (as_text r))
-Fails-as_text Byte r h = ap (λ r. tokens_in (as_text r)) h
-Fails-as_text Quote r h = ap (λ r. tokens_in (as_text r)) h
-Fails-as_text NoMemory r h = tt
+-- a fault refuses as it says
+pub refuses_so : (A : Type 0) (fault : TextFault) → Gives (text_refusal {A = A} fault) (Err fault)
+refuses_so A Byte = refl
+refuses_so A Quote = refl
+refuses_so A NoMemory = tt
 
 -- no token is begun
 abbrev pub IsClosed : Result Reading TextFault → Type 0

@@ -8,7 +8,8 @@ use Rattle.std.proofs.lemmas.List.{drop_all, drop_more}
 use Rattle.std.proofs.lemmas.Nat.{pow-add}
 use Rattle.std.proofs.Math.Pow.{pow_mono}
 use Rattle.std.proofs.lemmas.Str.Parse.{IsNumeralModel, numerals_by_fold}
-use Rattle.dom_text.specs.Numbers.{digit_more, hex_on, hex_value, hex_more, is_decimal_text, value_on}
+use Rattle.dom_text.specs.Numbers.{hex_on, hex_value, hex_more, is_decimal_text, value_on}
+use Rattle.dom_text.specs.Walk.{digit_more}
 
 -- ---- decimal digits
 

@@ -3,7 +3,8 @@ use Rattle.std.proofs.Common.{◌≡◌, ◌≢◌, ◌<◌, ◌⊎◌, ℕ, tru
 use Rattle.std.specs.Prelude.{◌==◌}
 use Rattle.std.proofs.lemmas.List.Elements.{All-head, All-tail}
 use Rattle.std.proofs.lemmas.Bool.{ne_eqb, false≢true}
-use Rattle.dom_text.specs.Reading.{AreApart, is_word_byte, with_tokens}
+use Rattle.dom_text.specs.Spelled.{is_word_byte}
+use Rattle.dom_text.specs.Walk.{AreApart, with_tokens}
 use Rattle.dom_text.specs.Texts.{is_printed}
 use Rattle.dom_text.specs.Tokens.{Between, InWord, Puts, BeginsWord, Breaks, after_move, as_word, fault_at, is_blank, move_at, reading, tokens_in, tokens_of, with_byte}
 use Rattle.dom_text.specs.declared.token.Token.TheVariants.{Word}

@@ -2,5 +2,6 @@ pub mod Texts
 pub mod Numbers
 pub mod Tokens
 pub mod Answers
-pub mod Reading
+pub mod Cuts
 pub mod Spelled
+pub mod Walk

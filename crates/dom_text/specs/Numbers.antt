@@ -14,17 +14,9 @@ abbrev pub value_on : ℕ → List ℕ → ℕ
 value_on n [] = n
 value_on n (b ∷ rest) = value_on (10 * n + (b - 48)) rest
 
--- the number of decimal digits, below 2^64
-abbrev pub number_of_digits : List ℕ → Option ℕ
-number_of_digits text = if all_ascii_digits text && nat_lt (value_on 0 text) (2 ^ 64) then Some (value_on 0 text) else None
-
--- one decimal digit more, below 2^64
-abbrev pub digit_more : ℕ → ℕ → Option ℕ
-digit_more n b = if is_ascii_digit b && nat_lt (10 * n + (b - 48)) (2 ^ 64) then Some (10 * n + (b - 48)) else None
-
 -- the number that a word spells: a decimal text of a number below 2^64
-abbrev pub number_of : List ℕ → Option ℕ
-number_of word = if is_decimal_text word && nat_lt (value_on 0 word) (2 ^ 64) then Some (value_on 0 word) else None
+abbrev pub number_spelled : List ℕ → Option ℕ
+number_spelled word = if is_decimal_text word && nat_lt (value_on 0 word) (2 ^ 64) then Some (value_on 0 word) else None
 
 -- what a hexadecimal digit stands for; there are no upper-case ones
 abbrev pub hex_value : ℕ → Option ℕ

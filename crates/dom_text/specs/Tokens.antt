@@ -9,20 +9,20 @@ use Rattle.dom_text.specs.declared.line.TextFault.TheVariants.{Byte, Quote}
 
 -- where a byte stands: between tokens, in a word, in a text, behind its `\`, behind its `\x`,
 -- behind the first of two hexadecimal digits, behind the quote that ends a text
-pub data Place : Type 0 where
-  Between : Place
-  InWord : Place
-  InText : Place
-  Escape : Place
-  High : Place
-  Low : (digit : ℕ) → Place
-  Behind : Place
+pub data State : Type 0 where
+  Between : State
+  InWord : State
+  InText : State
+  Escape : State
+  High : State
+  Low : (digit : ℕ) → State
+  Behind : State
 
 -- what a byte does: it is in no token's bytes, a token that is begun has this byte next, it begins a word
 -- or a text, it ends the tokens, or it may not stand there
 pub data Move : Type 0 where
-  Skips : (place : Place) → Move
-  Puts : (byte : ℕ) (place : Place) → Move
+  Skips : (state : State) → Move
+  Puts : (byte : ℕ) (state : State) → Move
   BeginsWord : (byte : ℕ) → Move
   BeginsText : Move
   EndsAll : Move
@@ -45,7 +45,7 @@ abbrev pub low_move : ℕ → ℕ → Option ℕ → Move
 low_move high b None = Breaks (fault_at b)
 low_move high b (Some digit) = Puts (16 * high + digit) InText
 
-abbrev pub move_at : Place → ℕ → Move
+abbrev pub move_at : State → ℕ → Move
 move_at Between b =
     if is_blank b then Skips Between
     else if b == 35 then EndsAll
@@ -72,19 +72,19 @@ move_at High b = high_move b (hex_value b)
 move_at (Low high) b = low_move high b (hex_value b)
 move_at Behind b = if is_blank b then Skips Between else Breaks (fault_at b)
 
--- what is read from a place on: the bytes that the token there still has, and the tokens behind it
+-- what is read from a state on: the bytes that the token there still has, and the tokens behind it
 pub record Reading : Type 0 where
   pub open_bytes : List ℕ
   pub tokens : List Token
 
-abbrev pub nothing : Reading
-nothing = record { open_bytes = []; tokens = [] }
+abbrev pub no_tokens : Reading
+no_tokens = record { open_bytes = []; tokens = [] }
 
 -- the line ends here: no text may be begun
-abbrev pub end_at : Place → Result Reading TextFault
-end_at Between = Ok nothing
-end_at InWord = Ok nothing
-end_at Behind = Ok nothing
+abbrev pub end_at : State → Result Reading TextFault
+end_at Between = Ok no_tokens
+end_at InWord = Ok no_tokens
+end_at Behind = Ok no_tokens
 end_at _ = Err Quote
 
 abbrev pub with_byte : ℕ → Result Reading TextFault → Result Reading TextFault
@@ -101,18 +101,18 @@ as_text (Ok r) = Ok (record { open_bytes = []; tokens = Text r.open_bytes ∷ r.
 as_text (Err fault) = Err fault
 
 -- what a move makes of what is read behind the byte
-abbrev pub after_move : Move → (Place → Result Reading TextFault) → Result Reading TextFault
-after_move (Skips place) behind = behind place
-after_move (Puts byte place) behind = with_byte byte (behind place)
+abbrev pub after_move : Move → (State → Result Reading TextFault) → Result Reading TextFault
+after_move (Skips state) behind = behind state
+after_move (Puts byte state) behind = with_byte byte (behind state)
 after_move (BeginsWord byte) behind = as_word byte (behind InWord)
 after_move BeginsText behind = as_text (behind InText)
-after_move EndsAll behind = Ok nothing
+after_move EndsAll behind = Ok no_tokens
 after_move (Breaks fault) behind = Err fault
 
--- bytes from a place on; the first byte from the left that may not stand where it stands decides
-abbrev pub reading : List ℕ → Place → Result Reading TextFault
-reading [] place = end_at place
-reading (b ∷ rest) place = after_move (move_at place b) (reading rest)
+-- bytes from a state on; the first byte from the left that may not stand where it stands decides
+abbrev pub reading : List ℕ → State → Result Reading TextFault
+reading [] state = end_at state
+reading (b ∷ rest) state = after_move (move_at state b) (reading rest)
 
 abbrev pub tokens_in : Result Reading TextFault → Result (List Token) TextFault
 tokens_in (Ok r) = Ok r.tokens

@@ -1,6 +1,7 @@
 //! The texts of scripts, journals and answers: tokens of a line, numbers and quoted texts, both ways.
 #![tactic(auto)]
 
+pub mod cuts;
 pub mod laws;
 pub mod line;
 pub mod numbers;
@@ -10,7 +11,8 @@ mod tests;
 pub mod token;
 pub mod write;
 
+pub use cuts::cut;
 pub use line::{TextFault, tokens};
 pub use numbers::{BadNumber, decimal, hex8};
-pub use token::{Token, TokenList};
+pub use token::Token;
 pub use write::{put_decimal, put_quoted};

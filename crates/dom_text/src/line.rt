@@ -1,16 +1,17 @@
 //! Reads a line's tokens from the left.
 ghost use Rattle.std.specs.Prelude.{◌≡◌, ◌≢◌, ◌<◌, ◌≤◌, false, ℕ, All, IsTrue, length, take, slice_index, List, [], ◌∷◌, ◌++◌, Ok, IfOk, IfErr, IfSome, IfNone};
-ghost use Rattle.dom_text.specs.Answers.{Fails, Gives};
+ghost use Rattle.dom_text.specs.Answers.{Gives, text_answer, text_refusal};
 ghost use Rattle.dom_text.specs.Tokens.{tokens_of, fault_at as fault_of_byte, is_blank as is_blank_byte};
-ghost use Rattle.dom_text.specs.Reading.{AreApart, is_word_byte as may_stand_in_word, with_tokens};
+ghost use Rattle.dom_text.specs.Spelled.{is_word_byte as may_stand_in_word};
+ghost use Rattle.dom_text.specs.Walk.{AreApart, with_tokens};
 ghost use Rattle.dom_text.specs.declared.line.TextFault.TheVariants.{NoMemory as OutOfMemory};
 ghost use Rattle.dom_text.specs.declared.token.Token.TheVariants.{Word};
 
 use crate::quoted::read_text;
-use crate::token::{Token, TokenList};
+use crate::token::Token;
 use std::alloc::Global;
 use thiserror::Error;
-use uid_names::{ByteList, NoMemory};
+use uid_names::{ByteList, ItemList, NoMemory};
 
 /// Why a line has no tokens.
 #[derive(Clone, Copy, Debug, PartialEq, Eq, Error)]
@@ -35,10 +36,10 @@ impl From<NoMemory> for TextFault {
 }
 
 /// The tokens of a line without its end. The first fault from the left decides.
-pub fn tokens(alloc: Global, line: &[u8]) -> Result<TokenList, TextFault>
-    ensures { Gives (λ list. list) result (tokens_of line.now) }
+pub fn tokens(alloc: Global, line: &[u8]) -> Result<ItemList<Token>, TextFault>
+    ensures { Gives (text_answer result) (tokens_of line.now) }
 {
-    let mut found = TokenList::new(alloc);
+    let mut found = ItemList::new(alloc);
     let mut rest = line;
     while let Some((token, behind)) = next_token(alloc, rest)? {
         found.push(token)?;
@@ -52,7 +53,7 @@ fn next_token(alloc: Global, line: &[u8]) -> Result<Option<(Token, &[u8])>, Text
     ensures some { IfOk result (λ found. IfSome found (λ t. tokens_of line.now ≡ with_tokens (t.0 ∷ []) (tokens_of t.1.now))) }
     ensures shorter { IfOk result (λ found. IfSome found (λ t. length t.1.now < length line.now)) }
     ensures none { IfOk result (λ found. IfNone found (tokens_of line.now ≡ Ok [])) }
-    ensures fault { IfErr result (λ fault. Fails fault (tokens_of line.now)) }
+    ensures fault { IfErr result (λ fault. Gives (text_refusal fault) (tokens_of line.now)) }
 {
     let line = without_blanks(line);
     let Some((first, inside)) = line.split_first() else {
@@ -94,7 +95,7 @@ fn cut_word(line: &[u8]) -> Result<(&[u8], &[u8]), TextFault>
     requires some { 0 < length line.now }
     ensures word { IfOk result (λ found. tokens_of line.now ≡ with_tokens (Word found.0.now ∷ []) (tokens_of found.1.now)) }
     ensures shorter { IfOk result (λ found. length found.1.now < length line.now) }
-    ensures fault { IfErr result (λ fault. Fails fault (tokens_of line.now)) }
+    ensures fault { IfErr result (λ fault. Gives (text_refusal fault) (tokens_of line.now)) }
 {
     let end = word_end(line);
     let (word, rest) = line.split_at(end);

@@ -1,6 +1,7 @@
 //! Reads the numbers that words spell. No function takes memory.
 ghost use Rattle.std.specs.Prelude.{◌≡◌, ◌<◌, IfSome, MatchResult, Some, None};
-ghost use Rattle.dom_text.specs.Numbers.{digit_more, hex8_of, hex_value as hex_value_of, number_of, number_of_digits};
+ghost use Rattle.dom_text.specs.Numbers.{hex8_of, hex_value as hex_value_of, number_spelled};
+ghost use Rattle.dom_text.specs.Walk.{digit_more, number_of_digits};
 
 use thiserror::Error;
 
@@ -11,7 +12,7 @@ pub struct BadNumber;
 
 /// The number that a word spells in decimal digits, without a sign or a leading zero, below 2^64.
 pub fn decimal(word: &[u8]) -> Result<u64, BadNumber>
-    ensures { MatchResult result (λ n. number_of word.now ≡ Some n) (λ _. number_of word.now ≡ None) }
+    ensures { MatchResult result (λ n. number_spelled word.now ≡ Some n) (λ _. number_spelled word.now ≡ None) }
 {
     if word.is_empty() || (word[0] == b'0' && word.len() > 1) {
         return Err(BadNumber);

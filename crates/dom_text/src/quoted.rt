@@ -1,8 +1,8 @@
 //! Reads a quoted text from behind its first quote.
 ghost use Rattle.std.specs.Prelude.{◌≡◌, ◌<◌, ◌+◌, ◌*◌, ℕ, length, List, [], ◌∷◌, ◌++◌, IfOk, IfErr};
-ghost use Rattle.dom_text.specs.Answers.{Fails};
+ghost use Rattle.dom_text.specs.Answers.{Gives, text_refusal};
 ghost use Rattle.dom_text.specs.Tokens.{reading, tokens_in, tokens_of, as_text, with_byte, Escape, High, Low, InText};
-ghost use Rattle.dom_text.specs.Reading.{IsPiece, with_tokens};
+ghost use Rattle.dom_text.specs.Walk.{IsPiece, with_tokens};
 ghost use Rattle.dom_text.specs.declared.token.Token.TheVariants.{Text};
 
 use crate::line::{TextFault, fault_at, is_blank};
@@ -22,7 +22,7 @@ enum Piece<'a> {
 pub(crate) fn read_text(alloc: Global, line: &[u8]) -> Result<(ByteList, &[u8]), TextFault>
     ensures text { IfOk result (λ found. tokens_in (as_text (reading line.now InText)) ≡ with_tokens (Text found.0 ∷ []) (tokens_of found.1.now)) }
     ensures shorter { IfOk result (λ found. length found.1.now < length line.now) }
-    ensures fault { IfErr result (λ fault. Fails fault (reading line.now InText)) }
+    ensures fault { IfErr result (λ fault. Gives (text_refusal fault) (reading line.now InText)) }
 {
     let mut text = ByteList::new(alloc);
     let mut rest = line;
@@ -40,7 +40,7 @@ pub(crate) fn read_text(alloc: Global, line: &[u8]) -> Result<(ByteList, &[u8]),
 /// The next piece of a text.
 fn next_piece(line: &[u8]) -> Result<Piece<'_>, TextFault>
     ensures piece { IfOk result (λ piece. IsPiece line.now piece) }
-    ensures fault { IfErr result (λ fault. Fails fault (reading line.now InText)) }
+    ensures fault { IfErr result (λ fault. Gives (text_refusal fault) (reading line.now InText)) }
 {
     let Some((byte, rest)) = line.split_first() else {
         return Err(TextFault::Quote);
@@ -59,7 +59,7 @@ fn next_piece(line: &[u8]) -> Result<Piece<'_>, TextFault>
 /// The end of a text, whose last quote stands in front of the rest of the line.
 fn end_text(rest: &[u8]) -> Result<Piece<'_>, TextFault>
     ensures piece { IfOk result (λ piece. IsPiece (34 ∷ rest.now) piece) }
-    ensures fault { IfErr result (λ fault. Fails fault (reading (34 ∷ rest.now) InText)) }
+    ensures fault { IfErr result (λ fault. Gives (text_refusal fault) (reading (34 ∷ rest.now) InText)) }
 {
     match rest.split_first() {
         Some((byte, _)) if !is_blank(*byte) => Err(fault_at(*byte)),
@@ -71,7 +71,7 @@ fn end_text(rest: &[u8]) -> Result<Piece<'_>, TextFault>
 fn read_escape(line: &[u8]) -> Result<(u8, &[u8]), TextFault>
     ensures byte { IfOk result (λ found. reading line.now Escape ≡ with_byte found.0 (reading found.1.now InText)) }
     ensures shorter { IfOk result (λ found. length found.1.now < length line.now) }
-    ensures fault { IfErr result (λ fault. Fails fault (reading line.now Escape)) }
+    ensures fault { IfErr result (λ fault. Gives (text_refusal fault) (reading line.now Escape)) }
 {
     let Some((byte, rest)) = line.split_first() else {
         return Err(TextFault::Quote);
@@ -89,7 +89,7 @@ fn read_escape(line: &[u8]) -> Result<(u8, &[u8]), TextFault>
 fn read_hex(line: &[u8]) -> Result<(u8, &[u8]), TextFault>
     ensures byte { IfOk result (λ found. reading line.now High ≡ with_byte found.0 (reading found.1.now InText)) }
     ensures shorter { IfOk result (λ found. length found.1.now < length line.now) }
-    ensures fault { IfErr result (λ fault. Fails fault (reading line.now High)) }
+    ensures fault { IfErr result (λ fault. Gives (text_refusal fault) (reading line.now High)) }
 {
     let (high, rest) = read_digit(line)?;
     let (low, rest) = read_digit(rest)?;
@@ -102,8 +102,8 @@ fn read_digit(line: &[u8]) -> Result<(u8, &[u8]), TextFault>
     ensures high { IfOk result (λ found. reading line.now High ≡ reading found.1.now (Low found.0)) }
     ensures low { IfOk result (λ found. (high : ℕ) → reading line.now (Low high) ≡ with_byte (16 * high + found.0) (reading found.1.now InText)) }
     ensures shorter { IfOk result (λ found. length found.1.now < length line.now) }
-    ensures high_fault { IfErr result (λ fault. Fails fault (reading line.now High)) }
-    ensures low_fault { IfErr result (λ fault. (high : ℕ) → Fails fault (reading line.now (Low high))) }
+    ensures high_fault { IfErr result (λ fault. Gives (text_refusal fault) (reading line.now High)) }
+    ensures low_fault { IfErr result (λ fault. (high : ℕ) → Gives (text_refusal fault) (reading line.now (Low high))) }
 {
     let Some((byte, rest)) = line.split_first() else {
         return Err(TextFault::Quote);

@@ -8,15 +8,16 @@ use Rattle.std.proofs.lemmas.List.Concat.{flat_map-append, flat_map-cons}
 use Rattle.uid_names.specs.Names.{ObjectName}
 use Rattle.uid_names.specs.Texts.{text_of}
 use Rattle.dom_history.specs.EndWords.{word_text}
-use Rattle.dom_history.specs.Events.{AreEffects, IsProcNumber, IsKindNumber}
+use Rattle.dom_history.specs.Events.{AreEffects, IsKindNumber}
+use Rattle.dom_history.specs.Ranges.{IsProcNumber}
 use Rattle.dom_history.specs.NodeTexts.{AreNodeNames}
 use Rattle.dom_history.specs.declared.end_word.EndWord.{EndWord}
 use Rattle.dom_history.specs.declared.event.Sent.{Sent}
 use Rattle.dom_history.specs.declared.event.Effects.{Effects}
-use Rattle.journal_text.specs.Cuts.{BeginsWithSemicolon, IsHeadOf}
+use Rattle.journal_text.specs.Walk.Heads.{BeginsWithSemicolon, IsHeadOf, pieces_of}
 use Rattle.journal_text.specs.Lines.{node_text, numbered_text, kind_text, drop_text, sent_text, ended_text, effects_text}
-use Rattle.journal_text.specs.Reading.{pieces_of, effect_of, with_effect, and_effect, effects_of}
-use Rattle.journal_text.specs.Spelling.{effect_text, IsEffect, AreRead}
+use Rattle.journal_text.specs.Walk.LineEffects.{effect_of, with_effect, and_effect, effects_of}
+use Rattle.journal_text.specs.Walk.EffectTexts.{effect_text, IsEffect, AreRead}
 use Rattle.journal_text.specs.Written.{IsNode, IsCount, IsPage, IsSent, AreWritten}
 use Rattle.journal_text.specs.declared.reading.effects.Effect.{Effect}
 use Rattle.journal_text.specs.declared.reading.effects.Effect.TheVariants.{Drop, Send, End}

@@ -10,12 +10,15 @@ use Rattle.dom_history.specs.NodeTexts.{AreNodeNames}
 use Rattle.dom_history.specs.declared.event.What.{What}
 use Rattle.dom_history.specs.declared.event.What.TheVariants.{Begin, Go, Take, Notice, Ready, Mark}
 use Rattle.dom_history.specs.declared.event.Effects.{Effects}
-use Rattle.journal_text.specs.Cuts.{Lacks, IsHeadOf}
+use Rattle.dom_text.specs.Cuts.{Lacks, cut_at}
+use Rattle.journal_text.specs.Walk.Heads.{IsHeadOf, pieces_of, head_of}
 use Rattle.journal_text.specs.Lines.{node_text, numbered_text, what_text, place_text, effects_text, line, journal}
-use Rattle.journal_text.specs.Reading.{cut_at, pieces_of, head_of, start_of, effects_of}
+use Rattle.journal_text.specs.Walk.LineStarts.{start_of}
+use Rattle.journal_text.specs.Walk.LineEffects.{effects_of}
 use Rattle.journal_text.specs.Written.{IsNode, IsWhatOf, IsWritten, IsAbove, RiseFrom, last_from, IsJournal, IsBadLine, BeginWithNoLine}
 use Rattle.journal_text.proofs.Plain.{is_inner, inner, lacks, both, inner-plain, plain-decimal}
-use Rattle.journal_text.proofs.Splits.{some_is, cut-found, same_cut, head-found, pieces-behind}
+use Rattle.journal_text.proofs.Splits.{some_is, head-found, pieces-behind}
+use Rattle.dom_text.proofs.Cutting.{cut_at-found, same_cut}
 use Rattle.journal_text.proofs.Fields.{plain-node}
 use Rattle.journal_text.proofs.Parts.{start-again}
 use Rattle.journal_text.proofs.Doings.{is_unbroken, no_effects, effects-begin, effects-again, unbroken-inner, unbroken-effects}
@@ -106,8 +109,8 @@ module _ (names : List (List ℕ)) (are : AreNodeNames names) where
         ap (effects_of names (Some no_effects)) pieces ∙ effects-again names are e.effects w.effects w.event.effects,
       )
 
-  same_text-same_event : (d e : Happening) → IsWritten names d → IsWritten names e → event_text names d ≡ event_text names e → d ≡ e
-  same_text-same_event d e wd we same =
+  one_text-one_event : (d e : Happening) → IsWritten names d → IsWritten names e → event_text names d ≡ event_text names e → d ≡ e
+  one_text-one_event d e wd we same =
       let first = lacks is_inner 59 refl (start_text names d) (inner-start d wd) in
       let cut : IsHeadOf (event_text names d) (start_text names d) (effects_text names d.effects) = record { whole = refl; first = first; begins = effects-begin names are d.effects } in
       let of_d = parts-again d (event_text names d) (start_text names d) (effects_text names d.effects) wd cut refl in
@@ -124,7 +127,7 @@ module _ (names : List (List ℕ)) (are : AreNodeNames names) where
   pub line-cut : (e : Happening) (bytes behind : List ℕ) → IsWritten names e → bytes ≡ line names e ++ behind → cut_at 10 bytes ≡ Some (event_text names e, behind)
   line-cut e bytes behind w same =
       ap (cut_at 10) (same ∙ ap (λ (t : List ℕ). t ++ behind) (line-text names e) ∙ append_assoc (event_text names e) (codes "\n") behind)
-      ∙ cut-found 10 (event_text names e) behind (unbroken e w)
+      ∙ cut_at-found 10 (event_text names e) behind (unbroken e w)
 
   -- what is cut off is the line
   pub line-cut_off : (e : Happening) (bytes behind text back : List ℕ) → IsWritten names e → bytes ≡ line names e ++ behind → cut_at 10 bytes ≡ Some (text, back) → text ++ codes "\n" ≡ line names e
@@ -141,7 +144,7 @@ module _ (names : List (List ℕ)) (are : AreNodeNames names) where
       let joined : line names d ++ x ≡ event_text names d ++ 10 ∷ x = ap (λ (t : List ℕ). t ++ x) (line-text names d) ∙ append_assoc (event_text names d) (codes "\n") x in
       let behind : line names e ++ y ≡ event_text names e ++ 10 ∷ y = ap (λ (t : List ℕ). t ++ y) (line-text names e) ∙ append_assoc (event_text names e) (codes "\n") y in
       let c = same_cut 10 (event_text names d) x (event_text names e) y (unbroken d wd) (unbroken e we) (sym joined ∙ same ∙ behind) in
-      (same_text-same_event d e wd we c.0, c.1)
+      (one_text-one_event d e wd we c.0, c.1)
 
   pub same_line : (d e : Happening) → IsWritten names d → IsWritten names e → line names d ≡ line names e → d ≡ e
   same_line d e wd we same = (one_line d e [] [] wd we (ap (λ (t : List ℕ). t ++ []) same)).0

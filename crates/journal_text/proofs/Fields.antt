@@ -1,5 +1,7 @@
 -- Fields are read as they were written.
 use Rattle.std.proofs.Common.{◌≡◌, ◌≢◌, ◌<◌, ◌≤◌, ◌+◌, ◌-◌, ◌/◌, ◌%◌, ◌^◌, ℕ, zero, suc, Bool, true, false, All, List, [], ◌∷◌, length, get_or, decimal, Option, Some, None, Result, Ok, Err, MatchOption, refl, ap, sym, ◌∙◌, arith}
+use Rattle.std.specs.Prelude.{bytes_eq}
+use Rattle.uid_names.specs.Texts.{text_of}
 use Rattle.std.specs.Prelude.{◌&&◌, nat_le, nat_lt, if◌then◌else◌, is_some, AllPairs, slice_get, unwrap_or}
 use Rattle.std.specs.Int.{w64, from_be_bytes}
 use Rattle.std.proofs.lemmas.Bool.{false≢true, and_parts}
@@ -8,21 +10,24 @@ use Rattle.std.proofs.lemmas.List.Elements.{All-head, All-tail}
 use Rattle.std.proofs.lemmas.Slice.Eq.{bytes_eq-Decides}
 use Rattle.hex.specs.Hex.{decode_sized}
 use Rattle.hex.specs.declared.error.FromHexError.{FromHexError}
-use Rattle.dom_text.proofs.Again.{number_of-decimal}
+use Rattle.dom_text.proofs.Again.{number_spelled-decimal}
+use Rattle.uid_names.proofs.TextTables.{kind_of_name-name, bytes_eq-false, looked_up}
+use Rattle.std.proofs.lemmas.Slice.Eq.{bytes_eq-Decides}
 use Rattle.uid_names.specs.Names.{ObjectName, IsName, number_of}
 use Rattle.uid_names.specs.NameTexts.{IsNameText}
-use Rattle.uid_names.specs.Texts.{text_of}
-use Rattle.uid_names.specs.FrameKinds.{kind_name, all_kinds}
+use Rattle.uid_names.specs.FrameKinds.{kind_name}
+use Rattle.uid_names.specs.declared.limits.TheConstants.{MAX_NODES, NODE_PROCESSES}
 use Rattle.uid_names.specs.declared.frame_kind.FrameKind.{FrameKind}
-use Rattle.uid_names.specs.declared.frame_kind.FrameKind.TheVariants as kinds
 use Rattle.uid_names.proofs.UidTexts.{decoded-text_of}
-use Rattle.dom_history.specs.Events.{IsProcNumber}
-use Rattle.dom_history.specs.EndWords.{word_text, all_ends}
+use Rattle.dom_history.specs.Ranges.{IsProcNumber}
+use Rattle.dom_history.specs.EndWords.{word_text}
+use Rattle.dom_history.proofs.EndTexts.{end_of_word-word}
 use Rattle.dom_history.specs.NodeTexts.{AreNodeNames, name_of}
 use Rattle.dom_history.specs.declared.end_word.EndWord.{EndWord}
-use Rattle.dom_history.specs.declared.end_word.EndWord.TheVariants as ends
 use Rattle.journal_text.specs.Lines.{IsNamed, node_text}
-use Rattle.journal_text.specs.Reading.{same_text, written_so, node_from, node_of, number32_of, proc_of, is_name, uid_from, uid_in, uid_of, kind_of, end_of, what_word_text, what_words, what_word_of, effect_word_text, effect_words, effect_word_of}
+use Rattle.journal_text.specs.Walk.Fields.{node_from, node_of, number32_of, proc_of, is_name, uid_from, uid_in, uid_of, kind_of, end_of}
+use Rattle.journal_text.specs.Walk.LineStarts.{what_word_text, what_words, what_word_of}
+use Rattle.journal_text.specs.Walk.LineEffects.{effect_word_text, effect_words, effect_word_of}
 use Rattle.journal_text.specs.Written.{IsNode}
 use Rattle.journal_text.specs.declared.reading.words.WhatWord.{WhatWord}
 use Rattle.journal_text.specs.declared.reading.words.WhatWord.TheVariants as whats
@@ -30,41 +35,20 @@ use Rattle.journal_text.specs.declared.reading.words.EffectWord.{EffectWord}
 use Rattle.journal_text.specs.declared.reading.words.EffectWord.TheVariants as effects
 use Rattle.journal_text.proofs.Plain.{plain, plain-name}
 
--- ---- texts
-
-same_text-refl : (a b : List ℕ) → a ≡ b → same_text a b ≡ true
-same_text-refl a b e = (bytes_eq-Decides a b).1 e
-
-same_text-false : (a b : List ℕ) → (a ≡ b → ⊥) → same_text a b ≡ false
-same_text-false a b ne = by_test (same_text a b) refl where
-  by_test : (t : Bool) → same_text a b ≡ t → t ≡ false
-  by_test true e = absurd (ne ((bytes_eq-Decides a b).0 e))
-  by_test false e = refl
-
-none_found : {X : Type 0} (text : X → List ℕ) (word : List ℕ) → ((x : X) → word ≢ text x) → (xs : List X) → written_so text xs word ≡ None
-none_found text word h [] = refl
-none_found text word h (x ∷ xs) = rw (same_text-false (text x) word (λ e. h x (sym e))) (none_found text word h xs)
-
--- what a search of a table answers
-looked_up : {X : Type 0} (text : X → List ℕ) (xs : List X) → ((x : X) → written_so text xs (text x) ≡ Some x)
-    → (r : Option X) (word : List ℕ) → MatchOption r ((x : X) → word ≢ text x) (λ x. word ≡ text x) → r ≡ written_so text xs word
-looked_up text xs again None word h = sym (none_found text word h xs)
-looked_up text xs again (Some x) word h = sym (ap (written_so text xs) h ∙ again x)
-
 -- ---- numbers
 
 pub number32-again : (n : ℕ) → n < 2 ^ 32 → number32_of (decimal n) ≡ Some n
 unfolding number32_of
 number32-again n h =
     let small : nat_lt n 4294967296 ≡ true = grind (arith, nat_tests) in
-    rw (number_of-decimal n (omega arith), small) refl
+    rw (number_spelled-decimal n (omega arith), small) refl
 
 pub proc-again : (p : ℕ) → IsProcNumber p → proc_of (decimal p) ≡ Some p
 unfolding proc_of
 proc-again p h =
     let low : nat_le 1 p ≡ true = grind (arith, nat_tests, h.0) in
-    let high : nat_le p 4 ≡ true = grind (arith, nat_tests, h.1) in
-    rw (number_of-decimal p (omega (arith, h.1)), low, high) refl
+    let high : nat_le p NODE_PROCESSES ≡ true = grind (arith, nat_tests, h.1) in
+    rw (number_spelled-decimal p (omega (arith, h.1)), low, high) refl
 
 -- ---- nodes
 
@@ -74,11 +58,11 @@ node-at k [] i word once h = cc
 node-at k (name ∷ names) zero word once h =
     let same : name ≡ word = cc in
     let e : k + 0 ≡ k = omega arith in
-    rw (same_text-refl name word same, e) refl
+    rw ((bytes_eq-Decides name word).1 same, e) refl
 node-at k (name ∷ names) (suc i) word once h =
     let later : (name ≡ word) → ⊥ = λ e. apart name names i word once h e in
     let e : k + suc i ≡ k + 1 + i = omega arith in
-    rw (same_text-false name word later, e) (node-at (k + 1) names i word (λ a b d below bound. once (suc a) (suc b) d (omega arith) (omega arith)) h)
+    rw (bytes_eq-false name word later, e) (node-at (k + 1) names i word (λ a b d below bound. once (suc a) (suc b) d (omega arith) (omega arith)) h)
   where
     at_most : (names : List (List ℕ)) (i : ℕ) (word d : List ℕ) → slice_get names i ≡ Some word → (i < length names) × (get_or names i d ≡ word)
     at_most [] i word d h = cc
@@ -109,7 +93,7 @@ node-again names n are is =
 none-from : (k : ℕ) (names : List (List ℕ)) (word : List ℕ) → All (λ other. other ≢ word) names → node_from k names word ≡ None
 none-from k [] word h = refl
 none-from k (name ∷ names) word h =
-    rw (same_text-false name word (All-head (λ other. other ≢ word) name names h)) (none-from (k + 1) names word (All-tail (λ other. other ≢ word) name names h))
+    rw (bytes_eq-false name word (All-head (λ other. other ≢ word) name names h)) (none-from (k + 1) names word (All-tail (λ other. other ≢ word) name names h))
 
 pub node-none : (names : List (List ℕ)) (word : List ℕ) → All (λ other. other ≢ word) names → node_of names word ≡ None
 unfolding node_of
@@ -139,14 +123,14 @@ is_name-true u is =
     let low : nat_le 1 u.counter ≡ true = grind (arith, nat_tests, is.counter_low) in
     let bound : nat_lt u.counter (2 ^ 44) ≡ true = grind (arith, nat_tests, is.counter_high) in
     let first : nat_le 1 u.home ≡ true = grind (arith, nat_tests, is.home_low) in
-    let last : nat_le u.home 8 ≡ true = grind (arith, nat_tests, is.home_high) in
+    let last : nat_le u.home MAX_NODES ≡ true = grind (arith, nat_tests, is.home_high) in
     rw (low, bound, first, last) refl
 
 name_is-true : (u : ObjectName) → is_name u ≡ true → IsName u
 name_is-true u h =
-    let p = and_parts (nat_le 1 u.counter && nat_lt u.counter (2 ^ 44)) (nat_le 1 u.home && nat_le u.home 8) h in
+    let p = and_parts (nat_le 1 u.counter && nat_lt u.counter (2 ^ 44)) (nat_le 1 u.home && nat_le u.home MAX_NODES) h in
     let c = and_parts (nat_le 1 u.counter) (nat_lt u.counter (2 ^ 44)) p.0 in
-    let n = and_parts (nat_le 1 u.home) (nat_le u.home 8) p.1 in
+    let n = and_parts (nat_le 1 u.home) (nat_le u.home MAX_NODES) p.1 in
     record {
       counter_low = grind (arith, nat_tests, c.0);
       counter_high = grind (arith, nat_tests, c.1);
@@ -155,9 +139,9 @@ name_is-true u h =
     }
 
 from-name : (word : List ℕ) (u : ObjectName) → IsName u → word ≡ text_of u → uid_from word u ≡ Some u
-from-name word u is e = rw (is_name-true u is, same_text-refl (text_of u) word (sym e)) refl
+from-name word u is e = rw (is_name-true u is, (bytes_eq-Decides (text_of u) word).1 (sym e)) refl
 
-none-from_name : (word : List ℕ) (u : ObjectName) (a b : Bool) → is_name u ≡ a → same_text (text_of u) word ≡ b → (IsName u → word ≢ text_of u) → (if a && b then Some u else None) ≡ None
+none-from_name : (word : List ℕ) (u : ObjectName) (a b : Bool) → is_name u ≡ a → bytes_eq (text_of u) word ≡ b → (IsName u → word ≢ text_of u) → (if a && b then Some u else None) ≡ None
 none-from_name word u true true is same h = absurd (h (name_is-true u is) (sym ((bytes_eq-Decides (text_of u) word).0 same)))
 none-from_name word u true false is same h = refl
 none-from_name word u false b is same h = refl
@@ -166,7 +150,7 @@ uid_in-none : (word : List ℕ) (r : Result (List ℕ) FromHexError) → ((u : O
 uid_in-none word (Err e) h = refl
 uid_in-none word (Ok bytes) h =
     let u : ObjectName = record { counter = from_be_bytes w64 bytes / 2 ^ 20; home = from_be_bytes w64 bytes % 2 ^ 20 } in
-    none-from_name word u (is_name u) (same_text (text_of u) word) refl refl (h u)
+    none-from_name word u (is_name u) (bytes_eq (text_of u) word) refl refl (h u)
 
 pub uid-none : (word : List ℕ) → ((u : ObjectName) → IsName u → word ≢ text_of u) → uid_of word ≡ None
 unfolding uid_of
@@ -187,46 +171,11 @@ uid-again word u is text = uid_in-again word (decode_sized word 8) refl u is tex
 
 pub kind-again : (k : FrameKind) → kind_of (kind_name k) ≡ Some k
 unfolding kind_of
-kind-again kinds.PageIn = refl
-kind-again kinds.PageOut = refl
-kind-again kinds.AttrOut = refl
-kind-again kinds.Lock = refl
-kind-again kinds.Unlock = refl
-kind-again kinds.Remove = refl
-kind-again kinds.Make = refl
-kind-again kinds.List = refl
-kind-again kinds.Page = refl
-kind-again kinds.Stored = refl
-kind-again kinds.Stale = refl
-kind-again kinds.NoGrant = refl
-kind-again kinds.NoObject = refl
-kind-again kinds.Granted = refl
-kind-again kinds.Conflict = refl
-kind-again kinds.Done = refl
-kind-again kinds.Made = refl
-kind-again kinds.NoSpace = refl
-kind-again kinds.Listed = refl
+kind-again k = kind_of_name-name k
 
 pub end-again : (w : EndWord) → end_of (word_text w) ≡ Some w
 unfolding end_of
-end-again ends.Fine = refl
-end-again ends.Conflict = refl
-end-again ends.NoObject = refl
-end-again ends.AlreadyHeld = refl
-end-again ends.NotHeld = refl
-end-again ends.Unsettled = refl
-end-again ends.TooMany = refl
-end-again ends.NoLock = refl
-end-again ends.WrongMode = refl
-end-again ends.PastRoom = refl
-end-again ends.PastEnd = refl
-end-again ends.NoSpace = refl
-end-again ends.Kept = refl
-end-again ends.Doubt = refl
-end-again ends.LinkFault = refl
-end-again ends.TooManyMaps = refl
-end-again ends.NoSegment = refl
-end-again ends.NotMapped = refl
+end-again w = end_of_word-word w
 
 pub what_word-again : (w : WhatWord) → what_word_of (what_word_text w) ≡ Some w
 unfolding what_word_of
@@ -244,14 +193,6 @@ effect_word-again effects.Send = refl
 effect_word-again effects.End = refl
 
 -- a look-up in a table finds what the table has
-pub kind-looked_up : (r : Option FrameKind) (word : List ℕ) → MatchOption r ((k : FrameKind) → word ≢ kind_name k) (λ k. word ≡ kind_name k) → r ≡ kind_of word
-unfolding kind_of
-kind-looked_up r word h = looked_up kind_name all_kinds kind-again r word h
-
-pub end-looked_up : (r : Option EndWord) (word : List ℕ) → MatchOption r ((w : EndWord) → word ≢ word_text w) (λ w. word ≡ word_text w) → r ≡ end_of word
-unfolding end_of
-end-looked_up r word h = looked_up word_text all_ends end-again r word h
-
 pub what_word-looked_up : (r : Option WhatWord) (word : List ℕ) → MatchOption r ((w : WhatWord) → word ≢ what_word_text w) (λ w. word ≡ what_word_text w) → r ≡ what_word_of word
 unfolding what_word_of
 what_word-looked_up r word h = looked_up what_word_text what_words what_word-again r word h

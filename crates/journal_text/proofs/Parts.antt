@@ -1,32 +1,36 @@
 -- The parts of a line are read as they were written.
 use Rattle.std.proofs.Common.{◌≡◌, ◌<◌, ◌^◌, ℕ, true, List, ◌∷◌, ◌++◌, drop, decimal, Some, refl, ap, sym, append_assoc, arith}
-use Rattle.dom_text.proofs.Again.{number_of-decimal}
+use Rattle.dom_text.proofs.Again.{number_spelled-decimal}
 use Rattle.uid_names.specs.Names.{ObjectName}
 use Rattle.uid_names.specs.Texts.{text_of}
 use Rattle.uid_names.specs.FrameKinds.{kind_name}
 use Rattle.uid_names.specs.declared.ids.Place.{Place}
 use Rattle.dom_history.specs.EndWords.{word_text}
-use Rattle.dom_history.specs.Events.{IsWhat, IsProcNumber, IsKindNumber}
+use Rattle.dom_history.specs.Events.{IsWhat, IsKindNumber}
+use Rattle.dom_history.specs.Ranges.{IsProcNumber}
 use Rattle.dom_history.specs.NodeTexts.{AreNodeNames}
 use Rattle.dom_history.specs.declared.end_word.EndWord.{EndWord}
 use Rattle.dom_history.specs.declared.event.What.{What}
 use Rattle.dom_history.specs.declared.event.What.TheVariants.{Begin, Go, Take, Notice, Ready, Mark}
 use Rattle.dom_history.specs.declared.event.Sent.{Sent}
 use Rattle.journal_text.specs.Lines.{node_text, numbered_text, kind_text, what_text, place_text}
-use Rattle.journal_text.specs.Reading.{cut_at, numbered_of, notice_of, mark_of, what_word_of, what_behind, what_of, start_of, page_of, sent_of, ended_of, effect_word_of, effect_behind, effect_in, effect_of}
-use Rattle.journal_text.specs.Spelling.{effect_text, IsEffect}
+use Rattle.dom_text.specs.Cuts.{cut_at}
+use Rattle.journal_text.specs.Walk.Fields.{numbered_of}
+use Rattle.journal_text.specs.Walk.LineStarts.{notice_of, mark_of, what_word_of, what_behind, what_of, start_of}
+use Rattle.journal_text.specs.Walk.LineEffects.{page_of, sent_of, ended_of, effect_word_of, effect_behind, effect_in, effect_of}
+use Rattle.journal_text.specs.Walk.EffectTexts.{effect_text, IsEffect}
 use Rattle.journal_text.specs.Written.{IsNode, IsCount, IsWhatOf, IsPage, IsSent}
 use Rattle.journal_text.specs.declared.reading.effects.Effect.{Effect}
 use Rattle.journal_text.specs.declared.reading.effects.Effect.TheVariants.{Drop, Send, End}
 use Rattle.journal_text.proofs.KindNames.{kind_text_of}
 use Rattle.journal_text.proofs.Plain.{plain, is_plain, lacks, plain-decimal, plain-uid, plain-kind}
-use Rattle.journal_text.proofs.Splits.{cut-found}
+use Rattle.dom_text.proofs.Cutting.{cut_at-found}
 use Rattle.journal_text.proofs.Fields.{node-again, plain-node, number32-again, proc-again, uid-again, kind-again, end-again}
 
 module _ (names : List (List ℕ)) (are : AreNodeNames names) where
   -- a field in front of a space
   at_space : (field rest : List ℕ) → plain field ≡ true → cut_at 32 (field ++ 32 ∷ rest) ≡ Some (field, rest)
-  at_space field rest h = cut-found 32 field rest (lacks is_plain 32 refl field h)
+  at_space field rest h = cut_at-found 32 field rest (lacks is_plain 32 refl field h)
 
   node_at_space : (n : ℕ) (rest : List ℕ) → IsNode names n → cut_at 32 (node_text names n ++ 32 ∷ rest) ≡ Some (node_text names n, rest)
   node_at_space n rest is = at_space (node_text names n) rest (plain-node names n are is.named)
@@ -36,7 +40,7 @@ module _ (names : List (List ℕ)) (are : AreNodeNames names) where
 
   numbered-again : (n i : ℕ) → IsNode names n → IsCount i → numbered_of names (numbered_text names n i) ≡ Some (n, i)
   unfolding numbered_of
-  numbered-again n i is h = rw (node_at_space n (decimal i) is, node-again names n are is, number_of-decimal i h) refl
+  numbered-again n i is h = rw (node_at_space n (decimal i) is, node-again names n are is, number_spelled-decimal i h) refl
 
   -- ---- what an event is
 
@@ -74,7 +78,7 @@ module _ (names : List (List ℕ)) (are : AreNodeNames names) where
       rw (
         text,
         number_at_space place.tick (node_text names place.node ++ (32 ∷ what_text names w)) tick,
-        number_of-decimal place.tick tick,
+        number_spelled-decimal place.tick tick,
         node_at_space place.node (what_text names w) node,
         node-again names place.node are node,
         what-again w is h,
@@ -98,10 +102,10 @@ module _ (names : List (List ℕ)) (are : AreNodeNames names) where
         node_at_space s.to (decimal s.index ++ (32 ∷ (kind_name kind.0 ++ (32 ∷ decimal s.number)))) is.to,
         node-again names s.to are is.to,
         number_at_space s.index (kind_name kind.0 ++ (32 ∷ decimal s.number)) is.index,
-        number_of-decimal s.index is.index,
+        number_spelled-decimal s.index is.index,
         at_space (kind_name kind.0) (decimal s.number) (plain-kind kind.0),
         kind-again kind.0,
-        number_of-decimal s.number is.number,
+        number_spelled-decimal s.number is.number,
       )
       (ap (λ (k : ℕ). Some (record { to = s.to; index = s.index; kind = k; number = s.number })) (sym kind.1))
 

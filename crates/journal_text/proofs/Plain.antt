@@ -22,7 +22,7 @@ use Rattle.uid_names.specs.declared.frame_kind.FrameKind.TheVariants as kinds
 use Rattle.dom_history.specs.EndWords.{word_text}
 use Rattle.dom_history.specs.declared.end_word.EndWord.{EndWord}
 use Rattle.dom_history.specs.declared.end_word.EndWord.TheVariants as ends
-use Rattle.journal_text.specs.Cuts.{Lacks}
+use Rattle.dom_text.specs.Cuts.{Lacks}
 
 -- a byte that may stand in a field
 abbrev pub is_plain : ℕ → Bool

@@ -1,7 +1,5 @@
 pub mod Lines
 pub mod Buffers
-pub mod Cuts
 pub mod Written
-pub mod Reading
-pub mod Spelling
 pub mod Faults
+pub mod Walk

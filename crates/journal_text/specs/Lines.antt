@@ -1,9 +1,9 @@
 -- The line of each event in a journal.
-use Rattle.std.specs.Prelude.{ℕ, ◌==◌, List, [], ◌∷◌, ◌++◌, codes, decimal, find, Option, Some, None, IsSome, IfSome, unwrap_or}
+use Rattle.std.specs.Prelude.{ℕ, List, [], ◌++◌, codes, decimal, Option, Some, None, IsSome, IfSome, unwrap_or}
 use Rattle.std.specs.List.{flat_map}
 use Rattle.uid_names.specs.Names.{ObjectName}
 use Rattle.uid_names.specs.Texts.{text_of}
-use Rattle.uid_names.specs.FrameKinds.{kind_number, kind_name, all_kinds}
+use Rattle.uid_names.specs.FrameKinds.{kind_name, kind_of_number}
 use Rattle.uid_names.specs.declared.frame_kind.FrameKind.{FrameKind}
 use Rattle.uid_names.specs.declared.ids.Place.{Place}
 use Rattle.dom_history.specs.Events.{Happening}
@@ -25,7 +25,7 @@ name_in (Some kind) = kind_name kind
 
 -- the name of the kind that has this number
 unfoldable pub kind_text : ℕ → List ℕ
-kind_text number = name_in (find (λ kind. kind_number kind == number) all_kinds)
+kind_text number = name_in (kind_of_number number)
 
 -- a node, and a number behind it
 abbrev pub numbered_text : List (List ℕ) → ℕ → ℕ → List ℕ

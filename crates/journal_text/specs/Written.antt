@@ -1,6 +1,7 @@
 -- Which events have a line, which bytes are the journal of which events, and where bytes are none.
 use Rattle.std.specs.Prelude.{ℕ, ◌≡◌, ◌≢◌, ◌+◌, ◌<◌, ◌≤◌, ◌^◌, IsTrue, Option, Some, None, IfSome, List, [], ◌∷◌, ◌++◌, All, length}
 use Rattle.uid_names.specs.Names.{ObjectName, IsName}
+use Rattle.uid_names.specs.declared.limits.TheConstants.{MAX_NODES}
 use Rattle.uid_names.specs.declared.ids.Place.{Place}
 use Rattle.dom_history.specs.Events.{Happening, IsEvent}
 use Rattle.dom_history.specs.Histories.{place_lt}
@@ -10,10 +11,10 @@ use Rattle.dom_history.specs.declared.event.Sent.{Sent}
 use Rattle.dom_history.specs.declared.event.Effects.{Effects}
 use Rattle.journal_text.specs.Lines.{IsNamed, line, journal}
 
--- one of the nodes 1 to 8, which has a name
+-- one of the nodes, which has a name
 pub record IsNode (names : List (List ℕ)) (node : ℕ) : Type 0 where
   pub low : 1 ≤ node
-  pub high : node ≤ 8
+  pub high : node ≤ MAX_NODES
   pub named : IsNamed names node
 
 -- the index of a frame on its link, the number of a call, or a tick

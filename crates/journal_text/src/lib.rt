@@ -2,7 +2,7 @@
 #![tactic(auto)]
 
 pub mod buffer;
-mod cuts;
+mod heads;
 pub mod laws;
 pub mod named;
 pub mod reading;

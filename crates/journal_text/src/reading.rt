@@ -12,8 +12,8 @@ mod event;
 mod fields;
 mod words;
 
-use crate::cuts::cut;
 use dom_history::{Event, EventList, NodeNames};
+use dom_text::cut;
 use event::read_event;
 use std::alloc::Global;
 use thiserror::Error;

@@ -1,5 +1,6 @@
 ghost use Rattle.std.specs.Prelude.{IfSome};
-ghost use Rattle.dom_history.specs.Events.{IsKindNumber, IsProcNumber};
+ghost use Rattle.dom_history.specs.Events.{IsKindNumber};
+ghost use Rattle.dom_history.specs.Ranges.{IsProcNumber};
 
 use super::*;
 use What::{Begin, Mark, Notice, Ready, Take};
@@ -203,15 +204,6 @@ fn dropped_pages_stand_before_what_was_sent_and_ended(rt: HostRuntime) -> Result
     Ok(())
 }
 
-#[test]
-fn a_node_without_a_name_is_seen(rt: HostRuntime) -> Result<(), Fail> {
-    let row: Row = (1, node(3)?, What::Begin(1), None, None);
-    let mut events = EventList::new(rt.alloc());
-    events.push(event(&rt, Dropped::new(rt.alloc()), &row))?;
-    assert!(rt; !are_named(&events, &names(rt.alloc())?));
-    Ok(())
-}
-
 /// Whether the bytes are read as a journal, and written again as they are.
 fn is_read_again(alloc: Global, text: &[u8]) -> Result<bool, Fail> {
     let names = names(alloc)?;
@@ -225,13 +217,16 @@ fn is_read_again(alloc: Global, text: &[u8]) -> Result<bool, Fail> {
     Ok(journal.bytes() == text)
 }
 
-/// The first bad line of the bytes; None where they are a journal.
-fn bad_line(alloc: Global, text: &[u8]) -> Result<Option<u64>, Fail> {
-    match read_journal(alloc, text, &names(alloc)?) {
-        Ok(_) => Ok(None),
-        Err(JournalFault::BadLine(line)) => Ok(Some(line)),
-        Err(JournalFault::NoMemory) => Err("no memory".into()),
+/// Whether the first bad line of each text is the one beside it.
+fn are_refused(alloc: Global, rows: &[(&str, u64)]) -> Result<bool, Fail> {
+    let names = names(alloc)?;
+    for (text, line) in rows {
+        match read_journal(alloc, text.as_bytes(), &names) {
+            Err(JournalFault::BadLine(found)) if found == *line => {}
+            _ => return Ok(false),
+        }
     }
+    Ok(true)
 }
 
 #[test]
@@ -255,81 +250,71 @@ fn each_event_and_effect_is_read(rt: HostRuntime) -> Result<(), Fail> {
 }
 
 #[test]
-fn a_place_that_is_not_above_the_one_before_is_refused(rt: HostRuntime) -> Result<(), Fail> {
-    let exchanged = b"2 b take a 1; send a 1 granted 1\n1 a begin 1; send b 1 lock 1\n";
-    assert_eq!(rt; bad_line(rt.alloc(), exchanged)?, Some(2));
-    assert_eq!(rt;
-        bad_line(rt.alloc(), b"1 b begin 1\n1 a begin 1\n")?,
-        Some(2)
-    );
-    assert_eq!(rt;
-        bad_line(rt.alloc(), b"1 a begin 1\n2 a begin 1\n2 a go 1\n")?,
-        Some(3)
-    );
-    Ok(())
-}
-
-#[test]
-fn the_first_line_that_is_none_is_named(rt: HostRuntime) -> Result<(), Fail> {
-    assert_eq!(rt; bad_line(rt.alloc(), b"1 a begin 5\n")?, Some(1));
-    assert_eq!(rt;
-        bad_line(rt.alloc(), b"1 a begin 4\n2 a begin 0\n\n")?,
-        Some(2)
-    );
-    assert_eq!(rt; bad_line(rt.alloc(), b"1 a begin 1\n2 a ready 1")?, Some(2));
+fn the_first_line_that_is_none_or_not_above_the_one_before_is_named(
+    rt: HostRuntime,
+) -> Result<(), Fail> {
+    let rows = [
+        (
+            "2 b take a 1; send a 1 granted 1\n1 a begin 1; send b 1 lock 1\n",
+            2,
+        ),
+        ("1 b begin 1\n1 a begin 1\n", 2),
+        ("1 a begin 1\n2 a begin 1\n2 a go 1\n", 3),
+        ("1 a begin 5\n", 1),
+        ("1 a begin 4\n2 a begin 0\n\n", 2),
+        ("1 a begin 1\n2 a ready 1", 2),
+    ];
+    assert!(rt; are_refused(rt.alloc(), &rows)?);
     Ok(())
 }
 
 #[test]
 fn texts_that_differ_from_a_line_are_refused(rt: HostRuntime) -> Result<(), Fail> {
-    let texts = [
-        "\n",
-        " 1 a begin 1\n",
-        "1  a begin 1\n",
-        "1 a begin 1 \n",
-        "1 a begin 1\r\n",
-        "01 a begin 1\n",
-        "1 a begin 01\n",
-        "1 c begin 1\n",
-        "1 a start 1\n",
-        "1 a begin\n",
-        "1 a take b\n",
-        "1 a ready 4294967296\n",
-        "18446744073709551616 a begin 1\n",
-        "1 a take a 18446744073709551616\n",
+    let rows = [
+        ("\n", 1),
+        (" 1 a begin 1\n", 1),
+        ("1  a begin 1\n", 1),
+        ("1 a begin 1 \n", 1),
+        ("1 a begin 1\r\n", 1),
+        ("01 a begin 1\n", 1),
+        ("1 a begin 01\n", 1),
+        ("1 c begin 1\n", 1),
+        ("1 a start 1\n", 1),
+        ("1 a begin\n", 1),
+        ("1 a take b\n", 1),
+        ("1 a ready 4294967296\n", 1),
+        ("18446744073709551616 a begin 1\n", 1),
+        ("1 a take a 18446744073709551616\n", 1),
+        ("1 a begin 1;\n", 1),
+        ("1 a begin 1; \n", 1),
+        ("1 a begin 1 end 1 ok\n", 1),
+        ("1 a begin 1;end 1 ok\n", 1),
+        ("1 a begin 1;  end 1 ok\n", 1),
+        ("1 a begin 1; end 1 done\n", 1),
+        ("1 a begin 1; end 5 ok\n", 1),
+        ("1 a begin 1; send a 1 ok 1\n", 1),
+        ("1 a begin 1; send c 1 make 1\n", 1),
+        ("1 a begin 1; send a 1 make\n", 1),
+        ("1 a begin 1; send a 1 make 1; send a 2 make 1\n", 1),
+        ("1 a begin 1; end 1 ok; end 1 ok\n", 1),
+        ("1 a begin 1; end 1 ok; send a 1 make 1\n", 1),
+        ("1 a begin 1; send a 1 make 1; drop 0000000000200001 0\n", 1),
+        (
+            "1 a begin 1; drop 0000000000200001 1; drop 0000000000200001 0\n",
+            1,
+        ),
+        (
+            "1 a begin 1; drop 0000000000200001 1; drop 0000000000200001 1\n",
+            1,
+        ),
+        (
+            "1 a begin 1; drop 0000000000200002 0; drop 0000000000200001 1\n",
+            1,
+        ),
+        ("1 a begin 1; drop 000000000020000A 0\n", 1),
+        ("1 a begin 1; drop 0000000000200009 0\n", 1),
+        ("1 a begin 1; drop 0000000000200001 4294967296\n", 1),
     ];
-    for text in texts {
-        assert_eq!(rt; bad_line(rt.alloc(), text.as_bytes())?, Some(1));
-    }
-    Ok(())
-}
-
-#[test]
-fn effects_that_differ_from_a_line_are_refused(rt: HostRuntime) -> Result<(), Fail> {
-    let texts = [
-        "1 a begin 1;\n",
-        "1 a begin 1; \n",
-        "1 a begin 1 end 1 ok\n",
-        "1 a begin 1;end 1 ok\n",
-        "1 a begin 1;  end 1 ok\n",
-        "1 a begin 1; end 1 done\n",
-        "1 a begin 1; end 5 ok\n",
-        "1 a begin 1; send a 1 ok 1\n",
-        "1 a begin 1; send c 1 make 1\n",
-        "1 a begin 1; send a 1 make\n",
-        "1 a begin 1; send a 1 make 1; send a 2 make 1\n",
-        "1 a begin 1; end 1 ok; end 1 ok\n",
-        "1 a begin 1; end 1 ok; send a 1 make 1\n",
-        "1 a begin 1; send a 1 make 1; drop 0000000000200001 0\n",
-        "1 a begin 1; drop 0000000000200001 1; drop 0000000000200001 0\n",
-        "1 a begin 1; drop 0000000000200001 1; drop 0000000000200001 1\n",
-        "1 a begin 1; drop 0000000000200002 0; drop 0000000000200001 1\n",
-        "1 a begin 1; drop 000000000020000A 0\n",
-        "1 a begin 1; drop 0000000000200009 0\n",
-        "1 a begin 1; drop 0000000000200001 4294967296\n",
-    ];
-    for text in texts {
-        assert_eq!(rt; bad_line(rt.alloc(), text.as_bytes())?, Some(1));
-    }
+    assert!(rt; are_refused(rt.alloc(), &rows)?);
     Ok(())
 }

@@ -4,9 +4,9 @@ use Rattle.std.proofs.lemmas.List.{get_or-take, get_or_default, length-take}
 use Rattle.uid_names.specs.Names.{same_uid}
 use Rattle.uid_names.specs.Openings.{IsUnnamed}
 use Rattle.uid_names.specs.declared.opening.Object.{Object}
-use Rattle.uid_names.specs.declared.mode.TheConstants.{MAX_ROOM}
+use Rattle.uid_names.specs.declared.limits.TheConstants.{MAX_ROOM}
 use Rattle.uid_names.specs.Beginnings.{CanBegin}
-use Rattle.script_reader.specs.Starts.{AreStarts}
+use Rattle.script_reader.specs.Walk.Starts.{AreStarts}
 
 pub can_begin : (nodes : ℕ) (starts : List Object) → AreStarts nodes starts → CanBegin (record { nodes = nodes; greatest = MAX_ROOM; objects = starts })
 can_begin nodes starts h = record { homes = λ home. record { counters = h.counters home; fits = h.volume home } }

@@ -1,20 +1,25 @@
 -- A draft's fields after each kind of line: what they hold, and the content that they come to.
 use Rattle.std.proofs.Common.{◌≡◌, ◌≤◌, ◌<◌, ◌+◌, ◌-◌, ℕ, true, false, List, [], ◌∷◌, ◌++◌, length, length-append, get_or, set, ap, sym, subst, ◌∙◌, arith}
 use Rattle.std.specs.Global.{Vec}
-use Rattle.uid_names.specs.Names.{ObjectName, ProcName}
-use Rattle.uid_names.specs.declared.mode.TheConstants.{MAX_ROOM}
+use Rattle.uid_names.specs.Names.{IsName, ObjectName, ProcName}
+use Rattle.uid_names.specs.declared.limits.TheConstants.{MAX_NODES, VOLUME_ROOM}
+use Rattle.uid_names.specs.Rooms.{IsRoom}
 use Rattle.uid_names.specs.declared.mode.ObjKind.TheVariants.{File}
 use Rattle.uid_names.specs.declared.opening.Object.{Object}
 use Rattle.uid_names.specs.Beginnings.{at_home}
 use Rattle.dom_history.specs.Plans.{IsPlan}
 use Rattle.dom_history.specs.declared.plan.FateRow.{FateRow}
-use Rattle.script_reader.specs.Drafts.{content_of, HoldsDraft}
-use Rattle.script_reader.specs.Named.{HoldsNamed}
-use Rattle.script_reader.specs.Index.{HasAlso}
+use Rattle.script_reader.specs.Walk.Drafts.{content_of, HoldsDraft}
+use Rattle.script_reader.specs.Walk.Named.{HoldsNamed}
+use Rattle.script_reader.specs.Walk.Index.{HasAlso}
 use Rattle.script_reader.specs.NodeNames.{is_node_name}
 use Rattle.script_reader.specs.Limits.{pages_at}
 use Rattle.script_reader.specs.After.{declared_at, next_uid, with_node, with_nodes}
-use Rattle.script_reader.specs.Scripts.{IsCommand, IsDraft, IsFateRow, IsSpoken, is_declared}
+use Rattle.dom_history.specs.Ranges.{IsProcName}
+use Rattle.script_reader.specs.Commands.{IsCommand}
+use Rattle.script_reader.specs.Scripts.{IsDraft}
+use Rattle.script_reader.specs.Fates.{IsFateRow}
+use Rattle.script_reader.specs.Variables.{IsSpoken, is_declared}
 use Rattle.script_reader.specs.Words.{is_name}
 use Rattle.script_reader.specs.declared.command.Command.{Command}
 use Rattle.script_reader.specs.declared.draft.Draft.TheInside.{Inside}
@@ -29,7 +34,7 @@ pub content-node : (d : Inside) (nodes : Vec NodeRow) (name : List ℕ) (frames 
 content-node d nodes name frames e = ap (with_nodes (content_of d)) e
 
 pub held-node : (d : Inside) (nodes : Vec NodeRow) (name : List ℕ) (frames : ℕ) → HoldsDraft d → nodes.items ≡ d.nodes.items ++ record { name = name; frames = frames } ∷ []
-    → is_name name ≡ true → 5 ≤ frames → frames ≤ 256 → is_node_name d.nodes.items name ≡ false → length d.nodes.items < 8 → HoldsDraft (record d { nodes = nodes })
+    → is_name name ≡ true → 5 ≤ frames → frames ≤ 256 → is_node_name d.nodes.items name ≡ false → length d.nodes.items < MAX_NODES → HoldsDraft (record d { nodes = nodes })
 held-node d nodes name frames h e named few many new room =
     let more : length nodes.items ≡ length (d.nodes.items ++ record { name = name; frames = frames } ∷ []) = ap length e in
     let wide : length d.nodes.items ≤ length nodes.items = omega (arith, more, length-append d.nodes.items (record { name = name; frames = frames } ∷ [])) in record {
@@ -66,10 +71,10 @@ with_object_fields d starts objects declared at room = record d {
 
 -- a command more
 pub held-command : (d : Inside) (commands : Vec CommandRow) (sets : List (List (List ℕ))) (proc : ProcName) (command : Command) → HoldsDraft d → commands.items ≡ d.commands.items ++ record { proc = proc; phase = d.phases; command = command } ∷ []
-    → HoldsNamed sets (d.commands.items ++ record { proc = proc; phase = d.phases; command = command } ∷ []) → proc.node ≤ length d.nodes.items → IsCommand (length d.nodes.items) command
+    → HoldsNamed sets (d.commands.items ++ record { proc = proc; phase = d.phases; command = command } ∷ []) → IsProcName proc → proc.node ≤ length d.nodes.items → IsCommand (length d.nodes.items) command
     → IsSpoken d.objects.items d.commands.items proc command → length d.commands.items < 20000 → HoldsDraft (record d { commands = commands; named = sets })
-held-command d commands sets proc command h e named node range spoken room = record {
-  draft = rw e (IsDraft-command (content_of d) proc command h.draft node range spoken room);
+held-command d commands sets proc command h e named is node range spoken room = record {
+  draft = rw e (IsDraft-command (content_of d) proc command h.draft is node range spoken room);
   starts = h.starts;
   declared = h.declared;
   named = rw e named;
@@ -77,29 +82,29 @@ held-command d commands sets proc command h e named node range spoken room = rec
 }
 
 -- an object more
-pub held-object : (d : Inside) (starts : Vec Object) (objects : Vec VarRow) (declared : List (List ℕ)) (var : List ℕ) (home room at : ℕ) (uid : ObjectName) → HoldsDraft d → uid ≡ next_uid d.starts.items home
+pub held-object : (d : Inside) (starts : Vec Object) (objects : Vec VarRow) (declared : List (List ℕ)) (var : List ℕ) (home room at : ℕ) (uid : ObjectName) → HoldsDraft d → uid ≡ next_uid d.starts.items home → IsName uid
     → starts.items ≡ d.starts.items ++ record { uid = uid; kind = File; room = room } ∷ [] → objects.items ≡ d.objects.items ++ record { var = var; uid = uid } ∷ [] → HasAlso d.declared declared var
-    → is_name var ≡ true → 1 ≤ home → home ≤ length d.nodes.items → at ≡ home - 1 → 1 ≤ room → room ≤ MAX_ROOM → is_declared d.objects.items var ≡ false → d.commands.items ≡ [] → pages_at home d.starts.items + room ≤ 16384
+    → is_name var ≡ true → 1 ≤ home → home ≤ length d.nodes.items → at ≡ home - 1 → IsRoom room → is_declared d.objects.items var ≡ false → d.commands.items ≡ [] → pages_at home d.starts.items + room ≤ VOLUME_ROOM
     → HoldsDraft (with_object_fields d starts objects declared at room)
-held-object d starts objects declared var home room at uid h u es' eo' also named least most place low high new none fits =
+held-object d starts objects declared var home room at uid h u is es' eo' also named least most place range new none fits =
     let few = h.draft.few_nodes in
     let es : starts.items ≡ d.starts.items ++ declared_at (content_of d) home room ∷ [] = es' ∙ ap (λ x. d.starts.items ++ record { uid = x; kind = File; room = room } ∷ []) u in
     let eo : objects.items ≡ d.objects.items ++ record { var = var; uid = next_uid d.starts.items home } ∷ [] = eo' ∙ ap (λ x. d.objects.items ++ record { var = var; uid = x } ∷ []) u in record {
-      draft = rw (es, eo) (IsDraft-object (content_of d) var home room h.draft named most new none);
-      starts = rw es (AreStarts-push (length d.nodes.items) d.starts.items home room h.starts most low high fits);
+      draft = rw (es, eo) (IsDraft-object (content_of d) var home room h.draft named (subst IsName u is) most new none);
+      starts = rw es (AreStarts-push (length d.nodes.items) d.starts.items home room h.starts most range.0 range.1 fits);
       declared = rw eo (declared-push d.declared declared d.objects.items (record { var = var; uid = next_uid d.starts.items home }) h.declared also);
       named = h.named;
       tallies = rw es (HoldsTallies-push d.counts d.pages d.starts.items (declared_at (content_of d) home room) at h.tallies least (omega (arith, most, few)) place);
     }
 
 -- what is noted of a home
-pub count_is : (d : Inside) (home at : ℕ) → HoldsDraft d → 1 ≤ home → home ≤ 8 → at ≡ home - 1 → get_or d.counts at 0 ≡ length (at_home home d.starts.items)
+pub count_is : (d : Inside) (home at : ℕ) → HoldsDraft d → 1 ≤ home → home ≤ MAX_NODES → at ≡ home - 1 → get_or d.counts at 0 ≡ length (at_home home d.starts.items)
 count_is d home at h least most place = ap (λ k. get_or d.counts k 0) place ∙ h.tallies.counts_are home least most
 
-pub pages_is : (d : Inside) (home at : ℕ) → HoldsDraft d → 1 ≤ home → home ≤ 8 → at ≡ home - 1 → get_or d.pages at 0 ≡ pages_at home d.starts.items
+pub pages_is : (d : Inside) (home at : ℕ) → HoldsDraft d → 1 ≤ home → home ≤ MAX_NODES → at ≡ home - 1 → get_or d.pages at 0 ≡ pages_at home d.starts.items
 pages_is d home at h least most place = ap (λ k. get_or d.pages k 0) place ∙ h.tallies.pages_are home least most
 
-pub count_small : (d : Inside) (home at : ℕ) → HoldsDraft d → 1 ≤ home → home ≤ 8 → at ≡ home - 1 → get_or d.counts at 0 ≤ 16384
+pub count_small : (d : Inside) (home at : ℕ) → HoldsDraft d → 1 ≤ home → home ≤ MAX_NODES → at ≡ home - 1 → get_or d.counts at 0 ≤ VOLUME_ROOM
 count_small d home at h least most place =
     let e = count_is d home at h least most place in
     let few = few_objects (length d.nodes.items) d.starts.items home h.starts.declarable in

@@ -1,6 +1,7 @@
 -- What a draft holds beside its content, after one more object or command.
 use Rattle.std.proofs.Common.{◌≡◌, ◌≢◌, ◌≤◌, ◌<◌, ◌+◌, ◌-◌, ◌↔◌, ◌⊎◌, inl, inr, ⊎_elim, ℕ, zero, suc, Bool, true, false, IsTrue, All, Contains, List, [], ◌∷◌, ◌++◌, length, get_or, set, refl, ap, sym, subst, ◌∙◌, append-nil, length-append, arith}
 use Rattle.std.specs.Prelude.{◌&&◌, ◌||◌, ◌==◌, if◌then◌else◌, sum_by}
+use Rattle.std.specs.Prelude.{bytes_eq}
 use Rattle.std.proofs.lemmas.Bool.{false≢true, eqb-true, eqb-false, ne_eqb}
 use Rattle.std.proofs.lemmas.Bool.Decides.{nat_tests}
 use Rattle.std.proofs.lemmas.List.{get_or-set_other, length-set}
@@ -9,23 +10,24 @@ use Rattle.std.proofs.lemmas.List.Elements.{All-push, All-head, All-tail, All-we
 use Rattle.std.proofs.lemmas.List.Folds.{list_any-append}
 use Rattle.std.proofs.lemmas.List.Quantifiers.{all_pairs_push}
 use Rattle.std.proofs.lemmas.List.Sums.{sum_by-append, sum_by-cons}
-use Rattle.uid_names.specs.Names.{ProcName, ObjectName, same_proc, same_uid}
+use Rattle.uid_names.specs.Names.{ProcName, ObjectName, place_of_process, same_proc, same_uid}
+use Rattle.uid_names.proofs.Orders.{same_proc_is}
 use Rattle.uid_names.specs.Openings.{IsDeclarable}
 use Rattle.uid_names.specs.declared.opening.Object.{Object}
-use Rattle.uid_names.specs.declared.mode.TheConstants.{MAX_ROOM}
+use Rattle.uid_names.specs.declared.limits.TheConstants.{ENTRY_ROOM, MAX_NODES, MAX_ROOM, VOLUME_ROOM}
 use Rattle.uid_names.specs.declared.mode.ObjKind.TheVariants.{File}
-use Rattle.uid_names.specs.Beginnings.{at_home}
-use Rattle.uid_names.specs.Beginnings.{AreNumbered}
-use Rattle.script_reader.specs.Drafts.{HoldsDeclared, HoldsTallies}
-use Rattle.script_reader.specs.Starts.{AreStarts}
-use Rattle.script_reader.specs.Named.{HoldsNamed, IsProc}
-use Rattle.script_reader.specs.Index.{HasAlso, slot_of}
+use Rattle.uid_names.specs.Beginnings.{at_home, AreNumbered}
+use Rattle.script_reader.specs.Walk.Drafts.{HoldsDeclared, HoldsTallies}
+use Rattle.script_reader.specs.Walk.Starts.{AreStarts}
+use Rattle.dom_history.specs.Ranges.{IsProcName}
+use Rattle.script_reader.specs.Walk.Named.{HoldsNamed}
+use Rattle.script_reader.specs.Walk.Index.{HasAlso}
 use Rattle.script_reader.specs.Limits.{pages_at}
 use Rattle.script_reader.specs.After.{next_uid}
-use Rattle.script_reader.specs.Scripts.{is_declared, is_named, makes, same_text}
+use Rattle.script_reader.specs.Variables.{is_declared, is_named, makes}
 use Rattle.script_reader.specs.declared.script.VarRow.{VarRow}
 use Rattle.script_reader.specs.declared.script.CommandRow.{CommandRow}
-use Rattle.script_reader.proofs.Decisions.{same_text-refl, same_text-true}
+use Rattle.script_reader.proofs.Decisions.{bytes_eq-refl, bytes_eq-true}
 
 -- a test of a list and of one more decides that the list has it, or that it is this
 also_decides : (P Q R : Type 0) (a b : Bool) → P ↔ (Q ⊎ R) → Q ↔ IsTrue a → R ↔ IsTrue b → P ↔ IsTrue (a || (b || false))
@@ -36,24 +38,22 @@ also_decides P Q R false false h k l = (λ p. ⊎_elim k.0 l.0 (h.0 p), λ no. a
 -- a declared object more
 pub declared-push : (old new : List (List ℕ)) (objects : List VarRow) (row : VarRow) → HoldsDeclared old objects → HasAlso old new row.var → HoldsDeclared new (objects ++ row ∷ [])
 declared-push old new objects row h also q =
-    rw (list_any-append (λ r. same_text r.var q) objects (row ∷ []))
-    (also_decides (Contains new q) (Contains old q) (row.var ≡ q) (is_declared objects q) (same_text row.var q) (also q) (h q) (same_text-refl row.var q, same_text-true row.var q))
+    rw (list_any-append (λ r. bytes_eq r.var q) objects (row ∷ []))
+    (also_decides (Contains new q) (Contains old q) (row.var ≡ q) (is_declared objects q) (bytes_eq row.var q) (also q) (h q) (bytes_eq-refl row.var q, bytes_eq-true row.var q))
+
+-- a process is its node and its number there
+same_name : (p q : ProcName) → p.node ≡ q.node → p.number ≡ q.number → p ≡ q
+same_name p q node number = ap (λ n. record { node = n; number = p.number }) node ∙ ap (λ m. record { node = q.node; number = m }) number
 
 -- the processes have places of their own
-one_slot : (p q : ProcName) → IsProc p → IsProc q → slot_of p ≡ slot_of q → p ≡ q
-one_slot p q h k e =
-    let node : p.node ≡ q.node = omega (arith, h.node_low, k.node_low, h.number_low, k.number_low, h.number_high, k.number_high, e) in
-    let number : p.number ≡ q.number = omega (arith, h.node_low, k.node_low, h.number_low, k.number_low, h.number_high, k.number_high, e, node) in
-    ap (λ n. record { node = n; number = p.number }) node ∙ ap (λ m. record { node = q.node; number = m }) number
+one_place : (p q : ProcName) → IsProcName p → IsProcName q → place_of_process p ≡ place_of_process q → p ≡ q
+one_place p q h k e =
+    let node : p.node ≡ q.node = omega (arith, h.node.0, k.node.0, h.number.0, k.number.0, h.number.1, k.number.1, e) in
+    let number : p.number ≡ q.number = omega (arith, h.node.0, k.node.0, h.number.0, k.number.0, h.number.1, k.number.1, e, node) in
+    same_name p q node number
 
 same_proc-refl : (p : ProcName) → same_proc p p ≡ true
 same_proc-refl p = grind (arith, nat_tests)
-
-same_proc-true : (p q : ProcName) → same_proc p q ≡ true → p ≡ q
-same_proc-true p q h =
-    let node : p.node ≡ q.node = grind (arith, nat_tests) in
-    let number : p.number ≡ q.number = grind (arith, nat_tests) in
-    ap (λ n. record { node = n; number = p.number }) node ∙ ap (λ m. record { node = q.node; number = m }) number
 
 -- a command that names no variable more
 pub named-other : (sets : List (List (List ℕ))) (commands : List CommandRow) (row : CommandRow) → HoldsNamed sets commands → ((var : List ℕ) → makes var row.command ≡ false) → HoldsNamed sets (commands ++ row ∷ [])
@@ -61,7 +61,7 @@ named-other sets commands row h other proc is var =
     let none : (same_proc row.proc proc && makes var row.command) ≡ false = both (same_proc row.proc proc) (makes var row.command) (other var) in
     let same : is_named (commands ++ row ∷ []) proc var ≡ is_named commands proc var =
     list_any-append (λ r. same_proc r.proc proc && makes var r.command) commands (row ∷ []) ∙ (ap (λ t. is_named commands proc var || (t || false)) none ∙ or-false (is_named commands proc var)) in
-    subst (λ t. Contains (get_or sets (slot_of proc) []) var ↔ IsTrue t) (sym same) (h proc is var) where
+    subst (λ t. Contains (get_or sets (place_of_process proc) []) var ↔ IsTrue t) (sym same) (h proc is var) where
       both : (a b : Bool) → b ≡ false → (a && b) ≡ false
       both true b e = e
       both false b e = refl
@@ -71,19 +71,19 @@ named-other sets commands row h other proc is var =
       or-false false = refl
 
 -- a `new`: its process's set has one variable more
-pub named-new : (old new : List (List (List ℕ))) (commands : List CommandRow) (row : CommandRow) (name : List ℕ) → HoldsNamed old commands → IsProc row.proc → ((var : List ℕ) → makes var row.command ≡ same_text name var)
-    → HasAlso (get_or old (slot_of row.proc) []) (get_or new (slot_of row.proc) []) name → ((slot : ℕ) → slot ≢ slot_of row.proc → get_or new slot [] ≡ get_or old slot []) → HoldsNamed new (commands ++ row ∷ [])
+pub named-new : (old new : List (List (List ℕ))) (commands : List CommandRow) (row : CommandRow) (name : List ℕ) → HoldsNamed old commands → IsProcName row.proc → ((var : List ℕ) → makes var row.command ≡ bytes_eq name var)
+    → HasAlso (get_or old (place_of_process row.proc) []) (get_or new (place_of_process row.proc) []) name → ((slot : ℕ) → slot ≢ place_of_process row.proc → get_or new slot [] ≡ get_or old slot []) → HoldsNamed new (commands ++ row ∷ [])
 named-new old new commands row name h is made own others proc good var =
     rw (list_any-append (λ r. same_proc r.proc proc && makes var r.command) commands (row ∷ [])) (by_proc (same_proc row.proc proc) refl) where
-      by_proc : (t : Bool) → same_proc row.proc proc ≡ t → Contains (get_or new (slot_of proc) []) var ↔ IsTrue (is_named commands proc var || ((t && makes var row.command) || false))
+      by_proc : (t : Bool) → same_proc row.proc proc ≡ t → Contains (get_or new (place_of_process proc) []) var ↔ IsTrue (is_named commands proc var || ((t && makes var row.command) || false))
       by_proc true e =
-          let same = same_proc-true row.proc proc e in
-          let slot : slot_of row.proc ≡ slot_of proc = ap slot_of same in
-          let also : HasAlso (get_or old (slot_of proc) []) (get_or new (slot_of proc) []) name = subst (λ k. HasAlso (get_or old k []) (get_or new k []) name) slot own in
-          rw (made var) (also_decides (Contains (get_or new (slot_of proc) []) var) (Contains (get_or old (slot_of proc) []) var) (name ≡ var) (is_named commands proc var) (same_text name var) (also var) (h proc good var) (same_text-refl name var, same_text-true name var))
+          let same = same_proc_is row.proc proc e in
+          let slot : place_of_process row.proc ≡ place_of_process proc = ap place_of_process same in
+          let also : HasAlso (get_or old (place_of_process proc) []) (get_or new (place_of_process proc) []) name = subst (λ k. HasAlso (get_or old k []) (get_or new k []) name) slot own in
+          rw (made var) (also_decides (Contains (get_or new (place_of_process proc) []) var) (Contains (get_or old (place_of_process proc) []) var) (name ≡ var) (is_named commands proc var) (bytes_eq name var) (also var) (h proc good var) (bytes_eq-refl name var, bytes_eq-true name var))
       by_proc false e =
-          let other : slot_of proc ≢ slot_of row.proc = λ slot. false≢true (sym e ∙ ap (λ p. same_proc row.proc p) (one_slot proc row.proc good is slot) ∙ same_proc-refl row.proc) in
-          rw (others (slot_of proc) other) (also_decides (Contains (get_or old (slot_of proc) []) var) (Contains (get_or old (slot_of proc) []) var) ⊥ (is_named commands proc var) false (inl, ⊎_elim (λ x. x) (λ no. absurd no)) (h proc good var) (λ no. absurd no, λ no. absurd (false≢true no)))
+          let other : place_of_process proc ≢ place_of_process row.proc = λ slot. false≢true (sym e ∙ ap (λ p. same_proc row.proc p) (one_place proc row.proc good is slot) ∙ same_proc-refl row.proc) in
+          rw (others (place_of_process proc) other) (also_decides (Contains (get_or old (place_of_process proc) []) var) (Contains (get_or old (place_of_process proc) []) var) ⊥ (is_named commands proc var) false (inl, ⊎_elim (λ x. x) (λ no. absurd no)) (h proc good var) (λ no. absurd no, λ no. absurd (false≢true no)))
 
 -- the objects of a home, with one more
 home-push : (home : ℕ) (starts : List Object) (o : Object) → at_home home (starts ++ o ∷ []) ≡ at_home home starts ++ (if o.uid.home == home then o ∷ [] else [])
@@ -91,7 +91,7 @@ home-push home starts o = filter-append (λ x. x.uid.home == home) starts (o ∷
 
 pages-push : (home : ℕ) (starts : List Object) (o : Object) → pages_at home (starts ++ o ∷ []) ≡ (if o.uid.home == home then pages_at home starts + o.room else pages_at home starts)
 pages-push home starts o = rw (home-push home starts o, sum_by-append (λ x. x.room) (at_home home starts) (if o.uid.home == home then o ∷ [] else [])) (by_home (o.uid.home == home)) where
-  by_home : (t : Bool) → 8 + (sum_by (λ x. x.room) (at_home home starts) + sum_by (λ x. x.room) (if t then o ∷ [] else [])) ≡ (if t then pages_at home starts + o.room else pages_at home starts)
+  by_home : (t : Bool) → ENTRY_ROOM + (sum_by (λ x. x.room) (at_home home starts) + sum_by (λ x. x.room) (if t then o ∷ [] else [])) ≡ (if t then pages_at home starts + o.room else pages_at home starts)
   by_home true = omega arith
   by_home false = omega arith
 
@@ -128,7 +128,7 @@ other_uid u m home h = by_home (u.home == home) refl where
   by_home false e = and-false (u.counter == m)
 
 -- an object more
-pub AreStarts-push : (nodes : ℕ) (starts : List Object) (home room : ℕ) → AreStarts nodes starts → home ≤ nodes → 1 ≤ room → room ≤ MAX_ROOM → pages_at home starts + room ≤ 16384 → AreStarts nodes (starts ++ record { uid = next_uid starts home; kind = File; room = room } ∷ [])
+pub AreStarts-push : (nodes : ℕ) (starts : List Object) (home room : ℕ) → AreStarts nodes starts → home ≤ nodes → 1 ≤ room → room ≤ MAX_ROOM → pages_at home starts + room ≤ VOLUME_ROOM → AreStarts nodes (starts ++ record { uid = next_uid starts home; kind = File; room = room } ∷ [])
 AreStarts-push nodes starts home room h at low high fits =
     let object : Object = record { uid = next_uid starts home; kind = File; room = room } in record {
       declarable = All-push (IsDeclarable nodes MAX_ROOM) starts object h.declarable (record { counter = omega arith; home = at; room_low = low; room_high = high });
@@ -142,8 +142,8 @@ AreStarts-push nodes starts home room h at low high fits =
           numbered-push 2 (at_home other starts) (record { uid = next_uid starts home; kind = File; room = room }) (h.counters other) (ap (λ x. length (at_home x starts) + 2) same)
       numbered other false e = subst (λ xs. AreNumbered 2 xs) (sym (append-nil (at_home other starts))) (h.counters other)
 
-      paged : (other : ℕ) (t : Bool) → (home == other) ≡ t → (if t then pages_at other starts + room else pages_at other starts) ≤ 16384
-      paged other true e = subst (λ x. pages_at x starts + room ≤ 16384) (eqb-true home other e) fits
+      paged : (other : ℕ) (t : Bool) → (home == other) ≡ t → (if t then pages_at other starts + room else pages_at other starts) ≤ VOLUME_ROOM
+      paged other true e = subst (λ x. pages_at x starts + room ≤ VOLUME_ROOM) (eqb-true home other e) fits
       paged other false e = h.volume other
 
 -- a node more
@@ -162,7 +162,7 @@ length-home home starts o = rw (home-push home starts o, length-append (at_home 
   by_home false = omega arith
 
 -- the tallies after one more object at a home, whose place is i
-pub HoldsTallies-push : (counts pages : List ℕ) (starts : List Object) (o : Object) (i : ℕ) → HoldsTallies counts pages starts → 1 ≤ o.uid.home → o.uid.home ≤ 8 → i ≡ o.uid.home - 1
+pub HoldsTallies-push : (counts pages : List ℕ) (starts : List Object) (o : Object) (i : ℕ) → HoldsTallies counts pages starts → 1 ≤ o.uid.home → o.uid.home ≤ MAX_NODES → i ≡ o.uid.home - 1
     → HoldsTallies (set counts i (get_or counts i 0 + 1)) (set pages i (get_or pages i 0 + o.room)) (starts ++ o ∷ [])
 HoldsTallies-push counts pages starts o i h low high at = record {
   homes_counted = length-set counts i (get_or counts i 0 + 1) ∙ h.homes_counted;
@@ -170,7 +170,7 @@ HoldsTallies-push counts pages starts o i h low high at = record {
   counts_are = λ home least most. rw (length-home home starts o) (counted home least most (o.uid.home == home) refl);
   pages_are = λ home least most. rw (pages-push home starts o) (paged home least most (o.uid.home == home) refl);
 } where
-  counted : (home : ℕ) → 1 ≤ home → home ≤ 8 → (t : Bool) → (o.uid.home == home) ≡ t → get_or (set counts i (get_or counts i 0 + 1)) (home - 1) 0 ≡ (if t then length (at_home home starts) + 1 else length (at_home home starts))
+  counted : (home : ℕ) → 1 ≤ home → home ≤ MAX_NODES → (t : Bool) → (o.uid.home == home) ≡ t → get_or (set counts i (get_or counts i 0 + 1)) (home - 1) 0 ≡ (if t then length (at_home home starts) + 1 else length (at_home home starts))
   counted home least most true e =
       let same : o.uid.home ≡ home = eqb-true o.uid.home home e in
       let place : home - 1 ≡ i = omega arith in
@@ -180,7 +180,7 @@ HoldsTallies-push counts pages starts o i h low high at = record {
       let apart : home - 1 ≢ i = λ same. other (omega arith) in
       get_or-set_other counts i (home - 1) (get_or counts i 0 + 1) 0 apart ∙ h.counts_are home least most
 
-  paged : (home : ℕ) → 1 ≤ home → home ≤ 8 → (t : Bool) → (o.uid.home == home) ≡ t → get_or (set pages i (get_or pages i 0 + o.room)) (home - 1) 0 ≡ (if t then pages_at home starts + o.room else pages_at home starts)
+  paged : (home : ℕ) → 1 ≤ home → home ≤ MAX_NODES → (t : Bool) → (o.uid.home == home) ≡ t → get_or (set pages i (get_or pages i 0 + o.room)) (home - 1) 0 ≡ (if t then pages_at home starts + o.room else pages_at home starts)
   paged home least most true e =
       let same : o.uid.home ≡ home = eqb-true o.uid.home home e in
       let place : home - 1 ≡ i = omega arith in

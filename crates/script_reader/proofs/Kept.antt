@@ -1,26 +1,32 @@
 -- Each kind of line leaves a draft.
 use Rattle.std.proofs.Common.{◌≡◌, ◌≢◌, ◌≤◌, ◌<◌, ◌+◌, ℕ, zero, suc, Bool, true, false, List, [], ◌∷◌, ◌++◌, length, get_or, Some, None, refl, ap, sym, subst, ◌∙◌, append-nil, append_assoc, length-append, arith, rules}
 use Rattle.std.specs.Prelude.{nat_le, nat_lt, is_some, if◌then◌else◌}
+use Rattle.std.specs.Prelude.{bytes_eq}
 use Rattle.std.specs.List.{list_all, list_any, position_or_len}
 use Rattle.std.proofs.lemmas.Bool.{false≢true}
 use Rattle.std.proofs.lemmas.List.{map-append}
 use Rattle.std.proofs.lemmas.List.Elements.{All-push, All-weaker}
 use Rattle.std.proofs.lemmas.List.Quantifiers.{all_pairs_push}
 use Rattle.std.proofs.lemmas.List.Sums.{AllPass-from_list_all}
-use Rattle.uid_names.specs.Names.{ProcName}
+use Rattle.uid_names.specs.Names.{ProcName, IsName}
+use Rattle.uid_names.specs.declared.limits.TheConstants.{MAX_NODES}
 use Rattle.uid_names.specs.NameTexts.{IsNameText, is_name_byte}
 use Rattle.dom_history.specs.Plans.{IsPlan}
 use Rattle.dom_history.specs.declared.plan.FateRow.{FateRow}
-use Rattle.script_reader.specs.Scripts.{Content, IsDraft, IsNode, IsObject, IsFateRow, IsCommandRow, IsCommand, IsSpoken, AreSpoken, is_declared, same_text}
+use Rattle.script_reader.specs.Scripts.{Content, IsDraft, IsNode, IsObject}
+use Rattle.script_reader.specs.Fates.{IsFateRow}
+use Rattle.dom_history.specs.Ranges.{IsProcName}
+use Rattle.script_reader.specs.Commands.{IsCommandRow, IsCommand}
+use Rattle.script_reader.specs.Variables.{IsSpoken, AreSpoken, is_declared}
 use Rattle.script_reader.specs.NodeNames.{is_node_name}
-use Rattle.script_reader.specs.After.{declared_at, with_command, with_declared, with_fate, with_node}
+use Rattle.script_reader.specs.After.{declared_at, next_uid, with_command, with_declared, with_fate, with_node}
 use Rattle.script_reader.specs.Words.{is_name}
 use Rattle.script_reader.specs.declared.command.Command.{Command}
 use Rattle.script_reader.specs.declared.command.Command.TheVariants.{New, Lock, Unlock, Delete, Load, Store, Length, Map, Unmap, Loadat, Storeat}
 use Rattle.script_reader.specs.declared.script.NodeRow.{NodeRow}
 use Rattle.script_reader.specs.declared.script.VarRow.{VarRow}
 use Rattle.script_reader.specs.declared.script.CommandRow.{CommandRow}
-use Rattle.script_reader.proofs.Decisions.{same_text-refl}
+use Rattle.script_reader.proofs.Decisions.{bytes_eq-refl}
 
 -- one more
 longer : {X : Type 0} (xs : List X) (x : X) → length (xs ++ x ∷ []) ≡ length xs + 1
@@ -47,8 +53,8 @@ not_placed false n h = refl
 -- no node has a name that is none of a node
 new_name : (rows : List NodeRow) (name : List ℕ) → is_node_name rows name ≡ false → (k : ℕ) (d : NodeRow) → k < length rows → (get_or rows k d).name ≢ name
 new_name rows name h k d below same =
-    let no = not_placed (nat_lt (position_or_len (λ row. same_text row.name name) rows) (length rows)) (position_or_len (λ row. same_text row.name name) rows) h in
-    false≢true (sym (no_place (λ row. same_text row.name name) rows no k d below) ∙ same_text-refl (get_or rows k d).name name same)
+    let no = not_placed (nat_lt (position_or_len (λ row. bytes_eq row.name name) rows) (length rows)) (position_or_len (λ row. bytes_eq row.name name) rows) h in
+    false≢true (sym (no_place (λ row. bytes_eq row.name name) rows no k d below) ∙ bytes_eq-refl (get_or rows k d).name name same)
 
 -- no row has what no test finds
 none_of : {X : Type 0} (p : X → Bool) (xs : List X) → list_any p xs ≡ false → (k : ℕ) (d : X) → k < length xs → p (get_or xs k d) ≡ false
@@ -61,7 +67,7 @@ none_of p (x ∷ xs) h (suc k) d below =
 -- what holds at a command holds at any more of phases and of nodes
 command_wider : (m n : ℕ) → m ≤ n → (command : Command) → IsCommand m command → IsCommand n command
 command_wider m n le (New var room None) h = h
-command_wider m n le (New var room (Some home)) h = (h.0, h.1, omega (arith, le, h.2))
+command_wider m n le (New var room (Some home)) h = (h.0, h.1, (h.2.0, omega (arith, le, h.2.1)))
 command_wider m n le (Lock var mode) h = h
 command_wider m n le (Unlock var) h = h
 command_wider m n le (Delete var) h = h
@@ -75,6 +81,7 @@ command_wider m n le (Storeat address text) h = h
 
 row_wider : (m n p q : ℕ) → m ≤ n → p ≤ q → (row : CommandRow) → IsCommandRow m p row → IsCommandRow n q row
 row_wider m n p q nodes phases row h = record {
+  proc = h.proc;
   node = omega (arith, h.node);
   phase_low = h.phase_low;
   phase_high = omega (arith, h.phase_high);
@@ -82,7 +89,7 @@ row_wider m n p q nodes phases row h = record {
 }
 
 -- a node more
-pub IsDraft-node : (s : Content) (name : List ℕ) (frames : ℕ) → IsDraft s → is_name name ≡ true → 5 ≤ frames → frames ≤ 256 → is_node_name s.nodes name ≡ false → length s.nodes < 8 → IsDraft (with_node s name frames)
+pub IsDraft-node : (s : Content) (name : List ℕ) (frames : ℕ) → IsDraft s → is_name name ≡ true → 5 ≤ frames → frames ≤ 256 → is_node_name s.nodes name ≡ false → length s.nodes < MAX_NODES → IsDraft (with_node s name frames)
 IsDraft-node s name frames h named few many new room =
     let more = longer s.nodes (record { name = name; frames = frames }) in
     let wide : length s.nodes ≤ length (s.nodes ++ record { name = name; frames = frames } ∷ []) = omega (arith, more) in record {
@@ -91,7 +98,7 @@ IsDraft-node s name frames h named few many new room =
       names_apart = all_pairs_push (λ a b. a.name ≢ b.name) s.nodes (record { name = name; frames = frames }) h.names_apart (new_name s.nodes name new);
       opening_nodes = refl;
       greatest = h.greatest;
-      files = All-weaker (IsObject (length s.nodes)) (IsObject (length (s.nodes ++ record { name = name; frames = frames } ∷ []))) (λ o is. record { home = omega (arith, is.home, wide); kind = is.kind }) s.opening.objects h.files;
+      files = All-weaker (IsObject (length s.nodes)) (IsObject (length (s.nodes ++ record { name = name; frames = frames } ∷ []))) (λ o is. record { name = is.name; home = omega (arith, is.home, wide); kind = is.kind }) s.opening.objects h.files;
       vars = h.vars;
       vars_apart = h.vars_apart;
       vars_of = h.vars_of;
@@ -128,17 +135,17 @@ IsDraft-phase s h room = record {
 }
 
 -- an object more
-pub IsDraft-object : (s : Content) (var : List ℕ) (home room : ℕ) → IsDraft s → is_name var ≡ true → home ≤ length s.nodes → is_declared s.objects var ≡ false → s.commands ≡ [] → IsDraft (with_declared s var (declared_at s home room))
-IsDraft-object s var home room h named at new none =
+pub IsDraft-object : (s : Content) (var : List ℕ) (home room : ℕ) → IsDraft s → is_name var ≡ true → IsName (next_uid s.opening.objects home) → home ≤ length s.nodes → is_declared s.objects var ≡ false → s.commands ≡ [] → IsDraft (with_declared s var (declared_at s home room))
+IsDraft-object s var home room h named is at new none =
     let object = declared_at s home room in record {
       few_nodes = h.few_nodes;
       nodes = h.nodes;
       names_apart = h.names_apart;
       opening_nodes = h.opening_nodes;
       greatest = h.greatest;
-      files = All-push (IsObject (length s.nodes)) s.opening.objects object h.files (record { home = at; kind = refl });
+      files = All-push (IsObject (length s.nodes)) s.opening.objects object h.files (record { name = is; home = at; kind = refl });
       vars = All-push (λ row. IsNameText row.var) s.objects (record { var = var; uid = object.uid }) h.vars (name_text var named);
-      vars_apart = all_pairs_push (λ a b. a.var ≢ b.var) s.objects (record { var = var; uid = object.uid }) h.vars_apart (λ k d below same. false≢true (sym (none_of (λ row. same_text row.var var) s.objects new k d below) ∙ same_text-refl (get_or s.objects k d).var var same));
+      vars_apart = all_pairs_push (λ a b. a.var ≢ b.var) s.objects (record { var = var; uid = object.uid }) h.vars_apart (λ k d below same. false≢true (sym (none_of (λ row. bytes_eq row.var var) s.objects new k d below) ∙ bytes_eq-refl (get_or s.objects k d).var var same));
       vars_of = map-append (λ row. row.uid) s.objects (record { var = var; uid = object.uid } ∷ []) ∙ (ap (λ uids. uids ++ object.uid ∷ []) h.vars_of ∙ sym (map-append (λ o. o.uid) s.opening.objects (object ∷ [])));
       plan = h.plan;
       fates = h.fates;
@@ -177,8 +184,8 @@ AreSpoken-push : (objects : List VarRow) (before done : List CommandRow) (row : 
 AreSpoken-push objects before [] row h spoken = (subst (λ rows. IsSpoken objects rows row.proc row.command) (append-nil before) spoken, tt)
 AreSpoken-push objects before (x ∷ done) row h spoken = (h.0, AreSpoken-push objects (before ++ x ∷ []) done row h.1 (subst (λ rows. IsSpoken objects rows row.proc row.command) (sym (append_assoc before (x ∷ []) done)) spoken))
 
-pub IsDraft-command : (s : Content) (proc : ProcName) (command : Command) → IsDraft s → proc.node ≤ length s.nodes → IsCommand (length s.nodes) command → IsSpoken s.objects s.commands proc command → length s.commands < 20000 → IsDraft (with_command s proc command)
-IsDraft-command s proc command h node range spoken room =
+pub IsDraft-command : (s : Content) (proc : ProcName) (command : Command) → IsDraft s → IsProcName proc → proc.node ≤ length s.nodes → IsCommand (length s.nodes) command → IsSpoken s.objects s.commands proc command → length s.commands < 20000 → IsDraft (with_command s proc command)
+IsDraft-command s proc command h is node range spoken room =
     let row : CommandRow = record { proc = proc; phase = s.phases; command = command } in
     let more = longer s.commands row in record {
       few_nodes = h.few_nodes;
@@ -195,7 +202,7 @@ IsDraft-command s proc command h node range spoken room =
       phase_low = h.phase_low;
       phase_high = h.phase_high;
       few_commands = omega (arith, more);
-      commands = All-push (IsCommandRow (length s.nodes) s.phases) s.commands row h.commands (record { node = node; phase_low = h.phase_low; phase_high = omega arith; command = range });
+      commands = All-push (IsCommandRow (length s.nodes) s.phases) s.commands row h.commands (record { proc = is; node = node; phase_low = h.phase_low; phase_high = omega arith; command = range });
       in_order = all_pairs_push (λ a b. a.phase ≤ b.phase) s.commands row h.in_order (λ k d below. (h.commands k d below).phase_high);
       spoken = AreSpoken-push s.objects [] s.commands row h.spoken spoken;
     }

@@ -11,7 +11,7 @@ use Rattle.std.proofs.lemmas.Bool.{false≢true}
 use Rattle.std.proofs.lemmas.Map.Text.{is_eq-slice_cmp}
 use Rattle.std.proofs.lemmas.Slice.Eq.{bytes_eq-Decides}
 use Rattle.std.proofs.lemmas.List.Elements.{Contains-append_left, Contains-append_right, Contains-append_cases, Contains-push, Contains-push_cases}
-use Rattle.script_reader.specs.Index.{HasAlso}
+use Rattle.script_reader.specs.Walk.Index.{HasAlso}
 
 -- the names of keys
 abbrev pub names_of : List (Vec ℕ) → List (List ℕ)

@@ -1,18 +1,18 @@
 -- Lines that are read one by one.
 use Rattle.std.proofs.Common.{◌≡◌, ◌≢◌, ◌<◌, ◌+◌, ◌-◌, take, drop, ℕ, Bool, true, false, List, [], ◌∷◌, ◌++◌, length, Option, Some, None, Ok, Err, MatchOption, refl, ap, sym, arith}
-use Rattle.std.specs.Prelude.{◌==◌, ◌||◌, if◌then◌else◌, find, nat_lt}
+use Rattle.std.specs.Prelude.{◌==◌, ◌||◌, if◌then◌else◌, nat_lt}
 use Rattle.std.proofs.lemmas.List.{length-take, nil_from_length}
 use Rattle.std.proofs.lemmas.Bool.{false≢true, eqb-true, ne_eqb}
 use Rattle.std.proofs.lemmas.List.Elements.{All-head, All-tail}
 use Rattle.dom_text.specs.declared.token.Token.{Token}
 use Rattle.dom_text.specs.declared.token.Token.TheVariants.{Word as WordToken, Text as TextToken}
-use Rattle.script_reader.specs.Cuts.{Lacks}
+use Rattle.dom_text.specs.Cuts.{Lacks}
 use Rattle.script_reader.specs.Grammar.{AreGood, IsFirstBad, before_lines, raw_lines, without_cr}
-use Rattle.script_reader.specs.Formed.{IsFormed}
+use Rattle.script_reader.specs.Walk.Formed.{IsFormed}
 use Rattle.script_reader.specs.Judging.{has_begun, judged, judged_tokens}
 use Rattle.script_reader.specs.Sayings.{Saying, Node, Object, Fault, Phase, Does}
-use Rattle.script_reader.specs.Scripts.{Content, same_text}
-use Rattle.script_reader.specs.Seen.{BeginsWithNoWord, JoinsTwo, seen, seen_line}
+use Rattle.script_reader.specs.Scripts.{Content}
+use Rattle.script_reader.specs.Walk.Seen.{BeginsWithNoWord, JoinsTwo, seen, seen_line}
 use Rattle.script_reader.specs.Words.{line_word_of, line_word_text, line_words, verb_of, verb_text, verbs}
 use Rattle.script_reader.specs.declared.cause.Cause.{Cause}
 use Rattle.script_reader.specs.declared.cause.Cause.TheVariants.{Word}
@@ -22,7 +22,7 @@ use Rattle.script_reader.specs.declared.words.LineWord.{LineWord}
 use Rattle.script_reader.specs.declared.words.LineWord.TheVariants.{Node as NodeWord, Object as ObjectWord, Fault as FaultWord, Phase as PhaseWord}
 use Rattle.script_reader.specs.declared.words.Verb.{Verb}
 use Rattle.script_reader.specs.declared.words.Verb.TheVariants.{New as NewVerb, Lock as LockVerb, Unlock as UnlockVerb, Delete as DeleteVerb, Load as LoadVerb, Store as StoreVerb, Length as LengthVerb, Map as MapVerb, Unmap as UnmapVerb, Loadat as LoadatVerb, Storeat as StoreatVerb}
-use Rattle.script_reader.proofs.Decisions.{same_text-false}
+use Rattle.uid_names.proofs.TextTables.{looked_up}
 
 -- a good line in front
 pub good_step : (s t : Content) (line : List ℕ) (lines : List (List ℕ)) (end : Content) → judged s (without_cr line) ≡ Ok t → AreGood t lines end → AreGood s (line ∷ lines) end
@@ -77,35 +77,31 @@ no_word s [] h some = absurd (omega (arith, some))
 no_word s (WordToken word ∷ rest) h some = absurd h
 no_word s (TextToken text ∷ rest) h some = refl
 
--- a word that is none of these
-none_found : {X : Type 0} (text : X → List ℕ) (word : List ℕ) → ((x : X) → word ≢ text x) → (xs : List X) → find (λ x. same_text (text x) word) xs ≡ None
-none_found text word h [] = refl
-none_found text word h (x ∷ xs) = rw (same_text-false (text x) word (λ e. h x (sym e))) (none_found text word h xs)
+-- a word of the tables is found, and no other
+line_word-again : (w : LineWord) → line_word_of (line_word_text w) ≡ Some w
+line_word-again NodeWord = refl
+line_word-again ObjectWord = refl
+line_word-again FaultWord = refl
+line_word-again PhaseWord = refl
 
 pub no_line_word : (word : List ℕ) → ((w : LineWord) → word ≢ line_word_text w) → line_word_of word ≡ None
-no_line_word word h = none_found line_word_text word h line_words
+no_line_word word h = sym (looked_up line_word_text line_words line_word-again None word h)
+
+verb-again : (v : Verb) → verb_of (verb_text v) ≡ Some v
+verb-again NewVerb = refl
+verb-again LockVerb = refl
+verb-again UnlockVerb = refl
+verb-again DeleteVerb = refl
+verb-again LoadVerb = refl
+verb-again StoreVerb = refl
+verb-again LengthVerb = refl
+verb-again MapVerb = refl
+verb-again UnmapVerb = refl
+verb-again LoadatVerb = refl
+verb-again StoreatVerb = refl
 
 pub no_verb : (word : List ℕ) → ((v : Verb) → word ≢ verb_text v) → verb_of word ≡ None
-no_verb word h = none_found verb_text word h verbs
-
-pub line_word_is : (word : List ℕ) (w : LineWord) → word ≡ line_word_text w → line_word_of word ≡ Some w
-line_word_is word NodeWord e = ap line_word_of e
-line_word_is word ObjectWord e = ap line_word_of e
-line_word_is word FaultWord e = ap line_word_of e
-line_word_is word PhaseWord e = ap line_word_of e
-
-pub verb_is : (word : List ℕ) (v : Verb) → word ≡ verb_text v → verb_of word ≡ Some v
-verb_is word NewVerb e = ap verb_of e
-verb_is word LockVerb e = ap verb_of e
-verb_is word UnlockVerb e = ap verb_of e
-verb_is word DeleteVerb e = ap verb_of e
-verb_is word LoadVerb e = ap verb_of e
-verb_is word StoreVerb e = ap verb_of e
-verb_is word LengthVerb e = ap verb_of e
-verb_is word MapVerb e = ap verb_of e
-verb_is word UnmapVerb e = ap verb_of e
-verb_is word LoadatVerb e = ap verb_of e
-verb_is word StoreatVerb e = ap verb_of e
+no_verb word h = sym (looked_up verb_text verbs verb-again None word h)
 
 -- a form that was found, seen as the definitions have it
 pub form_is : (found : Option Line) (form : Option Saying) → MatchOption found (form ≡ None) (λ line. form ≡ Some (seen line)) → form ≡ seen_line found

@@ -1,6 +1,7 @@
 -- Bytes have one reading: a script of one content, or one first bad line.
 use Rattle.std.proofs.Common.{◌≡◌, ◌≤◌, ◌+◌, ◌⊎◌, inl, inr, ℕ, List, [], ◌∷◌, length, Ok, Err, refl, ap, sym, ◌∙◌, arith, rules, Bool, true, false}
 use Rattle.std.specs.Prelude.{MatchResult, nat_le}
+use Rattle.uid_names.specs.declared.limits.TheConstants.{SCRIPT_BYTES}
 use Rattle.script_reader.specs.Grammar.{AreGood, IsBad, IsFirstBad, IsScript, nothing, raw_lines, without_cr}
 use Rattle.script_reader.specs.Judging.{judged}
 use Rattle.script_reader.specs.Scripts.{Content}
@@ -68,17 +69,17 @@ good_or_first_bad k s (line ∷ lines) =
 
 -- a script, or no script
 pub either_one : (bytes : List ℕ) → ((s : Content) × IsScript bytes s) ⊎ ((n : ℕ) × (c : Cause) × IsBad bytes n c)
-either_one bytes = by_length (nat_le (length bytes) 1048576) refl where
-  with_nodes : (s : Content) → length bytes ≤ 1048576 → AreGood nothing (raw_lines bytes) s → (nodes : List NodeRow) → s.nodes ≡ nodes → ((s : Content) × IsScript bytes s) ⊎ ((n : ℕ) × (c : Cause) × IsBad bytes n c)
+either_one bytes = by_length (nat_le (length bytes) SCRIPT_BYTES) refl where
+  with_nodes : (s : Content) → length bytes ≤ SCRIPT_BYTES → AreGood nothing (raw_lines bytes) s → (nodes : List NodeRow) → s.nodes ≡ nodes → ((s : Content) × IsScript bytes s) ⊎ ((n : ℕ) × (c : Cause) × IsBad bytes n c)
   with_nodes s few good [] e = inr (1, NoNode, inr (inr (record { few = few; content = s; good = good; no_node = e; line = refl; cause_is = refl })))
   with_nodes s few good (row ∷ rows) e =
       let count : length s.nodes ≡ length (row ∷ rows) = ap length e in
       inl (s, record { few = few; good = good; some_node = omega (arith, count) })
 
-  by_lines : length bytes ≤ 1048576 → ((t : Content) × AreGood nothing (raw_lines bytes) t) ⊎ ((n : ℕ) × (c : Cause) × IsFirstBad 1 nothing (raw_lines bytes) n c) → ((s : Content) × IsScript bytes s) ⊎ ((n : ℕ) × (c : Cause) × IsBad bytes n c)
+  by_lines : length bytes ≤ SCRIPT_BYTES → ((t : Content) × AreGood nothing (raw_lines bytes) t) ⊎ ((n : ℕ) × (c : Cause) × IsFirstBad 1 nothing (raw_lines bytes) n c) → ((s : Content) × IsScript bytes s) ⊎ ((n : ℕ) × (c : Cause) × IsBad bytes n c)
   by_lines few (inl good) = with_nodes good.0 few good.1 good.0.nodes refl
   by_lines few (inr bad) = inr (bad.0, bad.1, inr (inl (record { few = few; first = bad.2 })))
 
-  by_length : (t : Bool) → nat_le (length bytes) 1048576 ≡ t → ((s : Content) × IsScript bytes s) ⊎ ((n : ℕ) × (c : Cause) × IsBad bytes n c)
+  by_length : (t : Bool) → nat_le (length bytes) SCRIPT_BYTES ≡ t → ((s : Content) × IsScript bytes s) ⊎ ((n : ℕ) × (c : Cause) × IsBad bytes n c)
   by_length true e = by_lines (search (rules, e)) (good_or_first_bad 1 nothing (raw_lines bytes))
   by_length false e = inr (0, TooLong, inl (record { long = search (rules, e); line = refl; cause_is = refl }))

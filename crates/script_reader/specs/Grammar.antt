@@ -1,6 +1,6 @@
 -- Which bytes are a script, and which line is the first bad one.
 use Rattle.std.specs.Prelude.{ℕ, ◌≡◌, ◌+◌, ◌<◌, ◌≤◌, ◌==◌, ◌⊎◌, if◌then◌else◌, MatchResult, List, [], ◌∷◌, length}
-use Rattle.uid_names.specs.declared.mode.TheConstants.{MAX_ROOM}
+use Rattle.uid_names.specs.declared.limits.TheConstants.{MAX_ROOM, SCRIPT_BYTES}
 use Rattle.script_reader.specs.Scripts.{Content}
 use Rattle.script_reader.specs.Judging.{judged}
 use Rattle.script_reader.specs.declared.cause.Cause.{Cause}
@@ -38,24 +38,24 @@ IsFirstBad k s (line ∷ lines) n cause = MatchResult (judged s (without_cr line
 
 -- the bytes are a script of this content
 pub record IsScript (bytes : List ℕ) (s : Content) : Type 0 where
-  pub few : length bytes ≤ 1048576
+  pub few : length bytes ≤ SCRIPT_BYTES
   pub good : AreGood nothing (raw_lines bytes) s
   pub some_node : 1 ≤ length s.nodes
 
 -- the whole is too long; no line is looked at
 pub record IsTooLong (bytes : List ℕ) (n : ℕ) (cause : Cause) : Type 0 where
-  pub long : 1048576 < length bytes
+  pub long : SCRIPT_BYTES < length bytes
   pub line : n ≡ 0
   pub cause_is : cause ≡ TooLong
 
 -- a line is bad, and none before it
 pub record HasBadLine (bytes : List ℕ) (n : ℕ) (cause : Cause) : Type 0 where
-  pub few : length bytes ≤ 1048576
+  pub few : length bytes ≤ SCRIPT_BYTES
   pub first : IsFirstBad 1 nothing (raw_lines bytes) n cause
 
 -- no line is bad, and none declares a node
 pub record LacksNodes (bytes : List ℕ) (n : ℕ) (cause : Cause) : Type 0 where
-  pub few : length bytes ≤ 1048576
+  pub few : length bytes ≤ SCRIPT_BYTES
   pub content : Content
   pub good : AreGood nothing (raw_lines bytes) content
   pub no_node : content.nodes ≡ []

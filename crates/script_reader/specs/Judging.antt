@@ -8,7 +8,8 @@ use Rattle.dom_text.specs.declared.line.TextFault.{TextFault}
 use Rattle.dom_text.specs.declared.line.TextFault.TheVariants.{Quote as QuoteFault}
 use Rattle.script_reader.specs.Scripts.{Content}
 use Rattle.script_reader.specs.Words.{ProcessWord, line_word_of, process_word, verb_of}
-use Rattle.script_reader.specs.Sayings.{Saying, node_form, object_form, fault_form, phase_form, command_form, does_form}
+use Rattle.script_reader.specs.Sayings.{Saying}
+use Rattle.script_reader.specs.Forms.{node_form, object_form, fault_form, phase_form, command_form, does_form}
 use Rattle.script_reader.specs.declared.cause.Cause.{Cause}
 use Rattle.script_reader.specs.declared.cause.Cause.TheVariants.{TooLong, Byte, Quote, Word, Place, Form, Number, Name, Unknown, Repeat, Limit}
 use Rattle.script_reader.specs.declared.words.LineWord.{LineWord}

@@ -1,7 +1,7 @@
 -- `limit`: more nodes, pages at a home, phases or commands than there may be.
 use Rattle.std.specs.Prelude.{ℕ, ◌+◌, nat_lt, nat_le, Bool, false, List, length, sum_by}
 use Rattle.uid_names.specs.declared.opening.Object.{Object as ObjectRecord}
-use Rattle.uid_names.specs.declared.opening.TheConstants.{ENTRY_ROOM, VOLUME_ROOM}
+use Rattle.uid_names.specs.declared.limits.TheConstants.{ENTRY_ROOM, MAX_NODES, VOLUME_ROOM}
 use Rattle.uid_names.specs.Beginnings.{at_home}
 use Rattle.script_reader.specs.Scripts.{Content}
 use Rattle.script_reader.specs.Sayings.{Saying, Node, Object, Fault, Phase, Does}
@@ -14,7 +14,7 @@ pages_at home objects = ENTRY_ROOM + sum_by (λ o. o.room) (at_home home objects
 
 -- a ninth node, a home fuller than its volume, phase 1,001, command 20,001
 abbrev pub is_past_limit : Content → Saying → Bool
-is_past_limit s (Node name frames) = nat_le 8 (length s.nodes)
+is_past_limit s (Node name frames) = nat_le MAX_NODES (length s.nodes)
 is_past_limit s (Object var room home) = nat_lt VOLUME_ROOM (pages_at (node_number s.nodes home) s.opening.objects + number_in room)
 is_past_limit s (Fault from to index fate) = false
 is_past_limit s Phase = nat_le 1000 s.phases

@@ -1,7 +1,8 @@
 -- `repeat`: what was declared is declared again, or a `new` takes the variable of a declared object.
 use Rattle.std.specs.Prelude.{Bool, false}
 use Rattle.dom_history.specs.Plans.{is_set}
-use Rattle.script_reader.specs.Scripts.{Content, is_declared}
+use Rattle.script_reader.specs.Scripts.{Content}
+use Rattle.script_reader.specs.Variables.{is_declared}
 use Rattle.script_reader.specs.Sayings.{Saying, Node, Object, Fault, Phase, Does, Spoken, New}
 use Rattle.script_reader.specs.Numbers.{number_in}
 use Rattle.script_reader.specs.NodeNames.{is_node_name, node_number}

@@ -1,7 +1,8 @@
 -- `unknown`: a node that was not declared, or a variable that the command's process doesn't know.
 use Rattle.std.specs.Prelude.{ℕ, Bool, true, false, not, ◌&&◌, Option, Some, None, List}
 use Rattle.uid_names.specs.Names.{ProcName}
-use Rattle.script_reader.specs.Scripts.{Content, knows}
+use Rattle.script_reader.specs.Scripts.{Content}
+use Rattle.script_reader.specs.Variables.{knows}
 use Rattle.script_reader.specs.Words.{ProcessWord}
 use Rattle.script_reader.specs.Sayings.{Saying, Node, Object, Fault, Phase, Does, Spoken, New, Lock, Unlock, Delete, Load, Store, Length, Map, Unmap, Loadat, Storeat}
 use Rattle.script_reader.specs.declared.script.NodeRow.{NodeRow}

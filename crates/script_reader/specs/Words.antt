@@ -1,9 +1,12 @@
--- The words that begin lines and commands, and how a line names a process.
-use Rattle.std.specs.Prelude.{ℕ, ◌==◌, nat_le, Bool, ◌&&◌, if◌then◌else◌, Option, Some, None, List, [], ◌∷◌, length, codes, find}
+-- The words of lines and commands, and how a line names a process.
+use Rattle.std.specs.Prelude.{ℕ, nat_le, Bool, ◌&&◌, if◌then◌else◌, Option, Some, None, List, [], ◌∷◌, length, codes}
+use Rattle.uid_names.specs.Texts.{written_so}
 use Rattle.std.specs.List.{list_all}
 use Rattle.std.specs.Char.{is_ascii_digit}
 use Rattle.uid_names.specs.NameTexts.{is_name_byte}
-use Rattle.script_reader.specs.Scripts.{same_text}
+use Rattle.uid_names.specs.Modes.{mode_of_letter}
+use Rattle.uid_names.specs.declared.mode.Mode.{Mode}
+use Rattle.dom_text.specs.Cuts.{cut_at}
 use Rattle.script_reader.specs.declared.words.LineWord.{LineWord}
 use Rattle.script_reader.specs.declared.words.LineWord.TheVariants.{Node, Object, Fault, Phase}
 use Rattle.script_reader.specs.declared.words.Verb.{Verb}
@@ -20,7 +23,7 @@ line_words = Node ∷ Object ∷ Fault ∷ Phase ∷ []
 
 -- the line word that a word is
 abbrev pub line_word_of : List ℕ → Option LineWord
-line_word_of word = find (λ w. same_text (line_word_text w) word) line_words
+line_word_of word = written_so line_word_text line_words word
 
 abbrev pub verb_text : Verb → List ℕ
 verb_text New = codes "new"
@@ -40,7 +43,7 @@ verbs = New ∷ Lock ∷ Unlock ∷ Delete ∷ Load ∷ Store ∷ Length ∷ Map
 
 -- the command that a word is
 abbrev pub verb_of : List ℕ → Option Verb
-verb_of word = find (λ v. same_text (verb_text v) word) verbs
+verb_of word = written_so verb_text verbs word
 
 -- a word is a name
 abbrev pub is_name : List ℕ → Bool
@@ -55,20 +58,14 @@ pub record ProcessWord : Type 0 where
   pub node : List ℕ
   pub digits : List ℕ
 
--- what stands in front of the first dot of a word, and behind it
-abbrev pub before_dot : List ℕ → List ℕ
-before_dot [] = []
-before_dot (b ∷ word) = if b == 46 then [] else b ∷ before_dot word
-
-abbrev pub after_dot : List ℕ → List ℕ
-after_dot [] = []
-after_dot (b ∷ word) = if b == 46 then word else after_dot word
-
-abbrev pub process_parts : List ℕ → ProcessWord
-process_parts word = record { node = before_dot word; digits = after_dot word }
-
-abbrev pub is_process_word : ProcessWord → Bool
-is_process_word parts = is_name parts.node && are_digits parts.digits
+abbrev pub process_parts : Option (List ℕ × List ℕ) → Option ProcessWord
+process_parts None = None
+process_parts (Some (node, digits)) = if is_name node && are_digits digits then Some (record { node = node; digits = digits }) else None
 
 abbrev pub process_word : List ℕ → Option ProcessWord
-process_word word = if is_process_word (process_parts word) then Some (process_parts word) else None
+process_word word = process_parts (cut_at 46 word)
+
+-- the mode that a word of one letter is
+abbrev pub mode_of_word : List ℕ → Option Mode
+mode_of_word (letter ∷ []) = mode_of_letter letter
+mode_of_word _ = None

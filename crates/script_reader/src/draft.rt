@@ -1,13 +1,18 @@
 //! What the lines of a script have declared and asked for so far.
 ghost use Rattle.std.specs.Prelude.{◌≡◌, ◌≢◌, ◌≤◌, ◌<◌, ◌+◌, ◌-◌, ◌&&◌, ◌==◌, not, ℕ, List, [], ◌∷◌, ◌++◌, true, false, is_some, length, slice_index, IfOk, OnOk, OnErr, IfSome, MatchOption, None, Some};
+ghost use Rattle.uid_names.specs.Rooms.{IsRoom};
 ghost use Rattle.uid_names.specs.declared.mode.ObjKind.TheVariants.{File};
 ghost use Rattle.dom_history.specs.Plans.{is_set};
-ghost use Rattle.script_reader.specs.Notes.{NotesCommand};
-ghost use Rattle.script_reader.specs.Starts.{AreStarts};
+ghost use Rattle.script_reader.specs.Walk.Notes.{NotesCommand};
+ghost use Rattle.script_reader.specs.Walk.Starts.{AreStarts};
 ghost use Rattle.script_reader.specs.Grammar.{nothing};
-ghost use Rattle.script_reader.specs.Results.{Follows};
-ghost use Rattle.script_reader.specs.Scripts.{Content, IsContent, IsCommand, IsGivenFate, IsHome, IsSpoken, is_declared, knows};
-ghost use Rattle.script_reader.specs.Numbers.{has_numbers, is_fate, is_no_number, is_number, are_frames, number_in, is_offset, is_count, is_address, address_in};
+ghost use Rattle.dom_text.specs.Answers.{Gives};
+ghost use Rattle.script_reader.specs.Walk.Results.{line_answer};
+ghost use Rattle.script_reader.specs.Scripts.{Content, IsContent};
+ghost use Rattle.script_reader.specs.Commands.{IsCommand, IsHome};
+ghost use Rattle.script_reader.specs.Fates.{IsGivenFate};
+ghost use Rattle.script_reader.specs.Variables.{IsSpoken, is_declared, knows};
+ghost use Rattle.script_reader.specs.Numbers.{has_numbers, is_fate, is_no_number, is_number, are_frames, number_in, is_room, is_offset, is_count, is_address, address_in};
 ghost use Rattle.script_reader.specs.declared.command.Command.TheVariants.{Load as LoadCommand, Store as StoreCommand, Loadat as LoadatCommand, Storeat as StoreatCommand};
 ghost use Rattle.script_reader.specs.NamesAsked.{home_of, is_no_name};
 ghost use Rattle.script_reader.specs.NodeNames.{is_node_name, node_number, place_of};
@@ -16,9 +21,9 @@ ghost use Rattle.script_reader.specs.Repeats.{is_repeated};
 ghost use Rattle.script_reader.specs.Limits.{is_past_limit, pages_at};
 ghost use Rattle.script_reader.specs.SaidCommands.{home_number, command_with};
 ghost use Rattle.script_reader.specs.After.{after, declared_at, fate_said, frames_of, with_command, with_declared, with_fate, with_node};
-ghost use Rattle.script_reader.specs.Formed.{IsFormed};
+ghost use Rattle.script_reader.specs.Walk.Formed.{IsFormed};
 ghost use Rattle.script_reader.specs.Judging.{has_begun, judged_saying};
-ghost use Rattle.script_reader.specs.Seen.{seen, seen_command, seen_fate, seen_option};
+ghost use Rattle.script_reader.specs.Walk.Seen.{seen, seen_command, seen_fate, seen_option};
 ghost use Rattle.script_reader.specs.Words.{is_name};
 
 use crate::cause::{Cause, LineFault};
@@ -29,17 +34,17 @@ use crate::line::{
     MAX_PROCESS, MIN_FRAMES,
 };
 use crate::numbers::{address, number};
-use crate::script::{CommandRow, CommandRows, NodeRow, NodeRows, Script, VarRow, VarRows};
+use crate::script::{CommandRow, NodeRow, Script, VarRow};
 use dom_history::{Fate, FaultPlan};
 use std::alloc::Global;
 use std::marker::Model;
 use uid_names::{
-    ByteList, ENTRY_ROOM, MAX_ROOM, NoMemory, NodeId, ObjKind, Object, Opening, ProcId, Uid,
-    VOLUME_ROOM,
+    ByteList, ENTRY_ROOM, MAX_NODES, MAX_ROOM, NODE_PROCESSES, NoMemory, NodeId, ObjKind, Object,
+    Opening, ProcId, Uid, VOLUME_ROOM, WRITTEN_ROOM,
 };
 
-/// The most nodes of a script.
-const MAX_NODES: usize = 8;
+/// How many homes there may be.
+const HOMES: usize = MAX_NODES as usize;
 
 /// The most phases of a script.
 const MAX_PHASES: u32 = 1000;
@@ -66,8 +71,8 @@ pub(crate) struct Draft {
     commands: Vec<CommandRow>,
     declared: VarSet,
     named: NamedVars,
-    counts: [u32; 8],
-    pages: [u32; 8],
+    counts: [u32; HOMES],
+    pages: [u32; HOMES],
 }
 
 impl Model for Draft {
@@ -75,7 +80,7 @@ impl Model for Draft {
 
     ghost Value = { Content };
 
-    ghost use Rattle.script_reader.specs.Drafts.{content_of, HoldsDraft};
+    ghost use Rattle.script_reader.specs.Walk.Drafts.{content_of, HoldsDraft};
 
     ghost view = { content_of };
 
@@ -97,8 +102,8 @@ impl Draft {
             commands: Vec::new(alloc),
             declared: VarSet::new(alloc),
             named,
-            counts: [0; 8],
-            pages: [ENTRY_ROOM; 8],
+            counts: [0; HOMES],
+            pages: [ENTRY_ROOM; HOMES],
         })
     }
 
@@ -112,7 +117,7 @@ impl Draft {
     /// Takes a line that has its form, or refuses it for the first cause that it meets.
     pub(crate) fn take(&mut self, alloc: Global, line: Line<'_>) -> Result<(), LineFault>
         requires { IsFormed self.old (seen line) }
-        ensures { Follows self.new result (judged_saying self.old (seen line.entry)) }
+        ensures { Gives (line_answer self.new result) (judged_saying self.old (seen line.entry)) }
     {
         if line.is_no_number() {
             return Err(LineFault::Bad(Cause::Number));
@@ -225,10 +230,10 @@ impl Draft {
         ensures { result ≡ is_past_limit self.now (seen line.entry) }
     {
         match line {
-            Line::Node { .. } => self.nodes.len() >= MAX_NODES,
+            Line::Node { .. } => self.nodes.len() >= HOMES,
             Line::Object { room, home, .. } => {
                 let home = home_index(self.known_node(home));
-                self.pages[home] + number(room, 1, MAX_ROOM) > VOLUME_ROOM
+                self.pages[home] + room_of(room) > VOLUME_ROOM
             }
             Line::Fault { .. } => false,
             Line::Phase => self.phases >= MAX_PHASES,
@@ -250,7 +255,7 @@ impl Draft {
             Line::Node { name, frames } => self.add_node(alloc, name, frames_in(frames)),
             Line::Object { var, room, home } => {
                 let home = self.known_node(home);
-                self.add_object(alloc, var, number(room, 1, MAX_ROOM), home)
+                self.add_object(alloc, var, room_of(room), home)
             }
             Line::Fault {
                 from,
@@ -308,7 +313,7 @@ impl Draft {
         requires few { 5 ≤ frames }
         requires many { frames ≤ 256 }
         requires new { is_node_name self.old.nodes name.now ≡ false }
-        requires room { length self.old.nodes < 8 }
+        requires room { length self.old.nodes < MAX_NODES }
         ensures { OnOk result (self.new ≡ with_node self.old name.now frames) }
     {
         let name = ByteList::from_slice(alloc, name)?;
@@ -325,8 +330,7 @@ impl Draft {
         home: NodeId,
     ) -> Result<(), NoMemory>
         requires name { is_name var.now ≡ true }
-        requires low { 1 ≤ room }
-        requires high { room ≤ MAX_ROOM }
+        requires room { IsRoom room }
         requires home { home ≤ length self.old.nodes }
         requires new { is_declared self.old.objects var.now ≡ false }
         requires first { self.old.commands ≡ [] }
@@ -335,6 +339,7 @@ impl Draft {
     {
         let at = home_index(home);
         let uid = Uid::from_parts(self.counts[at] as u64 + FIRST_COUNTER, home);
+        let _range = uid.number();
         let name = ByteList::from_slice(alloc, var)?;
         self.objects.reserve(1)?;
         self.starts.reserve(1)?;
@@ -363,6 +368,7 @@ impl Draft {
         requires room { length self.old.commands < 20000 }
         ensures { OnOk result (self.new ≡ with_command self.old proc command) }
     {
+        let _range = (proc.node().number(), proc.number());
         self.commands.reserve(1)?;
         note_command(&mut self.named, alloc, proc, &command)?;
         let row = CommandRow {
@@ -395,6 +401,7 @@ impl Draft {
     fn node_named(&self, name: &[u8]) -> Option<NodeId>
         ensures found { is_some result ≡ is_node_name self.now.nodes name.now }
         ensures value { IfSome result (λ node. node ≡ node_number self.now.nodes name.now) }
+        ensures least { IfSome result (λ node. 1 ≤ node) }
         ensures within { IfSome result (λ node. node ≤ length self.now.nodes) }
     {
         let at = place(self.nodes.as_slice(), name)?;
@@ -405,6 +412,7 @@ impl Draft {
     fn known_node(&self, name: &[u8]) -> NodeId
         requires { is_node_name self.now.nodes name.now ≡ true }
         ensures value { result ≡ node_number self.now.nodes name.now }
+        ensures least { 1 ≤ result }
         ensures within { result ≤ length self.now.nodes }
     {
         match self.node_named(name) {
@@ -431,9 +439,6 @@ impl Draft {
             counts: _,
             pages: _,
         } = self;
-        let nodes = NodeRows::from_vec(nodes);
-        let objects = VarRows::from_vec(objects);
-        let commands = CommandRows::from_vec(commands);
         Ok(Script::new(nodes, opening, objects, plan, phases, commands))
     }
 
@@ -448,7 +453,7 @@ impl Draft {
 /// The opening of so many nodes with these objects.
 fn opening_of(alloc: Global, nodes: u8, starts: &[Object]) -> Result<Opening, NoMemory>
     requires low { 1 ≤ nodes }
-    requires high { nodes ≤ 8 }
+    requires high { nodes ≤ MAX_NODES }
     requires starts { AreStarts nodes starts.now }
     ensures { IfOk result (λ opening. opening ≡ record { nodes = nodes; greatest = MAX_ROOM; objects = starts.now }) }
 {
@@ -488,6 +493,16 @@ fn frames_in(frames: Option<&[u8]>) -> u16
     }
 }
 
+/// The room that a word spells.
+#[tactic(auto, using(crate::proofs::Ranges::room_is))]
+fn room_of(word: &[u8]) -> u32
+    requires { is_room word.now ≡ true }
+    ensures value { result ≡ number_in word.now }
+    ensures room { IsRoom result }
+{
+    number(word, 1, WRITTEN_ROOM)
+}
+
 /// The place of a node's name among the nodes, counted from 0.
 fn place(nodes: &[NodeRow], name: &[u8]) -> Option<usize>
     ensures value { result ≡ place_of nodes.now name.now }
@@ -500,15 +515,15 @@ fn place(nodes: &[NodeRow], name: &[u8]) -> Option<usize>
 fn home_index(home: NodeId) -> usize
     ensures value { result ≡ home - 1 }
     ensures least { 1 ≤ home }
-    ensures greatest { home ≤ 8 }
-    ensures within { result < 8 }
+    ensures greatest { home ≤ MAX_NODES }
+    ensures within { result < MAX_NODES }
 {
     home.number() as usize - 1
 }
 
 /// The process of these digits at a node.
 fn proc_of(node: NodeId, digits: &[u8]) -> ProcId
-    requires { is_number 1 4 digits.now ≡ true }
+    requires { is_number 1 NODE_PROCESSES digits.now ≡ true }
     ensures { result ≡ record { node = node; number = number_in digits.now } }
 {
     match ProcId::new(node, number(digits, 1, MAX_PROCESS) as u8) {
@@ -541,7 +556,7 @@ fn command_of(
     Ok(match words {
         CommandWords::New { var, room, .. } => Command::New {
             var: ByteList::from_slice(alloc, var)?,
-            room: number(room, 1, MAX_ROOM),
+            room: room_of(room),
             home,
         },
         CommandWords::Lock { var, mode } => Command::Lock {

@@ -1,8 +1,10 @@
 //! The forms of lines: how many tokens, which of them words or texts, and the fixed words. No function takes memory.
 ghost use Rattle.std.specs.Prelude.{◌≡◌, MatchOption, IfSome, Some, None, List, ◌∷◌, [], codes};
 ghost use Rattle.dom_text.specs.declared.token.Token.TheVariants.{Word, Text};
-ghost use Rattle.script_reader.specs.Sayings.{Saying, node_form as node_form_of, object_form as object_form_of, fault_form as fault_form_of, fate_form as fate_form_of, command_form as command_form_of, mode_of};
-ghost use Rattle.script_reader.specs.Seen.{seen, seen_command, seen_fate, JoinsTwo, BeginsWithNoWord, BeginsWithNoText, IsNotOneWord, IsNotOneText};
+ghost use Rattle.script_reader.specs.Sayings.{Saying};
+ghost use Rattle.script_reader.specs.Forms.{node_form as node_form_of, object_form as object_form_of, fault_form as fault_form_of, fate_form as fate_form_of, command_form as command_form_of};
+ghost use Rattle.script_reader.specs.Words.{mode_of_word};
+ghost use Rattle.script_reader.specs.Walk.Seen.{seen, seen_command, seen_fate, JoinsTwo, BeginsWithNoWord, BeginsWithNoText, IsNotOneWord, IsNotOneText};
 ghost use Rattle.script_reader.specs.declared.words.Verb.TheVariants.{New as NewVerb, Lock as LockVerb, Load as LoadVerb, Store as StoreVerb, Loadat as LoadatVerb, Storeat as StoreatVerb};
 
 use crate::line::{CommandWords, FateWords, Line};
@@ -169,12 +171,18 @@ fn lock_form(tokens: &[Token]) -> Option<CommandWords<'_>>
     ensures { MatchOption result (command_form_of LockVerb tokens.now ≡ None) (λ command. command_form_of LockVerb tokens.now ≡ Some (seen_command command)) }
 {
     let (var, rest) = first_word(tokens)?;
-    let mode = match only_word(rest)? {
-        b"r" => Mode::Read,
-        b"w" => Mode::Write,
-        _ => return None,
-    };
+    let mode = mode_of(only_word(rest)?)?;
     Some(CommandWords::Lock { var, mode })
+}
+
+/// The mode that a word of one letter is.
+fn mode_of(word: &[u8]) -> Option<Mode>
+    ensures { result ≡ mode_of_word word.now }
+{
+    match word {
+        [letter] => Mode::from_letter(*letter),
+        _ => None,
+    }
 }
 
 fn load_form(tokens: &[Token]) -> Option<CommandWords<'_>>

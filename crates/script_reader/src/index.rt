@@ -1,12 +1,13 @@
 //! Which variables were named: look-ups that go over no rows.
 ghost use Rattle.std.specs.Prelude.{◌≡◌, ◌≢◌, ◌<◌, slice_index_or, ◌↔◌, ◌⊎◌, ℕ, List, [], ◌∷◌, Contains, IsTrue, OnOk, OnErr, IfOk};
-ghost use Rattle.script_reader.specs.Index.{HasAlso, slot_of};
-ghost use Rattle.script_reader.specs.Named.{IsProc};
+ghost use Rattle.uid_names.specs.Names.{place_of_process};
+ghost use Rattle.script_reader.specs.Walk.Index.{HasAlso};
+ghost use Rattle.dom_history.specs.Ranges.{IsProcName};
 
 use std::alloc::Global;
 use std::collections::BTreeSet;
 use std::marker::Model;
-use uid_names::{NoMemory, ProcId};
+use uid_names::{NoMemory, PROCESSES, ProcId};
 
 /// Variables of declared objects, each once.
 #[derive(Drop)]
@@ -50,19 +51,6 @@ impl VarSet {
     }
 }
 
-/// How many processes there may be, of all nodes.
-const PROCESSES: usize = 32;
-
-/// The place of a process among all that there may be.
-fn slot(proc: ProcId) -> usize
-    ensures value { result ≡ slot_of proc }
-    ensures proc { IsProc proc }
-    ensures within { result < 32 }
-{
-    let node = proc.node().number();
-    (node as usize - 1) * 4 + (proc.number() as usize - 1)
-}
-
 /// The variables that each process named by a `new`.
 #[derive(Drop)]
 pub(crate) struct NamedVars {
@@ -71,18 +59,19 @@ pub(crate) struct NamedVars {
 
 impl Model for NamedVars {
     ghost use Rattle.std.specs.Prelude.{◌≡◌, ℕ, List, length};
+    ghost use Rattle.uid_names.specs.declared.limits.TheConstants.{PROCESSES};
 
     ghost Value = { List (List (List ℕ)) };
 
     ghost view = { λ v. v.sets.items };
 
-    ghost invariant = { λ v. length v.sets.items ≡ 32 };
+    ghost invariant = { λ v. length v.sets.items ≡ PROCESSES };
 }
 
 impl NamedVars {
     /// No process named a variable.
     pub(crate) fn new(alloc: Global) -> Result<NamedVars, NoMemory>
-        ensures { IfOk result (λ sets. (slot : ℕ) → slice_index_or sets slot [] ≡ []) }
+        ensures { IfOk result (λ sets. (place : ℕ) → slice_index_or sets place [] ≡ []) }
     {
         let mut sets = Vec::with_capacity(alloc, PROCESSES)?;
         while sets.len() < PROCESSES {
@@ -93,19 +82,20 @@ impl NamedVars {
 
     /// Whether the process named the variable.
     pub(crate) fn has(&self, proc: ProcId, var: &[u8]) -> bool
-        ensures { IsTrue result ↔ Contains (slice_index_or self.now (slot_of proc) []) var.now }
+        ensures { IsTrue result ↔ Contains (slice_index_or self.now (place_of_process proc) []) var.now }
     {
-        self.sets[slot(proc)].has(var)
+        self.sets[proc.place()].has(var)
     }
 
     /// Puts a variable that the process names; without memory nothing changes.
     pub(crate) fn add(&mut self, alloc: Global, proc: ProcId, var: &[u8]) -> Result<(), NoMemory>
-        ensures own { OnOk result (HasAlso (slice_index_or self.old (slot_of proc) []) (slice_index_or self.new (slot_of proc) []) var.now) }
-        ensures others { (slot : ℕ) → slot ≢ slot_of proc → slice_index_or self.new slot [] ≡ slice_index_or self.old slot [] }
-        ensures proc { IsProc proc }
+        ensures own { OnOk result (HasAlso (slice_index_or self.old (place_of_process proc) []) (slice_index_or self.new (place_of_process proc) []) var.now) }
+        ensures others { (place : ℕ) → place ≢ place_of_process proc → slice_index_or self.new place [] ≡ slice_index_or self.old place [] }
+        ensures proc { IsProcName proc }
         ensures err { OnErr result (self.new ≡ self.old) }
     {
-        let set = &mut self.sets[slot(proc)];
+        let _range = (proc.node().number(), proc.number());
+        let set = &mut self.sets[proc.place()];
         set.add(alloc, var)
     }
 }

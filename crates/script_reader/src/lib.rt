@@ -18,4 +18,4 @@ mod words;
 pub use cause::{Cause, ScriptFault};
 pub use command::Command;
 pub use reader::read_script;
-pub use script::{CommandRow, CommandRows, NodeRow, NodeRows, Script, VarRow, VarRows};
+pub use script::{CommandRow, NodeRow, Script, VarRow};

@@ -2,20 +2,17 @@
 ghost use Rattle.std.specs.Prelude.{◌≡◌, ◌&&◌};
 ghost use Rattle.script_reader.specs.Numbers.{are_frames as are_frames_in, is_fate as is_fate_word, is_room as is_room_word, is_offset as is_offset_word, is_count as is_count_word, is_text as is_text_word, has_numbers as has_numbers_in, is_no_number as is_no_number_in};
 ghost use Rattle.script_reader.specs.NamesAsked.{is_name_or_none, var_of, home_of, is_no_name as is_no_name_in};
-ghost use Rattle.script_reader.specs.Seen.{seen, seen_command, seen_fate, seen_option};
+ghost use Rattle.script_reader.specs.Walk.Seen.{seen, seen_command, seen_fate, seen_option};
 
 use crate::numbers::{is_address, is_number};
 use crate::words::is_name;
-use uid_names::{MAX_ROOM, Mode};
+use uid_names::{Mode, NODE_PROCESSES, PAGE_BYTES, WRITTEN_ROOM};
 
-/// The greatest offset of a command, in bytes.
-pub(crate) const MAX_OFFSET: u32 = 1_048_575;
+/// The greatest offset of a command, in bytes: the last byte of the greatest room that can be written.
+pub(crate) const MAX_OFFSET: u32 = WRITTEN_ROOM * PAGE_BYTES as u32 - 1;
 
 /// The most bytes that a command loads or stores.
-pub(crate) const MAX_COUNT: u32 = 1024;
-
-/// The most bytes of a stored text.
-const MAX_TEXT: usize = 1024;
+pub(crate) const MAX_COUNT: u32 = PAGE_BYTES as u32;
 
 /// The fewest and the most page frames of a node.
 pub(crate) const MIN_FRAMES: u32 = 5;
@@ -28,8 +25,8 @@ pub(crate) const MAX_INDEX: u32 = 1_000_000;
 /// The greatest number of a fate.
 pub(crate) const MAX_LATE: u32 = 1000;
 
-/// The greatest number of a process.
-pub(crate) const MAX_PROCESS: u32 = 4;
+/// The greatest number of a process at its node.
+pub(crate) const MAX_PROCESS: u32 = NODE_PROCESSES as u32;
 
 /// The words of a fate.
 #[derive(Clone, Copy)]
@@ -125,18 +122,18 @@ impl FateWords<'_> {
     }
 }
 
-/// Whether a stored text has 1 to 1,024 bytes.
+/// Whether a stored text has a byte at least, and no more than a page.
 fn is_text(text: &[u8]) -> bool
     ensures { result ≡ is_text_word text.now }
 {
-    !text.is_empty() && text.len() <= MAX_TEXT
+    !text.is_empty() && text.len() <= PAGE_BYTES
 }
 
 /// Whether a word spells a room.
 fn is_room(word: &[u8]) -> bool
     ensures { result ≡ is_room_word word.now }
 {
-    is_number(word, 1, MAX_ROOM)
+    is_number(word, 1, WRITTEN_ROOM)
 }
 
 /// Whether a word spells a count.

@@ -3,9 +3,11 @@ ghost use Rattle.std.specs.Prelude.{◌≡◌, ◌<◌, ◌≤◌, List, ◌∷�
 ghost use Rattle.std.specs.Option.{ForSome};
 ghost use Rattle.script_reader.specs.Grammar.{AreGood, IsScript, nothing, raw_lines, without_cr as without_cr_of};
 ghost use Rattle.script_reader.specs.Judging.{judged, judged_form, judged_place, judged_process, judged_tokens};
-ghost use Rattle.script_reader.specs.Results.{Follows, IsRefusal, RefusesLines};
-ghost use Rattle.script_reader.specs.Sayings.{phase_form as phase_form_of};
-ghost use Rattle.script_reader.specs.Seen.{JoinsTwo, seen, seen_line};
+ghost use Rattle.dom_text.specs.Answers.{Gives};
+ghost use Rattle.script_reader.specs.Walk.Results.{RefusesLines, line_answer};
+ghost use Rattle.script_reader.specs.Faults.{IsRefusal};
+ghost use Rattle.script_reader.specs.Forms.{phase_form as phase_form_of};
+ghost use Rattle.script_reader.specs.Walk.Seen.{JoinsTwo, seen, seen_line};
 ghost use Rattle.script_reader.specs.Words.{process_word as process_word_of};
 
 use crate::cause::{Cause, LineFault, ScriptFault};
@@ -13,12 +15,10 @@ use crate::draft::Draft;
 use crate::forms::{command_form, fault_form, first_word, node_form, object_form};
 use crate::line::Line;
 use crate::script::Script;
-use crate::words::{LineWord, cut, process_word, read_line_word, read_verb};
-use dom_text::{TextFault, Token, tokens};
+use crate::words::{LineWord, process_word, read_line_word, read_verb};
+use dom_text::{TextFault, Token, cut, tokens};
 use std::alloc::Global;
-
-/// The most bytes of a script.
-const MAX_BYTES: usize = 1_048_576;
+use uid_names::SCRIPT_BYTES;
 
 /// The most bytes of a line before its end.
 const MAX_LINE: usize = 5000;
@@ -28,7 +28,7 @@ pub fn read_script(alloc: Global, bytes: &[u8]) -> Result<Script, ScriptFault>
     ensures script { IfOk result (λ script. IsScript bytes.now script) }
     ensures bad { IfErr result (λ fault. IsRefusal bytes.now fault) }
 {
-    if bytes.len() > MAX_BYTES {
+    if bytes.len() > SCRIPT_BYTES as usize {
         return Err(ScriptFault::Bad {
             line: 0,
             cause: Cause::TooLong,
@@ -47,7 +47,7 @@ pub fn read_script(alloc: Global, bytes: &[u8]) -> Result<Script, ScriptFault>
 
 /// What the lines say, or the first bad one.
 fn read_lines(alloc: Global, bytes: &[u8]) -> Result<Draft, ScriptFault>
-    requires { length bytes.now ≤ 1048576 }
+    requires { length bytes.now ≤ SCRIPT_BYTES }
     ensures good { IfOk result (λ draft. AreGood nothing (raw_lines bytes.now) draft) }
     ensures bad { IfErr result (λ fault. RefusesLines bytes.now fault) }
 {
@@ -96,7 +96,7 @@ fn without_cr(line: &[u8]) -> &[u8]
 
 /// Reads a line without its end.
 fn read_line(draft: &mut Draft, alloc: Global, line: &[u8]) -> Result<(), LineFault>
-    ensures { Follows draft.new result (judged draft.old line.now) }
+    ensures { Gives (line_answer draft.new result) (judged draft.old line.now) }
 {
     if line.len() > MAX_LINE {
         return Err(LineFault::Bad(Cause::TooLong));
@@ -111,7 +111,7 @@ fn read_line(draft: &mut Draft, alloc: Global, line: &[u8]) -> Result<(), LineFa
 
 /// Reads the tokens of a line; a line without tokens is skipped.
 fn read_tokens(draft: &mut Draft, alloc: Global, tokens: &[Token]) -> Result<(), LineFault>
-    ensures { Follows draft.new result (judged_tokens draft.old tokens.now) }
+    ensures { Gives (line_answer draft.new result) (judged_tokens draft.old tokens.now) }
 {
     if tokens.is_empty() {
         return Ok(());
@@ -135,7 +135,7 @@ fn read_declaration(
     line: Option<Line<'_>>,
 ) -> Result<(), LineFault>
     requires { ForSome line (λ l. JoinsTwo (seen l)) }
-    ensures { Follows draft.new result (judged_place draft.old (seen_line line.entry)) }
+    ensures { Gives (line_answer draft.new result) (judged_place draft.old (seen_line line.entry)) }
 {
     if draft.has_begun() {
         return Err(LineFault::Bad(Cause::Place));
@@ -148,7 +148,7 @@ fn read_declaration(
 
 /// Reads a phase, of which these tokens stand behind its word.
 fn read_phase(draft: &mut Draft, alloc: Global, rest: &[Token]) -> Result<(), LineFault>
-    ensures { Follows draft.new result (judged_form draft.old (phase_form_of rest.now)) }
+    ensures { Gives (line_answer draft.new result) (judged_form draft.old (phase_form_of rest.now)) }
 {
     if !rest.is_empty() {
         return Err(LineFault::Bad(Cause::Form));
@@ -163,7 +163,7 @@ fn read_command(
     word: &[u8],
     rest: &[Token],
 ) -> Result<(), LineFault>
-    ensures { Follows draft.new result (judged_process draft.old (process_word_of word.now) rest.now) }
+    ensures { Gives (line_answer draft.new result) (judged_process draft.old (process_word_of word.now) rest.now) }
 {
     let Some((node, digits)) = process_word(word) else {
         return Err(LineFault::Bad(Cause::Word));

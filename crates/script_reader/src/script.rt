@@ -1,11 +1,8 @@
-//! What a script says, and the lists that it consists of.
-ghost use Rattle.std.specs.Prelude.{◌≡◌, List, [], ◌∷◌, ◌++◌, OnOk, OnErr};
-
+//! What a script says.
 use crate::command::Command;
 use dom_history::FaultPlan;
-use std::alloc::Global;
 use std::marker::Model;
-use uid_names::{ByteList, NoMemory, Opening, ProcId, Uid};
+use uid_names::{ByteList, Opening, ProcId, Uid};
 
 /// A node: its name, and how many page frames it has. The first row is node 1.
 #[derive(Drop, Debug)]
@@ -29,162 +26,15 @@ pub struct CommandRow {
     pub command: Command,
 }
 
-/// The nodes in order of their numbers.
-#[derive(Drop, Debug)]
-pub struct NodeRows {
-    items: Vec<NodeRow>,
-}
-
-impl Model for NodeRows {
-    ghost use Rattle.std.specs.Prelude.{List};
-    ghost use Rattle.script_reader.specs.declared.script.NodeRow.{NodeRow};
-
-    ghost Value = { List NodeRow };
-
-    ghost view = { λ b. b.items.items };
-}
-
-impl NodeRows {
-    /// The list of these rows.
-    pub(crate) fn from_vec(items: Vec<NodeRow>) -> NodeRows
-        ensures { result ≡ items.items }
-    {
-        NodeRows { items }
-    }
-
-    /// The empty list. Takes no memory.
-    pub fn new(alloc: Global) -> NodeRows
-        ensures { result ≡ [] }
-    {
-        NodeRows {
-            items: Vec::new(alloc),
-        }
-    }
-
-    /// Puts a row last; without memory the list stays as it was.
-    pub fn push(&mut self, row: NodeRow) -> Result<(), NoMemory>
-        ensures ok { OnOk result (self.new ≡ self.old ++ row ∷ []) }
-        ensures err { OnErr result (self.new ≡ self.old) }
-    {
-        self.items.push(row)?;
-        Ok(())
-    }
-
-    /// The rows.
-    pub fn items(&self) -> &[NodeRow]
-        ensures { result.now ≡ self.now }
-    {
-        self.items.as_slice()
-    }
-}
-
-/// The declared objects in script order.
-#[derive(Drop, Debug)]
-pub struct VarRows {
-    items: Vec<VarRow>,
-}
-
-impl Model for VarRows {
-    ghost use Rattle.std.specs.Prelude.{List};
-    ghost use Rattle.script_reader.specs.declared.script.VarRow.{VarRow};
-
-    ghost Value = { List VarRow };
-
-    ghost view = { λ b. b.items.items };
-}
-
-impl VarRows {
-    /// The list of these rows.
-    pub(crate) fn from_vec(items: Vec<VarRow>) -> VarRows
-        ensures { result ≡ items.items }
-    {
-        VarRows { items }
-    }
-
-    /// The empty list. Takes no memory.
-    pub fn new(alloc: Global) -> VarRows
-        ensures { result ≡ [] }
-    {
-        VarRows {
-            items: Vec::new(alloc),
-        }
-    }
-
-    /// Puts a row last; without memory the list stays as it was.
-    pub fn push(&mut self, row: VarRow) -> Result<(), NoMemory>
-        ensures ok { OnOk result (self.new ≡ self.old ++ row ∷ []) }
-        ensures err { OnErr result (self.new ≡ self.old) }
-    {
-        self.items.push(row)?;
-        Ok(())
-    }
-
-    /// The rows.
-    pub fn items(&self) -> &[VarRow]
-        ensures { result.now ≡ self.now }
-    {
-        self.items.as_slice()
-    }
-}
-
-/// The commands of all processes in script order.
-#[derive(Drop, Debug)]
-pub struct CommandRows {
-    items: Vec<CommandRow>,
-}
-
-impl Model for CommandRows {
-    ghost use Rattle.std.specs.Prelude.{List};
-    ghost use Rattle.script_reader.specs.declared.script.CommandRow.{CommandRow};
-
-    ghost Value = { List CommandRow };
-
-    ghost view = { λ b. b.items.items };
-}
-
-impl CommandRows {
-    /// The list of these rows.
-    pub(crate) fn from_vec(items: Vec<CommandRow>) -> CommandRows
-        ensures { result ≡ items.items }
-    {
-        CommandRows { items }
-    }
-
-    /// The empty list. Takes no memory.
-    pub fn new(alloc: Global) -> CommandRows
-        ensures { result ≡ [] }
-    {
-        CommandRows {
-            items: Vec::new(alloc),
-        }
-    }
-
-    /// Puts a row last; without memory the list stays as it was.
-    pub fn push(&mut self, row: CommandRow) -> Result<(), NoMemory>
-        ensures ok { OnOk result (self.new ≡ self.old ++ row ∷ []) }
-        ensures err { OnErr result (self.new ≡ self.old) }
-    {
-        self.items.push(row)?;
-        Ok(())
-    }
-
-    /// The rows.
-    pub fn items(&self) -> &[CommandRow]
-        ensures { result.now ≡ self.now }
-    {
-        self.items.as_slice()
-    }
-}
-
 /// A script: what each of its lines declares or asks for. It keeps all that the grammar asks of a script.
 #[derive(Drop)]
 pub struct Script {
-    nodes: NodeRows,
+    nodes: Vec<NodeRow>,
     opening: Opening,
-    objects: VarRows,
+    objects: Vec<VarRow>,
     plan: FaultPlan,
     phases: u32,
-    commands: CommandRows,
+    commands: Vec<CommandRow>,
 }
 
 impl Model for Script {
@@ -192,9 +42,9 @@ impl Model for Script {
 
     ghost Value = { Content };
 
-    ghost view = { λ s. record { nodes = s.nodes; opening = s.opening; objects = s.objects; plan = s.plan; phases = s.phases; commands = s.commands } };
+    ghost view = { λ s. record { nodes = s.nodes.items; opening = s.opening; objects = s.objects.items; plan = s.plan; phases = s.phases; commands = s.commands.items } };
 
-    ghost invariant = { λ s. IsContent (record { nodes = s.nodes; opening = s.opening; objects = s.objects; plan = s.plan; phases = s.phases; commands = s.commands }) };
+    ghost invariant = { λ s. IsContent (record { nodes = s.nodes.items; opening = s.opening; objects = s.objects.items; plan = s.plan; phases = s.phases; commands = s.commands.items }) };
 }
 
 impl Script {
@@ -203,15 +53,15 @@ impl Script {
 
     /// The script of these parts.
     pub(crate) fn new(
-        nodes: NodeRows,
+        nodes: Vec<NodeRow>,
         opening: Opening,
-        objects: VarRows,
+        objects: Vec<VarRow>,
         plan: FaultPlan,
         phases: u32,
-        commands: CommandRows,
+        commands: Vec<CommandRow>,
     ) -> Script
-        requires { IsContent (record { nodes = nodes; opening = opening; objects = objects; plan = plan; phases = phases; commands = commands }) }
-        ensures { result ≡ record { nodes = nodes; opening = opening; objects = objects; plan = plan; phases = phases; commands = commands } }
+        requires { IsContent (record { nodes = nodes.items; opening = opening; objects = objects.items; plan = plan; phases = phases; commands = commands.items }) }
+        ensures { result ≡ record { nodes = nodes.items; opening = opening; objects = objects.items; plan = plan; phases = phases; commands = commands.items } }
     {
         Script {
             nodes,
@@ -228,7 +78,7 @@ impl Script {
         ensures value { result.now ≡ self.now.nodes }
         ensures content { IsContent self.now }
     {
-        self.nodes.items()
+        self.nodes.as_slice()
     }
 
     /// What there is at the start: the declared objects, in script order.
@@ -244,7 +94,7 @@ impl Script {
         ensures value { result.now ≡ self.now.objects }
         ensures content { IsContent self.now }
     {
-        self.objects.items()
+        self.objects.as_slice()
     }
 
     /// The fates of frames.
@@ -268,6 +118,6 @@ impl Script {
         ensures value { result.now ≡ self.now.commands }
         ensures content { IsContent self.now }
     {
-        self.commands.items()
+        self.commands.as_slice()
     }
 }

@@ -3,9 +3,10 @@ ghost use Rattle.std.specs.Prelude.{◌≡◌, ◌≢◌, Some, None, MatchOptio
 ghost use Rattle.std.specs.Char.{is_ascii_digit};
 ghost use Rattle.uid_names.specs.NameTexts.{is_name_byte as may_stand_in_name};
 ghost use Rattle.script_reader.specs.Words.{are_digits as are_digits_in, is_name as is_name_text, line_word_of, line_word_text, process_word as process_word_of, verb_of, verb_text};
-ghost use Rattle.script_reader.specs.Cuts.{Lacks, IsCutAt};
 ghost use Rattle.script_reader.specs.declared.words.LineWord.{LineWord};
 ghost use Rattle.script_reader.specs.declared.words.Verb.{Verb};
+
+use dom_text::cut;
 
 /// The most bytes of a name.
 const MAX_NAME: usize = 32;
@@ -83,14 +84,6 @@ pub(crate) fn process_word(word: &[u8]) -> Option<(&[u8], &[u8])>
     } else {
         None
     }
-}
-
-/// The text before the first such byte, and the text after it.
-pub(crate) fn cut(text: &[u8], byte: u8) -> Option<(&[u8], &[u8])>
-    ensures { MatchOption result (Lacks byte text.now) (λ parts. IsCutAt byte text.now parts.0.now parts.1.now) }
-{
-    let at = text.iter().position(|b| *b == byte)?;
-    Some((&text[..at], &text[at + 1..]))
 }
 
 /// Whether this byte may stand in a name.

@@ -1,18 +1,20 @@
 //! What an event did, from the text behind what it is.
 ghost use Rattle.std.specs.Prelude.{◌≡◌, ◌++◌, ◌∷◌, [], Some, None, IsTrue, IfSome, IfOk, if◌then◌else◌};
 ghost use Rattle.uid_names.specs.FrameKinds.{kind_number};
-ghost use Rattle.dom_history.specs.Events.{IsProcNumber, IsKindNumber};
+ghost use Rattle.dom_history.specs.Events.{IsKindNumber};
+ghost use Rattle.dom_history.specs.Ranges.{IsProcNumber};
 ghost use Rattle.dom_history.specs.declared.event.Effects.{Effects};
-ghost use Rattle.journal_text.specs.Cuts.{BeginsWithSemicolon};
+ghost use Rattle.journal_text.specs.Walk.Heads.{BeginsWithSemicolon, pieces_of};
 ghost use Rattle.journal_text.specs.Lines.{drop_text, sent_text, ended_text, effects_text};
-ghost use Rattle.journal_text.specs.Reading.{page_of, sent_of, ended_of, effect_in, effect_of, effects_of, and_effect, with_effect, pieces_of};
-ghost use Rattle.journal_text.specs.Spelling.{effect_text, IsEffect, AreRead};
+ghost use Rattle.journal_text.specs.Walk.LineEffects.{page_of, sent_of, ended_of, effect_in, effect_of, effects_of, and_effect, with_effect};
+ghost use Rattle.journal_text.specs.Walk.EffectTexts.{effect_text, IsEffect, AreRead};
 ghost use Rattle.journal_text.specs.Written.{IsPage, IsSent};
 
 use super::fields::{end_word, kind, node, number, number32, proc, uid};
 use super::words::{EffectWord, effect_word};
-use crate::cuts::{cut, head};
+use crate::heads::head;
 use dom_history::{Dropped, Effects, EndWord, NodeNames, Sent};
+use dom_text::cut;
 use std::alloc::Global;
 use uid_names::{NoMemory, Uid};
 
@@ -28,7 +30,7 @@ pub(crate) enum Effect {
 }
 
 /// The object and the number of a page that was dropped.
-#[tactic(auto, unfolding(crate::specs::Reading::page_of))]
+#[tactic(auto, unfolding(crate::specs::Walk::LineEffects::page_of))]
 fn page(text: &[u8]) -> Option<(Uid, u32)>
     ensures value { result ≡ page_of text.now }
     ensures text { IfSome result (λ page. 59 ∷ 32 ∷ 100 ∷ 114 ∷ 111 ∷ 112 ∷ 32 ∷ text.now ≡ drop_text page) }
@@ -41,7 +43,7 @@ fn page(text: &[u8]) -> Option<(Uid, u32)>
 }
 
 /// The frame that was sent.
-#[tactic(auto, unfolding(crate::specs::Reading::sent_of))]
+#[tactic(auto, unfolding(crate::specs::Walk::LineEffects::sent_of))]
 fn sent(names: &NodeNames, text: &[u8]) -> Option<Sent>
     ensures value { result ≡ sent_of names.now text.now }
     ensures text { IfSome result (λ sent. 59 ∷ 32 ∷ 115 ∷ 101 ∷ 110 ∷ 100 ∷ 32 ∷ text.now ≡ sent_text names.now (Some sent)) }
@@ -64,7 +66,7 @@ fn sent(names: &NodeNames, text: &[u8]) -> Option<Sent>
 }
 
 /// The process whose operation ended, and how.
-#[tactic(auto, unfolding(crate::specs::Reading::ended_of))]
+#[tactic(auto, unfolding(crate::specs::Walk::LineEffects::ended_of))]
 fn ended(text: &[u8]) -> Option<(u8, EndWord)>
     ensures value { result ≡ ended_of text.now }
     ensures text { IfSome result (λ ended. 59 ∷ 32 ∷ 101 ∷ 110 ∷ 100 ∷ 32 ∷ text.now ≡ ended_text (Some ended)) }
@@ -77,7 +79,7 @@ fn ended(text: &[u8]) -> Option<(u8, EndWord)>
 }
 
 /// The effect of a text that stands behind `; `.
-#[tactic(auto, unfolding(crate::specs::Reading::effect_in, crate::specs::Reading::effect_behind))]
+#[tactic(auto, unfolding(crate::specs::Walk::LineEffects::effect_in, crate::specs::Walk::LineEffects::effect_behind))]
 fn effect_behind_space(names: &NodeNames, text: &[u8]) -> Option<Effect>
     ensures value { result ≡ effect_in names.now text.now }
     ensures text { IfSome result (λ effect. 59 ∷ 32 ∷ text.now ≡ effect_text names.now effect) }
@@ -98,7 +100,7 @@ fn effect_behind_space(names: &NodeNames, text: &[u8]) -> Option<Effect>
 }
 
 /// The effect of a piece that stands behind `;`.
-#[tactic(auto, unfolding(crate::specs::Reading::effect_of))]
+#[tactic(auto, unfolding(crate::specs::Walk::LineEffects::effect_of))]
 fn effect_of_piece(names: &NodeNames, piece: &[u8]) -> Option<Effect>
     ensures value { result ≡ effect_of names.now piece.now }
     ensures text { IfSome result (λ effect. 59 ∷ piece.now ≡ effect_text names.now effect) }
@@ -111,7 +113,7 @@ fn effect_of_piece(names: &NodeNames, piece: &[u8]) -> Option<Effect>
 }
 
 /// Adds an effect, if it may stand behind those that are there.
-#[tactic(auto, unfolding(crate::specs::Reading::with_effect))]
+#[tactic(auto, unfolding(crate::specs::Walk::LineEffects::with_effect))]
 fn add(effects: &mut Effects, effect: Effect) -> Result<bool, NoMemory>
     ensures { IfOk result (λ added. with_effect effects.old effect ≡ (if added then Some effects.new else None)) }
 {

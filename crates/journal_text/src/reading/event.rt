@@ -3,19 +3,20 @@ ghost use Rattle.std.specs.Prelude.{◌≡◌, ◌≢◌, ◌++◌, ◌∷◌, �
 ghost use Rattle.dom_history.specs.Events.{Happening, IsWhat};
 ghost use Rattle.dom_history.specs.NodeTexts.{AreNodeNames};
 ghost use Rattle.journal_text.specs.Lines.{what_text, place_text, line};
-ghost use Rattle.journal_text.specs.Reading.{what_of, what_behind, what_word_text, notice_of, mark_of, start_of};
+ghost use Rattle.journal_text.specs.Walk.LineStarts.{what_of, what_behind, what_word_text, notice_of, mark_of, start_of};
 ghost use Rattle.journal_text.specs.Written.{IsCount, IsNode, IsWhatOf, IsWritten};
 
 use super::effects::read_effects;
 use super::fields::{node, number, number32, numbered, proc};
 use super::words::{WhatWord, what_word};
-use crate::cuts::{cut, head};
+use crate::heads::head;
 use dom_history::{Event, NodeNames, What};
+use dom_text::cut;
 use std::alloc::Global;
 use uid_names::{NoMemory, Place};
 
 /// A notice, from the text behind its word.
-#[tactic(auto, unfolding(crate::specs::Reading::notice_of))]
+#[tactic(auto, unfolding(crate::specs::Walk::LineStarts::notice_of))]
 fn notice(names: &NodeNames, text: &[u8]) -> Option<What>
     ensures value { result ≡ notice_of names.now text.now }
     ensures text { IfSome result (λ what. codes "notice " ++ text.now ≡ what_text names.now what) }
@@ -31,7 +32,7 @@ fn notice(names: &NodeNames, text: &[u8]) -> Option<What>
 }
 
 /// A mark, from the text behind its word.
-#[tactic(auto, unfolding(crate::specs::Reading::mark_of))]
+#[tactic(auto, unfolding(crate::specs::Walk::LineStarts::mark_of))]
 fn mark(names: &NodeNames, text: &[u8]) -> Option<What>
     ensures value { result ≡ mark_of names.now text.now }
     ensures text { IfSome result (λ what. codes "mark " ++ text.now ≡ what_text names.now what) }
@@ -45,7 +46,7 @@ fn mark(names: &NodeNames, text: &[u8]) -> Option<What>
 }
 
 /// An event of this word, from the text behind the word.
-#[tactic(auto, unfolding(crate::specs::Reading::what_behind))]
+#[tactic(auto, unfolding(crate::specs::Walk::LineStarts::what_behind))]
 fn what_of_word(names: &NodeNames, word: WhatWord, text: &[u8]) -> Option<What>
     ensures value { result ≡ what_behind names.now word text.now }
     ensures text { IfSome result (λ what. what_word_text word ++ 32 ∷ text.now ≡ what_text names.now what) }
@@ -66,7 +67,7 @@ fn what_of_word(names: &NodeNames, word: WhatWord, text: &[u8]) -> Option<What>
 }
 
 /// What an event is.
-#[tactic(auto, unfolding(crate::specs::Reading::what_of))]
+#[tactic(auto, unfolding(crate::specs::Walk::LineStarts::what_of))]
 fn what(names: &NodeNames, text: &[u8]) -> Option<What>
     ensures value { result ≡ what_of names.now text.now }
     ensures text { IfSome result (λ what. text.now ≡ what_text names.now what) }
@@ -79,7 +80,7 @@ fn what(names: &NodeNames, text: &[u8]) -> Option<What>
 }
 
 /// Where an event stands, and what it is.
-#[tactic(auto, unfolding(crate::specs::Reading::start_of))]
+#[tactic(auto, unfolding(crate::specs::Walk::LineStarts::start_of))]
 fn start(names: &NodeNames, text: &[u8]) -> Option<(Place, What)>
     ensures value { result ≡ start_of names.now text.now }
     ensures text { IfSome result (λ found. text.now ≡ place_text names.now found.0 ++ what_text names.now found.1) }

@@ -4,20 +4,19 @@ ghost use Rattle.uid_names.specs.FrameKinds.{kind_name};
 ghost use Rattle.uid_names.specs.Names.{IsName};
 ghost use Rattle.uid_names.specs.Texts.{text_of};
 ghost use Rattle.dom_history.specs.EndWords.{word_text};
-ghost use Rattle.dom_history.specs.Events.{IsProcNumber};
-ghost use Rattle.dom_text.specs.Numbers.{number_of};
+ghost use Rattle.dom_history.specs.Ranges.{IsProcNumber};
+ghost use Rattle.dom_text.specs.Numbers.{number_spelled};
 ghost use Rattle.journal_text.specs.Lines.{node_text, numbered_text};
-ghost use Rattle.journal_text.specs.Reading.{number32_of, proc_of, node_of, uid_of, kind_of, end_of, numbered_of};
+ghost use Rattle.journal_text.specs.Walk.Fields.{number32_of, proc_of, node_of, uid_of, kind_of, end_of, numbered_of};
 ghost use Rattle.journal_text.specs.Written.{IsCount, IsNode};
 
-use crate::cuts::cut;
 use dom_history::{EndWord, NodeNames};
-use dom_text::decimal;
-use uid_names::{FrameKind, NodeId, Uid};
+use dom_text::{cut, decimal};
+use uid_names::{FrameKind, NODE_PROCESSES, NodeId, Uid};
 
 /// A number below 2^64.
 pub(super) fn number(word: &[u8]) -> Option<u64>
-    ensures value { result ≡ number_of word.now }
+    ensures value { result ≡ number_spelled word.now }
     ensures text { IfSome result (λ n. word.now ≡ decimal n) }
     ensures range { IfSome result IsCount }
 {
@@ -28,7 +27,7 @@ pub(super) fn number(word: &[u8]) -> Option<u64>
 }
 
 /// A number below 2^32.
-#[tactic(auto, unfolding(crate::specs::Reading::number32_of))]
+#[tactic(auto, unfolding(crate::specs::Walk::Fields::number32_of))]
 pub(super) fn number32(word: &[u8]) -> Option<u32>
     ensures value { result ≡ number32_of word.now }
     ensures text { IfSome result (λ n. word.now ≡ decimal n) }
@@ -42,15 +41,15 @@ pub(super) fn number32(word: &[u8]) -> Option<u32>
     }
 }
 
-/// The number of a process, 1 to 4.
-#[tactic(auto, unfolding(crate::specs::Reading::proc_of))]
+/// The number of a process at its node.
+#[tactic(auto, unfolding(crate::specs::Walk::Fields::proc_of))]
 pub(super) fn proc(word: &[u8]) -> Option<u8>
     ensures value { result ≡ proc_of word.now }
     ensures text { IfSome result (λ p. word.now ≡ decimal p) }
     ensures range { IfSome result IsProcNumber }
 {
     let number = number(word)?;
-    if 1 <= number && number <= 4 {
+    if 1 <= number && number <= NODE_PROCESSES as u64 {
         Some(number as u8)
     } else {
         None
@@ -86,6 +85,7 @@ pub(super) fn uid(word: &[u8]) -> Option<Uid>
 }
 
 /// The kind of frame of this name.
+#[tactic(auto, unfolding(crate::specs::Walk::Fields::kind_of))]
 pub(super) fn kind(word: &[u8]) -> Option<FrameKind>
     ensures value { result ≡ kind_of word.now }
     ensures text { IfSome result (λ kind. word.now ≡ kind_name kind) }
@@ -94,6 +94,7 @@ pub(super) fn kind(word: &[u8]) -> Option<FrameKind>
 }
 
 /// How an operation ended, by its word.
+#[tactic(auto, unfolding(crate::specs::Walk::Fields::end_of))]
 pub(super) fn end_word(word: &[u8]) -> Option<EndWord>
     ensures value { result ≡ end_of word.now }
     ensures text { IfSome result (λ end. word.now ≡ word_text end) }
@@ -102,7 +103,7 @@ pub(super) fn end_word(word: &[u8]) -> Option<EndWord>
 }
 
 /// A node, and a number behind it.
-#[tactic(auto, unfolding(crate::specs::Reading::numbered_of))]
+#[tactic(auto, unfolding(crate::specs::Walk::Fields::numbered_of))]
 pub(super) fn numbered(names: &NodeNames, text: &[u8]) -> Option<(NodeId, u64)>
     ensures value { result ≡ numbered_of names.now text.now }
     ensures text { IfSome result (λ found. text.now ≡ numbered_text names.now found.0 found.1) }

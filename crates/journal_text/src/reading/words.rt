@@ -1,6 +1,7 @@
 //! The words of events and effects. No function takes memory.
 ghost use Rattle.std.specs.Prelude.{◌≡◌, ◌≢◌, IfSome, MatchOption};
-ghost use Rattle.journal_text.specs.Reading.{what_word_text, what_word_of, effect_word_text, effect_word_of};
+ghost use Rattle.journal_text.specs.Walk.LineStarts.{what_word_text, what_word_of};
+ghost use Rattle.journal_text.specs.Walk.LineEffects.{effect_word_text, effect_word_of};
 ghost use Rattle.journal_text.specs.declared.reading.words.WhatWord.{WhatWord};
 ghost use Rattle.journal_text.specs.declared.reading.words.EffectWord.{EffectWord};
 

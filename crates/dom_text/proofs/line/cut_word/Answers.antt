@@ -1,8 +1,9 @@
 use Rattle.std.proofs.Common.{rules, ◌≡◌, ◌<◌, ℕ, List, [], ◌∷◌, ◌++◌, true, false, take, drop, length, slice_index, get_or, add-zero, ap, sym, subst, ◌∙◌, arith}
 use Rattle.std.proofs.lemmas.List.{take-append-drop, get_or-drop, length-drop}
-use Rattle.dom_text.specs.Reading.{AreApart, is_word_byte}
+use Rattle.dom_text.specs.Spelled.{is_word_byte}
+use Rattle.dom_text.specs.Walk.{AreApart}
 use Rattle.dom_text.specs.Tokens.{fault_at, is_blank, tokens_of}
-use Rattle.dom_text.proofs.Readings.{Fails-same}
+use Rattle.dom_text.proofs.Readings.{refuses_so}
 use Rattle.dom_text.proofs.Words.{BeginsWithWord, word_is_broken, word_is_first}
 use Rattle.dom_text.proofs.line.cut_word.Goals as goal
 use Rattle.dom_text.proofs.line.cut_word.Goals.{in_default-via-in-Some+else-not-is_blank, in_default-via-in_default}
@@ -34,7 +35,7 @@ returns-in-Some-clause-fault c =
     let blank : is_blank b ≡ false = search rules in
     let begun : BeginsWithWord (take end line ++ b ∷ behind) = subst BeginsWithWord whole c.requires.begun in
     let broken = word_is_broken (take end line) b behind begun c.word_end-end.ensures.word other blank in
-    rw (c.fault_at.ensures, whole, broken) (Fails-same _ (fault_at b))
+    rw (c.fault_at.ensures, whole, broken) (refuses_so _ (fault_at b))
 
 pub returns-in_default-clause-word : goal.returns-in_default-clause-word
 returns-in_default-clause-word c =

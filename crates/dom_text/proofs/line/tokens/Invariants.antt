@@ -1,5 +1,5 @@
 use Rattle.std.proofs.Common.{◌≡◌, length}
-use Rattle.dom_text.specs.Reading.{with_tokens}
+use Rattle.dom_text.specs.Walk.{with_tokens}
 use Rattle.dom_text.specs.Tokens.{tokens_of}
 use Rattle.dom_text.proofs.line.tokens.Given as goal
 

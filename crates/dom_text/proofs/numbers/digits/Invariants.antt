@@ -1,5 +1,5 @@
 use Rattle.std.proofs.Common.{◌≡◌, ◌<◌, ◌^◌, drop}
-use Rattle.dom_text.specs.Numbers.{number_of_digits}
+use Rattle.dom_text.specs.Walk.{number_of_digits}
 use Rattle.dom_text.proofs.Spelling.{digits_on}
 use Rattle.dom_text.proofs.numbers.digits.Given as goal
 

@@ -1,5 +1,5 @@
 use Rattle.std.proofs.Common.{ap, subst, ◌∙◌}
-use Rattle.dom_text.specs.Reading.{IsPiece}
+use Rattle.dom_text.specs.Walk.{IsPiece}
 use Rattle.dom_text.specs.Tokens.{Between, reading, as_text, tokens_in}
 use Rattle.dom_text.proofs.Readings.{between_is_closed, text_tokens, with_bytes}
 use Rattle.dom_text.proofs.quoted.read_text.Goals as goal

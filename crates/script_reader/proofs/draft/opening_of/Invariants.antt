@@ -1,5 +1,5 @@
 use Rattle.std.proofs.Common.{◌≡◌, take}
-use Rattle.uid_names.specs.declared.mode.TheConstants.{MAX_ROOM}
+use Rattle.uid_names.specs.declared.limits.TheConstants.{MAX_ROOM}
 use Rattle.script_reader.proofs.draft.opening_of.Given as goal
 
 abbrev pub invariant-loop-object : goal.invariant-loop-object

@@ -1,5 +1,6 @@
 use Rattle.std.proofs.Common.{rules, ◌≡◌, ℕ, List, [], ◌∷◌, true, false, Some, None, ap, ◌∙◌}
-use Rattle.journal_text.specs.Reading.{effects_of, pieces_of}
+use Rattle.journal_text.specs.Walk.LineEffects.{effects_of}
+use Rattle.journal_text.specs.Walk.Heads.{pieces_of}
 use Rattle.journal_text.proofs.Doings.{piece-taken, piece-text_taken, none-behind}
 use Rattle.journal_text.proofs.reading.effects.read_effects.Goals as goal
 

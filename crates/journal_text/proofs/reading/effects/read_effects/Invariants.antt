@@ -1,8 +1,8 @@
 use Rattle.std.proofs.Common.{◌≡◌, ◌++◌, length, Some}
-use Rattle.journal_text.specs.Cuts.{BeginsWithSemicolon}
+use Rattle.journal_text.specs.Walk.Heads.{BeginsWithSemicolon, pieces_of}
 use Rattle.journal_text.specs.Lines.{effects_text}
-use Rattle.journal_text.specs.Reading.{effects_of, pieces_of}
-use Rattle.journal_text.specs.Spelling.{AreRead}
+use Rattle.journal_text.specs.Walk.LineEffects.{effects_of}
+use Rattle.journal_text.specs.Walk.EffectTexts.{AreRead}
 use Rattle.journal_text.proofs.Doings.{no_effects}
 use Rattle.journal_text.proofs.reading.effects.read_effects.Given as goal
 

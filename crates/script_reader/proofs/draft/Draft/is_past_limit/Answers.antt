@@ -1,5 +1,6 @@
 use Rattle.std.proofs.Common.{◌≡◌, ◌+◌, slice_index_or, ap, ◌∙◌}
 use Rattle.std.specs.Prelude.{nat_lt}
+use Rattle.uid_names.specs.declared.limits.TheConstants.{VOLUME_ROOM}
 use Rattle.script_reader.specs.Numbers.{number_in}
 use Rattle.script_reader.specs.NodeNames.{node_number}
 use Rattle.script_reader.specs.Limits.{pages_at}
@@ -14,4 +15,4 @@ returns-in-Object c =
     let objects : d.starts.items ≡ c.args.self.now.opening.objects = ap (λ s. s.opening.objects) c.self.view_is in
     let pages : slice_index_or d.pages c.home_index-home.result 0 ≡ pages_at (node_number c.args.self.now.nodes c.in-Object.home.now) c.args.self.now.opening.objects =
     tally ∙ (ap (pages_at home) objects ∙ ap (λ h. pages_at h c.args.self.now.opening.objects) c.known_node.ensures.value) in
-    rw (c.in-Object.is, c.number.ensures.value) (ap (λ p. nat_lt 16384 (p + number_in c.in-Object.room.now)) pages)
+    rw (c.in-Object.is, c.room_of.ensures.value) (ap (λ p. nat_lt VOLUME_ROOM (p + number_in c.in-Object.room.now)) pages)

@@ -2,7 +2,7 @@ use Rattle.std.proofs.Common.{◌≡◌, ◌<◌, ℕ, List, [], length, get_or,
 use Rattle.std.specs.Prelude.{OnOk, Result}
 use Rattle.std.proofs.lemmas.List.{get_or_default}
 use Rattle.std.proofs.lemmas.Grind.{get_or-set_at}
-use Rattle.script_reader.specs.Index.{HasAlso}
+use Rattle.script_reader.specs.Walk.Index.{HasAlso}
 use Rattle.script_reader.proofs.index.NamedVars.add.Goals as goal
 
 -- what was added to one set
@@ -14,4 +14,4 @@ own E sets i j old new var r within same is h =
     rw (was, now) h
 
 pub returns-clause-own : goal.returns-clause-own
-returns-clause-own c = rw (← c.self.view_is) (own _ c.self.inside.sets.items c.slot.result _ c.index_mut-set.result.now c.add.new.self c.args.var.now c.add.result (omega (arith, c.self.invariant, c.slot.ensures.within)) c.slot.ensures.value c.index_mut-set.ensures.value c.add.ensures.ok)
+returns-clause-own c = rw (← c.self.view_is) (own _ c.self.inside.sets.items c.place.result _ c.index_mut-set.result.now c.add.new.self c.args.var.now c.add.result (omega (arith, c.self.invariant, c.place.ensures.bound)) c.place.ensures.value c.index_mut-set.ensures.value c.add.ensures.ok)

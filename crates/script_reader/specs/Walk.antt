@@ -1,0 +1,9 @@
+-- What the steps of the reader find and keep. No public clause cites these, and they decide nothing.
+pub mod Seen
+pub mod Formed
+pub mod Index
+pub mod Named
+pub mod Notes
+pub mod Starts
+pub mod Drafts
+pub mod Results

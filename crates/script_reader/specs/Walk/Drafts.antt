@@ -1,0 +1,41 @@
+-- What a draft holds beside its content, so that no test goes over all rows.
+use Rattle.std.specs.Prelude.{ℕ, ◌≡◌, ◌-◌, ◌≤◌, ◌↔◌, List, length, slice_index, Contains, IsTrue}
+use Rattle.uid_names.specs.declared.limits.TheConstants.{MAX_NODES, MAX_ROOM}
+use Rattle.uid_names.specs.declared.opening.Object.{Object}
+use Rattle.uid_names.specs.Beginnings.{at_home}
+use Rattle.script_reader.specs.Walk.Named.{HoldsNamed}
+use Rattle.script_reader.specs.Walk.Starts.{AreStarts}
+use Rattle.script_reader.specs.Limits.{pages_at}
+use Rattle.script_reader.specs.Scripts.{Content, IsDraft}
+use Rattle.script_reader.specs.Variables.{is_declared}
+use Rattle.script_reader.specs.declared.script.VarRow.{VarRow}
+use Rattle.script_reader.specs.declared.draft.Draft.TheInside.{Inside}
+
+-- the content that a draft has come to
+abbrev pub content_of : Inside → Content
+content_of d = record {
+  nodes = d.nodes.items;
+  opening = record { nodes = length d.nodes.items; greatest = MAX_ROOM; objects = d.starts.items };
+  objects = d.objects.items;
+  plan = d.plan;
+  phases = d.phases;
+  commands = d.commands.items;
+}
+
+-- the variables of the set are those of the declared objects
+abbrev pub HoldsDeclared : List (List ℕ) → List VarRow → Type 0
+HoldsDeclared set objects = (var : List ℕ) → Contains set var ↔ IsTrue (is_declared objects var)
+
+-- how many objects are declared at each home, and how many pages they take with the entry directory
+pub record HoldsTallies (counts pages : List ℕ) (starts : List Object) : Type 0 where
+  pub homes_counted : length counts ≡ MAX_NODES
+  pub homes_paged : length pages ≡ MAX_NODES
+  pub counts_are : (home : ℕ) → 1 ≤ home → home ≤ MAX_NODES → slice_index counts (home - 1) ≡ length (at_home home starts)
+  pub pages_are : (home : ℕ) → 1 ≤ home → home ≤ MAX_NODES → slice_index pages (home - 1) ≡ pages_at home starts
+
+pub record HoldsDraft (d : Inside) : Type 0 where
+  pub draft : IsDraft (content_of d)
+  pub starts : AreStarts (length d.nodes.items) d.starts.items
+  pub declared : HoldsDeclared d.declared d.objects.items
+  pub named : HoldsNamed d.named d.commands.items
+  pub tallies : HoldsTallies d.counts d.pages d.starts.items
