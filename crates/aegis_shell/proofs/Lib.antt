@@ -6,3 +6,4 @@ pub mod Onwards
 pub mod Turning
 pub mod Ranged
 pub mod Courses
+pub mod Shells

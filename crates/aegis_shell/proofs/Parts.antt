@@ -13,7 +13,8 @@ use Rattle.script_reader.specs.declared.command.Command.TheVariants.{New, Lock, 
 use Rattle.script_reader.specs.declared.script.NodeRow.{NodeRow}
 use Rattle.script_reader.specs.declared.script.VarRow.{VarRow}
 use Rattle.script_reader.specs.declared.script.CommandRow.{CommandRow}
-use Rattle.script_reader.specs.Scripts.{Content, IsContent, IsNode, IsCommand, IsCommandRow}
+use Rattle.script_reader.specs.Commands.{IsCommand, IsCommandRow}
+use Rattle.script_reader.specs.Scripts.{Content, IsContent, IsNode}
 use Rattle.aegis_shell.specs.Bound.{Bound, bind, declare}
 use Rattle.aegis_shell.specs.Work.{job_of}
 use Rattle.aegis_shell.specs.Ranges.{IsRanged, IsJob, AreJobs}

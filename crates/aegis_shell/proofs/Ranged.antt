@@ -1,28 +1,46 @@
 -- What a process asks is in the ranges of operations.
-use Rattle.std.proofs.Common.{◌≡◌, ℕ, ◌-◌, ◌≤◌, ◌<◌, Bool, true, false, Option, Some, None, List, [], ◌∷◌, length, take, drop, reverse, refl, arith, length-take, length-drop}
-use Rattle.std.specs.Prelude.{max, nat_le}
+use Rattle.std.proofs.Common.{◌≡◌, ℕ, suc, ◌-◌, ◌≤◌, ◌<◌, Bool, true, false, Option, Some, None, List, [], ◌∷◌, length, take, drop, map, reverse, refl, sym, subst, arith, length-take, length-drop}
+use Prim.Native.Nat.{zero}
+use Rattle.std.specs.Prelude.{max, nat_le, All, IfSome, filter, unwrap_or, cond}
+use Rattle.std.specs.Str.{bytes_eq}
 use Rattle.std.proofs.lemmas.Bool.Decides.{nat_tests}
-use Rattle.std.proofs.lemmas.List.Elements.{All-head, All-tail}
-use Rattle.uid_names.specs.Names.{ProcName, ObjectName}
+use Rattle.std.proofs.lemmas.List.Elements.{All-head, All-tail, All-map, All-filter, All-weaker, All-cons, All-nil, All-append}
+use Rattle.std.proofs.lemmas.Grind.{reverse_onto}
+use Rattle.std.proofs.lemmas.List.{length-map, get_or-map}
+use Rattle.uid_names.specs.Names.{ProcName, ObjectName, IsName, same_proc}
+use Rattle.uid_names.specs.declared.limits.TheConstants.{PAGE_BYTES, MAX_NODES}
+use Rattle.uid_names.specs.declared.opening.Object.{Object}
 use Rattle.dom_history.specs.declared.op.Spot.{Spot}
 use Rattle.dom_history.specs.declared.op.Spot.TheVariants.{Of, Addr}
 use Rattle.dom_history.specs.declared.op.Op.{Op}
 use Rattle.dom_history.specs.declared.op.Op.TheVariants as ops
 use Rattle.dom_history.specs.declared.op.Reply.{Reply}
-use Rattle.dom_history.specs.declared.op.Reply.TheVariants.{Fine}
-use Rattle.dom_history.specs.Ranges.{IsOp, IsWant, offset_in_page}
+use Rattle.dom_history.specs.declared.op.Reply.TheVariants.{Made, Fine, Bytes}
+use Rattle.dom_history.specs.Ranges.{IsOp, IsWant, IsSpot, IsNodeNumber, IsNamedReply, AreNamedReplies, offset_in_page}
 use Rattle.dom_history.specs.Follows.{Heard}
 use Rattle.script_reader.specs.declared.command.Command.{Command}
 use Rattle.script_reader.specs.declared.command.Command.TheVariants.{New, Lock, Unlock, Delete, Load, Store, Length, Map, Unmap, Loadat, Storeat}
-use Rattle.script_reader.specs.Scripts.{Content, IsContent}
+use Rattle.script_reader.specs.declared.script.VarRow.{VarRow}
+use Rattle.script_reader.specs.declared.script.CommandRow.{CommandRow}
+use Rattle.script_reader.specs.Scripts.{Content, IsContent, IsObject}
+use Rattle.script_reader.specs.Commands.{IsHome, IsCommand, IsCommandRow}
 use Rattle.aegis_shell.specs.declared.work.Job.{Job}
-use Rattle.aegis_shell.specs.Bound.{Bound, unbound, declare}
-use Rattle.aegis_shell.specs.Work.{Part, part_of, object_of}
+use Rattle.aegis_shell.specs.Bound.{Bound, unbound, bind, declare}
+use Rattle.aegis_shell.specs.Work.{Part, part_of, variable, object_in, or_else, object_of, job_of}
 use Rattle.aegis_shell.specs.Ranges.{IsRanged, IsJob, AreJobs}
 use Rattle.aegis_shell.specs.Operations.{page_rest, behind, loads, loads_if, stores, stores_if, on_object, ops_of}
 use Rattle.aegis_shell.specs.AnswerTexts.{is_done, together}
 use Rattle.aegis_shell.specs.Asking.{Told, Reached, behind_phases, Course, Asks, Ends, on_reply, carry_out, on_course, on_operations, on_phases, bound_after, reach, ask}
 use Rattle.aegis_shell.proofs.Parts.{jobs_ranged}
+
+-- the node that a command names, if it names one
+abbrev pub IsAtNode : Command → Type 0
+IsAtNode (New var room home) = IfSome home IsNodeNumber
+IsAtNode _ = Unit {0}
+
+-- what variables stand for has a name
+abbrev pub AreNames : Bound → Type 0
+AreNames bound = (var : List ℕ) → IfSome (bound var) IsName
 
 -- operations in their ranges
 abbrev pub AreOps : List Op → Type 0
@@ -34,7 +52,7 @@ AreGiven None = Unit {0}
 AreGiven (Some list) = AreOps list
 
 -- a spot begins in its page, and behind the rest of its page another page begins
-in_page : (spot : Spot) → offset_in_page spot < 1024
+in_page : (spot : Spot) → offset_in_page spot < PAGE_BYTES
 in_page (Of u o) = omega arith
 in_page (Addr a) = omega arith
 
@@ -42,88 +60,201 @@ border : (spot : Spot) → offset_in_page (behind spot (page_rest spot)) ≡ 0
 border (Of u o) = omega arith
 border (Addr a) = omega arith
 
-loads_ranged : (b : Bool) (spot : Spot) (n : ℕ) → nat_le n (page_rest spot) ≡ b → 1 ≤ n → n ≤ 1024 → AreOps (loads_if b spot n)
-loads_ranged true spot n fits some few =
+-- and it names the same object there
+behind-spot : (spot : Spot) (n : ℕ) → IsSpot spot → IsSpot (behind spot n)
+behind-spot (Of u o) n named = named
+behind-spot (Addr a) n named = tt
+
+loads_ranged : (b : Bool) (spot : Spot) (n : ℕ) → nat_le n (page_rest spot) ≡ b → IsSpot spot → 1 ≤ n → n ≤ PAGE_BYTES → AreOps (loads_if b spot n)
+loads_ranged true spot n fits named some few =
     let start = in_page spot in
     let short : n ≤ page_rest spot = grind (arith, nat_tests) in
-    ((some, omega arith), tt)
-loads_ranged false spot n passes some few =
+    ((named, (some, omega arith)), tt)
+loads_ranged false spot n passes named some few =
     let start = in_page spot in
     let next = border spot in
     let long : page_rest spot < n = grind (arith, nat_tests) in
-    ((omega arith, omega arith), ((omega arith, omega arith), tt))
+    ((named, (omega arith, omega arith)), ((behind-spot spot (page_rest spot) named, (omega arith, omega arith)), tt))
 
-stores_ranged : (b : Bool) (spot : Spot) (text : List ℕ) → nat_le (length text) (page_rest spot) ≡ b → 1 ≤ length text → length text ≤ 1024 → AreOps (stores_if b spot text)
-stores_ranged true spot text fits some few =
+stores_ranged : (b : Bool) (spot : Spot) (text : List ℕ) → nat_le (length text) (page_rest spot) ≡ b → IsSpot spot → 1 ≤ length text → length text ≤ PAGE_BYTES → AreOps (stores_if b spot text)
+stores_ranged true spot text fits named some few =
     let start = in_page spot in
     let short : length text ≤ page_rest spot = grind (arith, nat_tests) in
-    ((some, omega arith), tt)
-stores_ranged false spot text passes some few =
+    ((named, (some, omega arith)), tt)
+stores_ranged false spot text passes named some few =
     let start = in_page spot in
     let next = border spot in
     let long : page_rest spot < length text = grind (arith, nat_tests) in
     let front : length (take (page_rest spot) text) ≡ page_rest spot = omega (arith, length-take (page_rest spot) text) in
     let back : length (drop (page_rest spot) text) ≡ length text - page_rest spot = length-drop (page_rest spot) text in
-    ((omega arith, omega arith), ((omega arith, omega arith), tt))
+    ((named, (omega arith, omega arith)), ((behind-spot spot (page_rest spot) named, (omega arith, omega arith)), tt))
 
-given_on : (make : ObjectName → List Op) (uid : Option ObjectName) → ((u : ObjectName) → AreOps (make u)) → AreGiven (on_object make uid)
-given_on make None ranged = tt
-given_on make (Some u) ranged = ranged u
+given_on : (make : ObjectName → List Op) (uid : Option ObjectName) → IfSome uid IsName → ((u : ObjectName) → IsName u → AreOps (make u)) → AreGiven (on_object make uid)
+given_on make None named ranged = tt
+given_on make (Some u) named ranged = ranged u named
+
+-- the node of a command, or else that of its process
+at_node : (node : ℕ) (home : Option ℕ) → IsNodeNumber node → IfSome home IsNodeNumber → IsNodeNumber (unwrap_or home node)
+at_node node None own named = own
+at_node node (Some home) own named = named
 
 -- the operations of a command in its ranges
-ops_ranged : (node : ℕ) (c : Command) (uid : Option ObjectName) → IsRanged c → AreGiven (ops_of node c uid)
-ops_ranged node (New var room home) uid h = (h, tt)
-ops_ranged node (Lock var mode) uid h = given_on (λ u. ops.Lock u mode ∷ []) uid (λ u. (tt, tt))
-ops_ranged node (Unlock var) uid h = given_on (λ u. ops.Unlock u ∷ []) uid (λ u. (tt, tt))
-ops_ranged node (Delete var) uid h = given_on (λ u. ops.Delete u ∷ []) uid (λ u. (tt, tt))
-ops_ranged node (Load var offset count) uid h = given_on (λ u. loads (Of u offset) count) uid (λ u. loads_ranged _ (Of u offset) count refl h.1.0 h.1.1)
-ops_ranged node (Store var offset text) uid h = given_on (λ u. stores (Of u offset) text) uid (λ u. stores_ranged _ (Of u offset) text refl h.1.0 h.1.1)
-ops_ranged node (Length var) uid h = given_on (λ u. ops.Length u ∷ []) uid (λ u. (tt, tt))
-ops_ranged node (Map var) uid h = given_on (λ u. ops.Map u ∷ []) uid (λ u. (tt, tt))
-ops_ranged node (Unmap var) uid h = given_on (λ u. ops.Unmap u ∷ []) uid (λ u. (tt, tt))
-ops_ranged node (Loadat address count) uid h = loads_ranged _ (Addr address) count refl h.1.0 h.1.1
-ops_ranged node (Storeat address text) uid h = stores_ranged _ (Addr address) text refl h.1.0 h.1.1
+pub ops_ranged : (node : ℕ) (c : Command) (uid : Option ObjectName) → IsNodeNumber node → IsAtNode c → IfSome uid IsName → IsRanged c → AreGiven (ops_of node c uid)
+ops_ranged node (New var room home) uid own at named h = ((at_node node home own at, h), tt)
+ops_ranged node (Lock var mode) uid own at named h = given_on (λ u. ops.Lock u mode ∷ []) uid named (λ u is. (is, tt))
+ops_ranged node (Unlock var) uid own at named h = given_on (λ u. ops.Unlock u ∷ []) uid named (λ u is. (is, tt))
+ops_ranged node (Delete var) uid own at named h = given_on (λ u. ops.Delete u ∷ []) uid named (λ u is. (is, tt))
+ops_ranged node (Load var offset count) uid own at named h = given_on (λ u. loads (Of u offset) count) uid named (λ u is. loads_ranged _ (Of u offset) count refl is h.1.0 h.1.1)
+ops_ranged node (Store var offset text) uid own at named h = given_on (λ u. stores (Of u offset) text) uid named (λ u is. stores_ranged _ (Of u offset) text refl is h.1.0 h.1.1)
+ops_ranged node (Length var) uid own at named h = given_on (λ u. ops.Length u ∷ []) uid named (λ u is. (is, tt))
+ops_ranged node (Map var) uid own at named h = given_on (λ u. ops.Map u ∷ []) uid named (λ u is. (is, tt))
+ops_ranged node (Unmap var) uid own at named h = given_on (λ u. ops.Unmap u ∷ []) uid named (λ u is. (is, tt))
+ops_ranged node (Loadat address count) uid own at named h = loads_ranged _ (Addr address) count refl tt h.1.0 h.1.1
+ops_ranged node (Storeat address text) uid own at named h = stores_ranged _ (Addr address) text refl tt h.1.0 h.1.1
 
--- an operation that a command asks for is in its ranges
+-- replies that count together name what the later one names
+together-named : (earlier later : Reply) → IsNamedReply later → IsNamedReply (together earlier later)
+together-named (Bytes first) (Bytes second) named = tt
+together-named earlier later named = named
+
+-- an operation that a command asks for is in its ranges, and its reply names an object
 abbrev IsRangedCourse : Course → Type 0
 IsRangedCourse (Asks op) = IsOp op
-IsRangedCourse (Ends reply told) = Unit {0}
+IsRangedCourse (Ends reply told) = IsNamedReply reply × AreNamedReplies told
 
-replied_ranged : (done : Bool) (reply : Reply) (told : Told) (course : Course) → IsRangedCourse course → IsRangedCourse (on_reply done reply told course)
-replied_ranged true reply told course ranged = ranged
-replied_ranged false reply told course ranged = tt
+replied_ranged : (done : Bool) (reply : Reply) (told : Told) (course : Course) → IsNamedReply reply → AreNamedReplies told → IsRangedCourse course → IsRangedCourse (on_reply done reply told course)
+replied_ranged true reply told course named others ranged = ranged
+replied_ranged false reply told course named others ranged = (named, others)
 
-carried_ranged : (so_far : Reply) (list : List Op) (told : Told) → AreOps list → IsRangedCourse (carry_out so_far list told)
-carried_ranged so_far [] told ranged = tt
-carried_ranged so_far (op ∷ rest) [] ranged = ranged.0
-carried_ranged so_far (op ∷ rest) (None ∷ told) ranged = carried_ranged so_far rest told ranged.1
-carried_ranged so_far (op ∷ rest) (Some reply ∷ told) ranged = replied_ranged (is_done reply) reply told (carry_out (together so_far reply) rest told) (carried_ranged (together so_far reply) rest told ranged.1)
+carried_ranged : (so_far : Reply) (list : List Op) (told : Told) → IsNamedReply so_far → AreNamedReplies told → AreOps list → IsRangedCourse (carry_out so_far list told)
+carried_ranged so_far [] told named others ranged = (named, others)
+carried_ranged so_far (op ∷ rest) [] named others ranged = ranged.0
+carried_ranged so_far (op ∷ rest) (None ∷ told) named others ranged = carried_ranged so_far rest told named (All-tail (λ t. IfSome t IsNamedReply) None told others) ranged.1
+carried_ranged so_far (op ∷ rest) (Some reply ∷ told) named others ranged =
+    let first : IsNamedReply reply = All-head (λ t. IfSome t IsNamedReply) (Some reply) told others in
+    let later = All-tail (λ t. IfSome t IsNamedReply) (Some reply) told others in
+    replied_ranged (is_done reply) reply told (carry_out (together so_far reply) rest told) first later
+    (carried_ranged (together so_far reply) rest told (together-named so_far reply first) later ranged.1)
+
+-- a variable that is bound to a name leaves names
+bind-named : (var : List ℕ) (u : ObjectName) (bound : Bound) → IsName u → AreNames bound → AreNames (bind var u bound)
+bind-named var u bound named others other = by_test (bytes_eq var other) where
+  by_test : (same : Bool) → IfSome (cond same (Some u) (bound other)) IsName
+  by_test true = named
+  by_test false = others other
+
+bound_after-named : (c : Command) (reply : Reply) (bound : Bound) → IsNamedReply reply → AreNames bound → AreNames (bound_after c reply bound)
+bound_after-named (New var room home) (Made u) bound named others = bind-named var u bound named others
+bound_after-named _ _ bound named others = others
 
 -- what a process wants at a job, if what it wants behind the job is in its ranges
-course_ranged : (names : List (List ℕ)) (c : Command) (bound : Bound) (further : Bound → Told → Reached) → ((b : Bound) (t : Told) → IsWant (further b t).want)
-    → (course : Course) → IsRangedCourse course → IsWant (on_course names c bound further course).want
-course_ranged names c bound further behind_it (Asks op) h = h
-course_ranged names c bound further behind_it (Ends reply told) h = behind_it (bound_after c reply bound) told
+module _ (names : List (List ℕ)) (c : Command) (bound : Bound) (named : AreNames bound) (further : Bound → Told → Reached)
+    (behind_it : (b : Bound) (t : Told) → AreNames b → AreNamedReplies t → IsWant (further b t).want) where
+  course_ranged : (course : Course) → IsRangedCourse course → IsWant (on_course names c bound further course).want
+  course_ranged (Asks op) h = h
+  course_ranged (Ends reply told) h = behind_it (bound_after c reply bound) told (bound_after-named c reply bound h.0 named) h.1
 
-given_ranged : (names : List (List ℕ)) (c : Command) (bound : Bound) (further : Bound → Told → Reached) → ((b : Bound) (t : Told) → IsWant (further b t).want)
-    → (list : Option (List Op)) (told : Told) → AreGiven list → IsWant (on_operations names c bound further list told).want
-given_ranged names c bound further behind_it None told h = behind_it bound told
-given_ranged names c bound further behind_it (Some list) told h = course_ranged names c bound further behind_it (carry_out Fine list told) (carried_ranged Fine list told h)
+  given_ranged : (list : Option (List Op)) (told : Told) → AreNamedReplies told → AreGiven list → IsWant (on_operations names c bound further list told).want
+  given_ranged None told others h = behind_it bound told named others
+  given_ranged (Some list) told others h = course_ranged (carry_out Fine list told) (carried_ranged Fine list told tt others h)
 
-phases_ranged : (further : Told → Reached) → ((t : Told) → IsWant (further t).want) → (told : Option Told) → IsWant (on_phases further told).want
-phases_ranged further behind_it None = tt
-phases_ranged further behind_it (Some told) = behind_it told
+-- what is told behind phases is among what is told
+passed-named : (n : ℕ) (told : Told) → AreNamedReplies told → IfSome (behind_phases n told) AreNamedReplies
+passed-named zero told named = named
+passed-named (suc n) [] named = tt
+passed-named (suc n) (t ∷ told) named = passed-named n told (All-tail (λ t. IfSome t IsNamedReply) t told named)
 
-pub reach_ranged : (part : Part) (phase : ℕ) (bound : Bound) (jobs : List Job) (told : Told) → AreJobs jobs → IsWant (reach part phase bound jobs told).want
-reach_ranged part phase bound [] told ranged = tt
-reach_ranged part phase bound (job ∷ jobs) told ranged =
+phases_ranged : (further : Told → Reached) → ((t : Told) → AreNamedReplies t → IsWant (further t).want) → (told : Option Told) → IfSome told AreNamedReplies → IsWant (on_phases further told).want
+phases_ranged further behind_it None named = tt
+phases_ranged further behind_it (Some told) named = behind_it told named
+
+-- the object of a job
+object-named : (job : Job) (bound : Bound) → IfSome job.declared IsName → AreNames bound → IfSome (object_of job bound) IsName
+object-named job bound declared named = by_declared job.declared declared where
+  by_variable : (var : Option (List ℕ)) → IfSome (object_in bound var) IsName
+  by_variable None = tt
+  by_variable (Some var) = named var
+
+  by_declared : (o : Option ObjectName) → IfSome o IsName → IfSome (or_else o (object_in bound (variable job.command))) IsName
+  by_declared None h = by_variable (variable job.command)
+  by_declared (Some u) h = h
+
+-- a job names a node and an object
+pub record IsNamedJob (job : Job) : Type 0 where
+  pub node : IsAtNode job.command
+  pub declared : IfSome job.declared IsName
+
+pub reach_ranged : (part : Part) (phase : ℕ) (bound : Bound) (jobs : List Job) (told : Told)
+    → IsNodeNumber part.node → AreNames bound → All IsNamedJob jobs → AreNamedReplies told → AreJobs jobs → IsWant (reach part phase bound jobs told).want
+reach_ranged part phase bound [] told own named jobs_named others ranged = tt
+reach_ranged part phase bound (job ∷ jobs) told own named jobs_named others ranged =
     let list = ops_of part.node job.command (object_of job bound) in
     let further = λ (b : Bound) (t : Told). reach part (max phase job.phase) b jobs t in
+    let here = All-head IsNamedJob job jobs jobs_named in
     phases_ranged (on_operations part.names job.command bound further list)
-    (λ t. given_ranged part.names job.command bound further (λ b u. reach_ranged part (max phase job.phase) b jobs u (All-tail IsJob job jobs ranged)) list t
-    (ops_ranged part.node job.command (object_of job bound) (All-head IsJob job jobs ranged).command))
-    (behind_phases (job.phase - phase) told)
+    (λ t t_named. given_ranged part.names job.command bound named further
+    (λ b u b_named u_named. reach_ranged part (max phase job.phase) b jobs u own b_named (All-tail IsNamedJob job jobs jobs_named) u_named (All-tail IsJob job jobs ranged)) list t t_named
+    (ops_ranged part.node job.command (object_of job bound) own here.node (object-named job bound here.declared named) (All-head IsJob job jobs ranged).command))
+    (behind_phases (job.phase - phase) told) (passed-named (job.phase - phase) told others)
+
+-- declared objects have names
+declare-named : (rows : List VarRow) (bound : Bound) → All (λ row. IsName row.uid) rows → AreNames bound → AreNames (declare rows bound)
+declare-named [] bound rows_named named = named
+declare-named (row ∷ rows) bound rows_named named =
+    declare-named rows (bind row.var row.uid bound) (All-tail (λ r. IsName r.uid) row rows rows_named)
+    (bind-named row.var row.uid bound (All-head (λ r. IsName r.uid) row rows rows_named) named)
+
+variable-named : (bound : Bound) (var : Option (List ℕ)) → AreNames bound → IfSome (object_in bound var) IsName
+variable-named bound None named = tt
+variable-named bound (Some var) named = named var
+
+-- those of a script do
+objects_named : (s : Content) → IsContent s → All (λ row. IsName row.uid) s.objects
+objects_named s content k d below =
+    let uids : All IsName (map (λ o. o.uid) s.opening.objects) =
+    All-map IsName (λ (o : Object). o.uid) s.opening.objects (All-weaker (IsObject (length s.nodes)) (λ o. IsName o.uid) (λ o h. h.name) s.opening.objects content.draft.files) in
+    let rows : All IsName (map (λ row. row.uid) s.objects) = rw content.draft.vars_of uids in
+    let at = get_or-map (λ (row : VarRow). row.uid) s.objects k d d.uid below in
+    subst IsName at (rows k d.uid (omega (arith, below, length-map s.objects (λ (row : VarRow). row.uid))))
+
+home_at_node : (nodes : ℕ) (home : Option ℕ) → nodes ≤ MAX_NODES → IsHome nodes home → IfSome home IsNodeNumber
+home_at_node nodes None few h = tt
+home_at_node nodes (Some node) few h = (h.0, omega (arith, few, h.1))
+
+command_at_node : (nodes : ℕ) (c : Command) → nodes ≤ MAX_NODES → IsCommand nodes c → IsAtNode c
+command_at_node nodes (New var room home) few h = home_at_node nodes home few h.2
+command_at_node nodes (Lock var mode) few h = tt
+command_at_node nodes (Unlock var) few h = tt
+command_at_node nodes (Delete var) few h = tt
+command_at_node nodes (Load var offset count) few h = tt
+command_at_node nodes (Store var offset text) few h = tt
+command_at_node nodes (Length var) few h = tt
+command_at_node nodes (Map var) few h = tt
+command_at_node nodes (Unmap var) few h = tt
+command_at_node nodes (Loadat address count) few h = tt
+command_at_node nodes (Storeat address text) few h = tt
+
+-- the jobs of a process of a script name nodes and objects
+jobs_named : (s : Content) (p : ProcName) → IsContent s → All IsNamedJob (map (job_of (declare s.objects unbound)) (filter (λ row. same_proc row.proc p) s.commands))
+jobs_named s p content =
+    let declared = declare s.objects unbound in
+    let own = λ (row : CommandRow). same_proc row.proc p in
+    let objects : AreNames declared = declare-named s.objects unbound (objects_named s content) (λ var. tt) in
+    All-map IsNamedJob (job_of declared) (filter own s.commands)
+    (All-filter own (λ row. IsNamedJob (job_of declared row)) s.commands
+    (All-weaker (IsCommandRow (length s.nodes) s.phases) (λ row. IsNamedJob (job_of declared row))
+    (λ row h. record { node = command_at_node (length s.nodes) row.command content.draft.few_nodes h.command; declared = variable-named declared (variable row.command) objects }) s.commands content.draft.commands))
+
+-- what names in one order names in the other
+reversed-named : (told : Told) → AreNamedReplies told → AreNamedReplies (reverse told)
+reversed-named [] named = named
+reversed-named (t ∷ told) named =
+    let P = λ (t : Option Reply). IfSome t IsNamedReply in
+    subst AreNamedReplies (sym (reverse_onto told t []))
+    (All-append P (reverse told) (t ∷ []) (reversed-named told (All-tail P t told named)) (All-cons P t [] (All-head P t told named) (All-nil P)))
 
 -- what a process of a script asks
-pub ask_ranged : (s : Content) (p : ProcName) (heard : Heard) → IsContent s → IsWant (ask s p heard)
-ask_ranged s p heard content = reach_ranged (part_of s p) 1 unbound (part_of s p).jobs (reverse heard) (jobs_ranged s (declare s.objects unbound) p content)
+pub ask_ranged : (s : Content) (p : ProcName) (heard : Heard) → IsContent s → IsNodeNumber p.node → AreNamedReplies heard → IsWant (ask s p heard)
+ask_ranged s p heard content own named =
+    reach_ranged (part_of s p) 1 unbound (part_of s p).jobs (reverse heard) own (λ var. tt) (jobs_named s p content) (reversed-named heard named)
+    (jobs_ranged s (declare s.objects unbound) p content)

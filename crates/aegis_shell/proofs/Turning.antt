@@ -7,7 +7,7 @@ use Rattle.dom_history.specs.declared.op.Op.{Op}
 use Rattle.dom_history.specs.declared.op.Reply.{Reply}
 use Rattle.dom_history.specs.declared.op.Want.{Want}
 use Rattle.dom_history.specs.declared.op.Want.TheVariants.{Do, Phase}
-use Rattle.dom_history.specs.Programs.{CanHear, FitsWant}
+use Rattle.dom_history.specs.Programs.{FitsWant}
 use Rattle.aegis_shell.specs.declared.work.Job.{Job}
 use Rattle.aegis_shell.specs.declared.progress.Progress.{Progress}
 use Rattle.aegis_shell.specs.Bound.{unbound}
@@ -15,6 +15,7 @@ use Rattle.aegis_shell.specs.Bindings.{object_at}
 use Rattle.aegis_shell.specs.Work.{Part, object_of}
 use Rattle.aegis_shell.specs.Operations.{ops_of, first_of, rest_of, head_of}
 use Rattle.aegis_shell.specs.Asking.{Told, Reached, waits, carry_out, on_course, reach, reached}
+use Rattle.aegis_shell.specs.Shells.{want_after}
 use Rattle.aegis_shell.specs.Playing.{Continues, IsOpen, IsTold, IsShell, IsWaiting, resume, resume_from, heard_of}
 use Rattle.aegis_shell.proofs.Steps.{further_of, reach-phase, reach-lacking, reach-asks}
 
@@ -79,13 +80,13 @@ waiting_at : (begun : Bool) (told : Told) (first : Option Reply) (here : Reached
 waiting_at true told first here is waiting = waiting
 waiting_at false told first here is waiting = cc
 
-hears_at : (part : Part) (begun : Bool) (told : Told) (last : Option Reply) → begun ≡ true → CanHear (λ heard. (reached part heard).want) (heard_of begun told) last → FitsWant (reached part (reverse told)).want last
+hears_at : (part : Part) (begun : Bool) (told : Told) (last : Option Reply) → begun ≡ true → FitsWant (want_after part (heard_of begun told)) last → FitsWant (reached part (reverse told)).want last
 hears_at part true told last is hears = hears
 hears_at part false told last is hears = cc
 
 -- what may be heard may be told
 pub hears-told : (part : Part) (begun : Bool) (told : Told) (s : Progress) (last : Option Reply) → begun ≡ true → IsShell part begun told s
-    → CanHear (λ heard. (reached part heard).want) (heard_of begun told) last → IsTold part s (drop (length s.answers.items) part.jobs) last
+    → FitsWant (want_after part (heard_of begun told)) last → IsTold part s (drop (length s.answers.items) part.jobs) last
 hears-told part begun told s last is shell hears =
     told_from part s (drop (length s.answers.items) part.jobs) s.first last refl
     (waiting_at begun told s.first (resume part s []) is shell.waiting)

@@ -5,4 +5,5 @@ pub mod Ranges
 pub mod Operations
 pub mod AnswerTexts
 pub mod Asking
+pub mod Shells
 pub mod Playing

@@ -2,6 +2,7 @@
 use Rattle.std.specs.Prelude.{ℕ, ◌+◌, ◌-◌, nat_le, Bool, true, false, Option, Some, None, List, [], ◌∷◌, length, take, drop, unwrap_or}
 use Rattle.uid_names.specs.Names.{ObjectName}
 use Rattle.uid_names.specs.declared.mode.ObjKind.TheVariants.{File}
+use Rattle.uid_names.specs.declared.limits.TheConstants.{PAGE_BYTES}
 use Rattle.dom_history.specs.declared.op.Spot.{Spot}
 use Rattle.dom_history.specs.declared.op.Spot.TheVariants.{Of, Addr}
 use Rattle.dom_history.specs.declared.op.Op.{Op}
@@ -17,7 +18,7 @@ place_of (Addr address) = address
 
 -- the bytes from a spot to the end of its page
 abbrev pub page_rest : Spot → ℕ
-page_rest spot = 1024 - offset_in_page spot
+page_rest spot = PAGE_BYTES - offset_in_page spot
 
 -- the spot so many bytes behind another
 abbrev pub behind : Spot → ℕ → Spot

@@ -1,41 +1,17 @@
--- How far a shell has come, and what contracts see of it.
+-- Where a shell stands, for its private code alone: no public clause cites this file, and it decides nothing.
 use Rattle.std.specs.Prelude.{ℕ, ◌≡◌, ◌<◌, ◌≤◌, Bool, true, false, Option, Some, None, IsSome, List, [], ◌∷◌, ◌++◌, length, drop, nat_lt, reverse}
-use Rattle.uid_names.specs.Names.{ProcName}
 use Rattle.dom_history.specs.declared.op.Op.{Op}
 use Rattle.dom_history.specs.declared.op.Reply.{Reply}
 use Rattle.dom_history.specs.declared.op.Want.{Want}
 use Rattle.dom_history.specs.declared.op.Want.TheVariants.{Do, Phase, Done}
 use Rattle.dom_history.specs.Follows.{Heard}
-use Rattle.dom_history.specs.Programs.{heard_with}
-use Rattle.script_reader.specs.Scripts.{Content}
 use Rattle.aegis_shell.specs.declared.work.Job.{Job}
 use Rattle.aegis_shell.specs.declared.progress.Progress.{Progress}
 use Rattle.aegis_shell.specs.Bound.{Bound, unbound}
 use Rattle.aegis_shell.specs.Bindings.{object_at}
-use Rattle.aegis_shell.specs.Work.{Part, part_of, object_of}
+use Rattle.aegis_shell.specs.Work.{Part, object_of}
 use Rattle.aegis_shell.specs.Operations.{ops_of, rest_of, first_of, second_of}
-use Rattle.aegis_shell.specs.Asking.{Told, Reached, waits, on_course, carry_out, reach, reached}
-
--- what contracts see of a shell: its part of the script, what it has heard, the answers that it has got,
--- and whether it found no memory
-pub record Shelled : Type 0 where
-  pub part : Part
-  pub heard : Option Heard
-  pub answers : List (List ℕ)
-  pub spent : Bool
-
--- the shell of a process of a script before its first call
-abbrev pub fresh_shell : Content → ProcName → Shelled
-fresh_shell s p = record { part = part_of s p; heard = None; answers = []; spent = false }
-
--- the shell once it was told this: all that it has come to has its answer
-abbrev pub shell_after : Shelled → Option Reply → Shelled
-shell_after v told = record {
-  part = v.part;
-  heard = Some (heard_with v.heard told);
-  answers = (reached v.part (heard_with v.heard told)).answers;
-  spent = false;
-}
+use Rattle.aegis_shell.specs.Asking.{Told, Reached, waits, on_course, carry_out, reach}
 
 -- what it has heard: nothing before its first call, then this, in order
 abbrev pub heard_of : Bool → Told → Option Heard

@@ -2,7 +2,8 @@
 use Rattle.std.specs.Prelude.{◌≤◌, List, All, length}
 use Rattle.script_reader.specs.declared.command.Command.{Command}
 use Rattle.script_reader.specs.declared.command.Command.TheVariants.{New, Lock, Unlock, Delete, Load, Store, Length, Map, Unmap, Loadat, Storeat}
-use Rattle.script_reader.specs.Scripts.{IsRoom, IsOffset, IsCount, IsAddress}
+use Rattle.uid_names.specs.Rooms.{IsRoom}
+use Rattle.script_reader.specs.Commands.{IsOffset, IsCount, IsAddress}
 use Rattle.aegis_shell.specs.declared.work.Job.{Job}
 
 -- rooms, ranges and addresses are such as a script can name

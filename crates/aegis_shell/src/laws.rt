@@ -4,15 +4,24 @@ ghost use Rattle.uid_names.specs.Names.{ProcName};
 ghost use Rattle.dom_history.specs.declared.op.Reply.{Reply};
 ghost use Rattle.dom_history.specs.declared.op.Want.TheVariants.{Done};
 ghost use Rattle.dom_history.specs.Follows.{Heard};
-ghost use Rattle.dom_history.specs.Ranges.{IsWant};
+ghost use Rattle.dom_history.specs.Ranges.{IsWant, IsNodeNumber, AreNamedReplies};
+ghost use Rattle.dom_history.specs.Programs.{program_after, asked_by};
 ghost use Rattle.script_reader.specs.Scripts.{Content, IsContent};
 ghost use Rattle.aegis_shell.specs.Work.{Part, jobs_of};
 ghost use Rattle.aegis_shell.specs.Asking.{reached, ask, answers};
+ghost use Rattle.aegis_shell.specs.Shells.{shell_of, shell_after, shell_wants, shell_answers};
 
-/// What a process asks is in the ranges of operations.
+/// What a process of a node asks is in the ranges of operations, where the replies that it heard name objects.
 #[tactic(auto, using(crate::proofs::Ranged::ask_ranged))]
 pub fn asks_are_in_range()
-    ensures { (s : Content) (p : ProcName) (heard : Heard) → IsContent s → IsWant (ask s p heard) }
+    ensures { (s : Content) (p : ProcName) (heard : Heard) → IsContent s → IsNodeNumber p.node → AreNamedReplies heard → IsWant (ask s p heard) }
+{}
+
+/// A shell asks and is answered what the process of its script asks and is answered after all that it heard.
+#[tactic(auto, using(crate::proofs::Shells::shell_asks, crate::proofs::Shells::shell_answers_are))]
+pub fn shells_go_by_all_they_heard()
+    ensures asks { (s : Content) (p : ProcName) (heard : Heard) → asked_by shell_wants shell_after (shell_of s p) heard ≡ ask s p heard }
+    ensures answers { (s : Content) (p : ProcName) (heard : Heard) → shell_answers (program_after shell_after (shell_of s p) heard) ≡ answers s p heard }
 {}
 
 /// A command that has its answer keeps it: what a process hears more only adds answers.

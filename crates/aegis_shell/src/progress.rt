@@ -1,16 +1,17 @@
 //! How far a process has come in its jobs.
-ghost use Rattle.std.specs.Prelude.{◌≡◌, ℕ, ◌++◌, ◌∷◌, [], ◌<◌, ◌≤◌, ◌^◌, ◌+◌, IsTrue, IsSome, true, length, drop, List, None, Some, Option, IfOk, OnOk, MatchOption};
+ghost use Rattle.std.specs.Prelude.{◌≡◌, ℕ, ◌++◌, ◌∷◌, [], ◌<◌, ◌≤◌, ◌^◌, ◌+◌, IsTrue, IsSome, true, length, drop, List, None, Some, Option, IfOk, IfSome, OnOk, MatchOption};
 ghost use Rattle.std.specs.Option.{option_copied};
 ghost use Rattle.dom_history.specs.declared.op.Want.{Want};
 ghost use Rattle.dom_history.specs.declared.op.Want.TheVariants.{Do};
-ghost use Rattle.dom_history.specs.Programs.{CanHear};
+ghost use Rattle.dom_history.specs.Programs.{FitsWant};
+ghost use Rattle.dom_history.specs.Ranges.{IsOp, IsWant};
 ghost use Rattle.aegis_shell.specs.Bound.{unbound};
 ghost use Rattle.aegis_shell.specs.Bindings.{object_at};
 ghost use Rattle.aegis_shell.specs.AnswerTexts.{is_done as is_done_reply, together, so_far, answer_text};
 ghost use Rattle.aegis_shell.specs.Operations.{ops_of, first_of, second_of};
 ghost use Rattle.aegis_shell.specs.Ranges.{IsRanged};
 ghost use Rattle.aegis_shell.specs.Work.{object_of};
-ghost use Rattle.aegis_shell.specs.Asking.{Told, Reached, waits, bound_after, reached};
+ghost use Rattle.aegis_shell.specs.Asking.{Told, Reached, waits, bound_after};
 
 use crate::answer::{answer, is_done, not_bound};
 use crate::bindings::Bindings;
@@ -54,6 +55,7 @@ fn bind_made(
 }
 
 impl Progress {
+    ghost use Rattle.aegis_shell.specs.Shells.{want_after};
     ghost use Rattle.aegis_shell.specs.Playing.{Continues, IsTold, IsShell, resume, heard_of, told_with, goes_on, want_at};
 
     /// The beginning: phase 1, and nothing bound or answered. Takes no memory.
@@ -92,9 +94,10 @@ impl Progress {
     }
 
     /// The operation with which a command goes on behind this reply; None where it ends.
-    fn further(&self, alloc: Global, job: &Job, reply: &Reply) -> Result<Option<Op>, NoMemory>
+    fn second(&self, alloc: Global, job: &Job, reply: &Reply) -> Result<Option<Op>, NoMemory>
         requires { IsRanged job.now.command }
-        ensures { IfOk result (λ op. (node : ℕ) → op ≡ goes_on self.now.first (is_done_reply reply.now) (second_of (ops_of node job.now.command (object_of job.now (object_at self.now.bound))))) }
+        ensures range { IfOk result (λ op. IfSome op IsOp) }
+        ensures value { IfOk result (λ op. (node : ℕ) → op ≡ goes_on self.now.first (is_done_reply reply.now) (second_of (ops_of node job.now.command (object_of job.now (object_at self.now.bound))))) }
     {
         match &self.first {
             None if is_done(reply) => {
@@ -114,9 +117,10 @@ impl Progress {
         requires { IsTold work.now self.old (drop (length self.old.answers.items) work.now.jobs) (Some reply.now) }
         ensures goes { OnOk result ((whole : Told → Reached) → Continues work.now self.old whole → Continues work.now self.new (λ future. whole (Some reply.now ∷ future))) }
         ensures next { IfOk result (λ op. MatchOption op (self.new.first ≡ None) (λ o. resume work.now self.new [] ≡ waits (Do o))) }
+        ensures range { IfOk result (λ op. IfSome op IsOp) }
     {
         let job = &work.jobs()[self.answers.len()];
-        match self.further(alloc, job, reply)? {
+        match self.second(alloc, job, reply)? {
             Some(op) => {
                 self.first = Some(reply.copy(alloc)?);
                 Ok(Some(op))
@@ -149,6 +153,7 @@ impl Progress {
         requires { IsTold work.now self.old (drop (length self.old.answers.items) work.now.jobs) (option_copied last) }
         ensures goes { OnOk result ((whole : Told → Reached) → Continues work.now self.old whole → Continues work.now self.new (λ future. whole (option_copied last.entry ∷ future))) }
         ensures next { IfOk result (λ op. MatchOption op (self.new.first ≡ None) (λ o. resume work.now self.new [] ≡ waits (Do o))) }
+        ensures range { IfOk result (λ op. IfSome op IsOp) }
     {
         match last {
             Some(reply) => self.hear_reply(alloc, work, reply),
@@ -162,7 +167,8 @@ impl Progress {
     /// What the process wants before a job; None where the job lacks its object.
     fn want_before(&self, alloc: Global, work: &Work, job: &Job) -> Result<Option<Want>, NoMemory>
         requires { IsRanged job.now.command }
-        ensures { IfOk result (λ want. want ≡ want_at work.now self.now.phase (object_at self.now.bound) job.now) }
+        ensures value { IfOk result (λ want. want ≡ want_at work.now self.now.phase (object_at self.now.bound) job.now) }
+        ensures range { IfOk result (λ want. IfSome want IsWant) }
     {
         if self.phase < job.phase {
             return Ok(Some(Want::Phase));
@@ -179,6 +185,7 @@ impl Progress {
         requires within { length self.old.answers.items ≤ length work.now.jobs }
         ensures want { IfOk result (λ want. resume work.now self.new [] ≡ waits want) }
         ensures goes { OnOk result ((whole : Told → Reached) → Continues work.now self.old whole → Continues work.now self.new whole) }
+        ensures range { IfOk result IsWant }
     {
         for job in &work.jobs()[self.answers.len()..] {
             match self.want_before(alloc, work, job)? {
@@ -200,9 +207,10 @@ impl Progress {
         told: &mut Vec<Option<Reply>>,
     ) -> Result<Want, NoMemory>
         requires shell { IsShell work.now begun told.old.items self.old }
-        requires hears { CanHear (λ heard. (reached work.now heard).want) (heard_of begun told.old.items) (option_copied last) }
+        requires fits { FitsWant (want_after work.now (heard_of begun told.old.items)) (option_copied last) }
         ensures shell { OnOk result (IsShell work.now true told.new.items self.new) }
         ensures want { IfOk result (λ want. resume work.now self.new [] ≡ waits want) }
+        ensures range { IfOk result IsWant }
         ensures told { OnOk result (told.new.items ≡ told_with begun told.old.items (option_copied last.entry)) }
     {
         if !begun {

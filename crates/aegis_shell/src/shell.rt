@@ -21,7 +21,8 @@ pub struct Shell {
 }
 
 impl Model for Shell {
-    ghost use Rattle.aegis_shell.specs.Playing.{Shelled, heard_of, UnlessSpent, IsShell};
+    ghost use Rattle.aegis_shell.specs.Shells.{Shelled};
+    ghost use Rattle.aegis_shell.specs.Playing.{heard_of, UnlessSpent, IsShell};
 
     ghost Value = { Shelled };
 
@@ -31,11 +32,11 @@ impl Model for Shell {
 }
 
 impl Shell {
-    ghost use Rattle.aegis_shell.specs.Playing.{fresh_shell};
+    ghost use Rattle.aegis_shell.specs.Shells.{shell_of, shell_answers};
 
     /// The program of a process of a script. It keeps the process's own commands alone.
     pub fn new(alloc: Global, script: &Script, proc: ProcId) -> Result<Shell, NoMemory>
-        ensures { IfOk result (λ shell. shell ≡ fresh_shell script.now proc) }
+        ensures { IfOk result (λ shell. shell ≡ shell_of script.now proc) }
     {
         let work = Work::new(alloc, script, proc)?;
         Ok(Shell {
@@ -49,7 +50,7 @@ impl Shell {
 
     /// The answers of the finished commands, in order.
     pub fn answers(&self) -> &[ByteList]
-        ensures { result.now ≡ self.now.answers }
+        ensures { result.now ≡ shell_answers self.now }
     {
         self.progress.answers.as_slice()
     }
@@ -57,22 +58,17 @@ impl Shell {
 
 impl Program for Shell {
     ghost use Rattle.std.specs.Prelude.{length};
-    ghost use Rattle.aegis_shell.specs.Asking.{reached};
-    ghost use Rattle.aegis_shell.specs.Playing.{shell_after};
+    ghost use Rattle.aegis_shell.specs.Shells.{shell_after, shell_wants, shell_answers};
 
-    ghost ask = { λ s heard. (reached s.part heard).want };
-
-    ghost heard = { λ s. s.heard };
-
-    ghost answered = { λ s. length s.answers };
-
-    ghost spent = { λ s. s.spent };
+    ghost wants = { λ s. shell_wants s };
 
     ghost becomes = { λ s told. shell_after s told };
 
+    ghost answered = { λ s. length (shell_answers s) };
+
+    ghost spent = { λ s. s.spent };
+
     fn next(&mut self, alloc: Global, last: Option<&Reply>) -> Result<Want, NoMemory> {
-        // Its commands are in their ranges, and so is what they ask.
-        let _jobs = self.work.jobs();
         // Until the turn is done; where it finds no memory the value stays so.
         self.spent = true;
         let want = self

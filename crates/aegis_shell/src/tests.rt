@@ -68,6 +68,9 @@ fn process(node: u8) -> Result<ProcId, Fail> {
     Ok(ProcId::new(node, 1).ok_or("no process")?)
 }
 
+/// What can go to a thread.
+fn can_go<T: Send>(_value: &T) {}
+
 fn served_alone(alloc: Global, script: &[u8], node: u8) -> Result<Served, Fail> {
     let script = read_script(alloc, script)?;
     Ok(serve(alloc, &script, process(node)?)?)
@@ -220,6 +223,7 @@ fn a_process_takes_a_phase_for_each_line_before_its_commands(rt: HostRuntime) ->
         b"node a\nobject x 1 a\nphase\nphase\na.1 length x\na.2 length x\nphase\na.1 length x\nphase\na.2 length x\n",
         1,
     )?;
+    can_go(&served.shell);
     assert_eq!(rt; served.phases, 3);
     assert_eq!(rt; served.shell.answers().len(), 2);
     Ok(())

@@ -9,7 +9,7 @@ use Rattle.dom_history.specs.declared.op.Want.TheVariants.{Do, Phase, Done}
 use Rattle.dom_history.specs.declared.op.Entry.{Entry}
 use Rattle.dom_history.specs.Follows.{Heard, Reaches, starts, answered, passed}
 use Rattle.script_runner.specs.Turns.{heard_in, finished_before}
-use Rattle.script_runner.specs.Rounds.{IsFinite, IsCounting}
+use Rattle.script_runner.specs.Serving.{IsFinite, IsCounting}
 
 module _ (ask : Heard → Want) where
   -- phases count from 1

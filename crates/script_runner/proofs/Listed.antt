@@ -5,7 +5,7 @@ use Rattle.std.proofs.lemmas.Bool.{cases_order}
 use Rattle.std.proofs.lemmas.Bool.Decides.{nat_tests}
 use Rattle.uid_names.specs.Names.{ProcName, same_proc, proc_lt}
 use Rattle.script_runner.specs.declared.rounds.process.Process.{Process}
-use Rattle.script_runner.specs.Rounds.{program_of, AreListed}
+use Rattle.script_runner.specs.Serving.{program_of, AreListed}
 
 -- a process is the same as itself
 pub same_proc-refl : (p : ProcName) → same_proc p p ≡ true

@@ -3,7 +3,7 @@ use Rattle.std.proofs.Common.{◌≡◌, ◌≢◌, ◌<◌, ◌+◌, ℕ, true,
 use Rattle.std.specs.Prelude.{slice_index_or}
 use Rattle.dom_history.specs.declared.op.Want.TheVariants.{Done}
 use Rattle.script_runner.specs.declared.rounds.process.Process.{Process}
-use Rattle.script_runner.specs.Rounds.{turn_at, is_first_in, ComesLater}
+use Rattle.script_runner.specs.Serving.{turn_at, is_first_in, ComesLater}
 use Rattle.script_runner.proofs.TurnOrder.{turn_lt-not_before, turn_lt-irrefl}
 
 module _ {S : Type 0} (answered : S → ℕ) (processes : List (Process S)) where

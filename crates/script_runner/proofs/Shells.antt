@@ -1,5 +1,5 @@
 -- What the shells of a script's processes are as programs.
-use Rattle.std.proofs.Common.{◌≡◌, ◌≤◌, ◌+◌, ◌*◌, ℕ, Bool, true, false, Option, Some, List, [], ◌∷◌, length, map, refl, ap, arith}
+use Rattle.std.proofs.Common.{◌≡◌, ◌≤◌, ◌+◌, ◌*◌, ℕ, Bool, true, false, Option, Some, List, [], ◌∷◌, length, map, refl, ap, arith, ◌∙◌}
 use Rattle.std.specs.Prelude.{All, filter, reverse, if◌then◌else◌}
 use Rattle.std.proofs.lemmas.List.Elements.{All-head, All-tail}
 use Rattle.uid_names.specs.Names.{ProcName, same_proc}
@@ -7,25 +7,19 @@ use Rattle.dom_history.specs.declared.op.Reply.{Reply}
 use Rattle.dom_history.specs.declared.op.Want.{Want}
 use Rattle.dom_history.specs.declared.op.Want.TheVariants.{Done}
 use Rattle.dom_history.specs.Follows.{Heard}
-use Rattle.dom_history.specs.Programs.{program_after}
+use Rattle.dom_history.specs.Programs.{program_after, asked_by}
 use Rattle.script_reader.specs.declared.script.CommandRow.{CommandRow}
 use Rattle.script_reader.specs.Scripts.{Content, IsContent}
 use Rattle.aegis_shell.specs.Bound.{unbound, declare}
 use Rattle.aegis_shell.specs.Work.{Part, part_of, jobs_of, job_of}
 use Rattle.aegis_shell.specs.Asking.{reach, reached, ask, answers}
-use Rattle.aegis_shell.specs.Playing.{Shelled, fresh_shell, shell_after}
-use Rattle.script_runner.specs.Rounds.{IsFinite, IsCounting, IsFresh}
+use Rattle.aegis_shell.specs.Shells.{Shelled, shell_of, shell_after, shell_wants, shell_answers}
+use Rattle.script_runner.specs.Serving.{IsFinite, IsCounting, IsUnbegun}
 use Rattle.script_runner.specs.Beginnings.{process_of}
 
 -- a shell as a program
-abbrev pub shell_ask : Shelled → Heard → Want
-shell_ask v heard = (reached v.part heard).want
-
-abbrev pub shell_heard : Shelled → Option Heard
-shell_heard v = v.heard
-
 abbrev pub shell_answered : Shelled → ℕ
-shell_answered v = length v.answers
+shell_answered v = length (shell_answers v)
 
 abbrev pub shell_spent : Shelled → Bool
 shell_spent v = v.spent
@@ -38,6 +32,14 @@ AreEnding = (s : Content) (p : ProcName) (heard : Heard) → IsContent s → 100
 abbrev pub AreGrowing : Type 0
 AreGrowing = (part : Part) (heard : Heard) (told : Option Reply) → length (reached part heard).answers ≤ length (reached part (told ∷ heard)).answers
 
+-- a shell asks what its process asks
+abbrev pub AreAsking : Type 0
+AreAsking = (s : Content) (p : ProcName) (heard : Heard) → asked_by shell_wants shell_after (shell_of s p) heard ≡ ask s p heard
+
+-- and has its answers
+abbrev pub AreAnswering : Type 0
+AreAnswering = (s : Content) (p : ProcName) (heard : Heard) → shell_answers (program_after shell_after (shell_of s p) heard) ≡ answers s p heard
+
 module _ (s : Content) (p : ProcName) where
   -- a process has no more jobs than the script has commands
   jobs_few : (rows : List CommandRow) → length (map (job_of (declare s.objects unbound)) (filter (λ row. same_proc row.proc p) rows)) ≤ length rows
@@ -49,33 +51,28 @@ module _ (s : Content) (p : ProcName) where
       few_by false h = omega (arith, h)
 
   -- its program comes to its end
-  shell_finite : AreEnding → IsContent s → IsFinite (shell_ask (fresh_shell s p))
-  shell_finite ending content = record {
-    ends = λ heard enough. ending s p heard content (omega (arith, enough, jobs_few s.commands, content.draft.few_commands));
+  shell_finite : AreEnding → AreAsking → IsContent s → IsFinite (asked_by shell_wants shell_after (shell_of s p))
+  shell_finite ending asking content = record {
+    ends = λ heard enough. asking s p heard ∙ ending s p heard content (omega (arith, enough, jobs_few s.commands, content.draft.few_commands));
   }
-
-  -- the shell once it has heard this
-  pub shell_after-heard : (heard : Heard) → program_after shell_after (fresh_shell s p) heard ≡ record { part = part_of s p; heard = Some heard; answers = answers s p heard; spent = false }
-  shell_after-heard [] = refl
-  shell_after-heard (told ∷ heard) = rw (shell_after-heard heard) refl
 
   -- what it has finished stays finished
-  shell_counting : AreGrowing → IsCounting (λ heard. shell_answered (program_after shell_after (fresh_shell s p) heard))
-  shell_counting growing = record {
-    never_falls = λ heard told. rw (shell_after-heard heard) (growing (part_of s p) heard told);
+  shell_counting : AreGrowing → AreAnswering → IsCounting (λ heard. shell_answered (program_after shell_after (shell_of s p) heard))
+  shell_counting growing answering = record {
+    never_falls = λ heard told. rw (answering s p heard, answering s p (told ∷ heard)) (growing (part_of s p) heard told);
   }
 
-  -- a process of a script is fresh
-  pub process_fresh : AreEnding → AreGrowing → IsContent s → IsFresh shell_ask shell_heard shell_spent shell_answered shell_after (process_of s p)
-  process_fresh ending growing content = record {
+  -- a process of a script has not begun
+  pub process_unbegun : AreEnding → AreGrowing → AreAsking → AreAnswering → IsContent s → IsUnbegun shell_wants shell_spent shell_answered shell_after (process_of s p)
+  process_unbegun ending growing asking answering content = record {
     phase = refl;
     finished = refl;
     want = refl;
     whole = refl;
-    fresh = refl;
+    waits = refl;
     nothing_answered = refl;
-    finite = shell_finite ending content;
-    counting = shell_counting growing;
+    finite = shell_finite ending asking content;
+    counting = shell_counting growing answering;
   }
 
   none_by : (row : CommandRow) (rows : List CommandRow) → same_proc row.proc p ≡ false → filter (λ r. same_proc r.proc p) rows ≡ [] → filter (λ r. same_proc r.proc p) (row ∷ rows) ≡ []

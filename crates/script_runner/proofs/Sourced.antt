@@ -1,8 +1,9 @@
 -- Words that are taken, and sources that are too long.
-use Rattle.std.proofs.Common.{◌≡◌, ◌≤◌, ◌<◌, ℕ, zero, suc, Bool, Option, Some, None, List, [], ◌∷◌, length, get_or, refl, sym, ◌∙◌, ap, subst, arith, rules, inl, inr}
+use Rattle.std.proofs.Common.{◌≡◌, ◌≤◌, ◌<◌, ◌+◌, ℕ, zero, suc, Bool, Option, Some, None, List, [], ◌∷◌, length, get_or, refl, sym, ◌∙◌, ap, subst, arith, rules, inl, inr}
 use Rattle.std.specs.Prelude.{IsTrue, IsSome, codes, ◌↔◌}
+use Rattle.uid_names.specs.declared.limits.TheConstants.{SCRIPT_BYTES}
 use Rattle.dom_io.specs.Known.{Exceeds}
-use Rattle.dom_text.specs.Numbers.{number_of}
+use Rattle.dom_text.specs.Numbers.{number_spelled}
 use Rattle.script_reader.specs.declared.cause.Cause.{Cause}
 use Rattle.script_reader.specs.declared.cause.Cause.TheVariants.{TooLong}
 use Rattle.script_reader.specs.Scripts.{Content}
@@ -32,11 +33,11 @@ some_from : (o : Option ℕ) (n : ℕ) → o ≡ Some n → IsSome o
 some_from o n e = subst IsSome (sym e) (search rules)
 
 -- `run` with turns, word for word
-pub taken_turns : (words : List (List ℕ)) (run option turns : List ℕ) (r : Bool) → words ≡ run ∷ (option ∷ (turns ∷ [])) → run ≡ codes "run" → IsTrue r ↔ ((option ≡ codes "--turns") × IsSome (number_of turns)) → (IsTrue r → IsTaken words) × (IsTaken words → IsTrue r)
+pub taken_turns : (words : List (List ℕ)) (run option turns : List ℕ) (r : Bool) → words ≡ run ∷ (option ∷ (turns ∷ [])) → run ≡ codes "run" → IsTrue r ↔ ((option ≡ codes "--turns") × IsSome (number_spelled turns)) → (IsTrue r → IsTaken words) × (IsTaken words → IsTrue r)
 taken_turns words run option turns r are run_is tells = (
   λ t.
       let both = tells.0 t in
-      let number = some_number (number_of turns) both.1 in
+      let number = some_number (number_spelled turns) both.1 in
       inr (record {
         word = turns;
         are = are ∙ (ap (λ w. w ∷ (option ∷ (turns ∷ []))) run_is ∙ ap (λ w. codes "run" ∷ (w ∷ (turns ∷ []))) both.0);
@@ -46,13 +47,13 @@ taken_turns words run option turns r are run_is tells = (
   λ taken. tells.1 (turns_of taken),
 )
   where
-    turns_of : IsTaken words → (option ≡ codes "--turns") × IsSome (number_of turns)
+    turns_of : IsTaken words → (option ≡ codes "--turns") × IsSome (number_spelled turns)
     turns_of (inl alone) = let longer : length words ≡ 1 = ap length alone in absurd (omega (arith, longer, ap length are))
     turns_of (inr t) =
         let same : run ∷ (option ∷ (turns ∷ [])) ≡ codes "run" ∷ (codes "--turns" ∷ (t.word ∷ [])) = sym are ∙ t.are in
         let first : option ≡ codes "--turns" = ap (λ ws. get_or ws 1 []) same in
         let second : turns ≡ t.word = ap (λ ws. get_or ws 2 []) same in
-        (first, some_from (number_of turns) t.turns (ap number_of second ∙ t.number))
+        (first, some_from (number_spelled turns) t.turns (ap number_spelled second ∙ t.number))
 
 -- so many zeros
 zeros : ℕ → List ℕ
@@ -65,11 +66,11 @@ length-zeros zero = refl
 length-zeros (suc n) = ap suc (length-zeros n)
 
 -- a source of more bytes than a script has is bad
-pub too_long_is_bad : (left : Option (List ℕ)) → Exceeds left 1048576 → IsBadSource left 0 TooLong
+pub too_long_is_bad : (left : Option (List ℕ)) → Exceeds left SCRIPT_BYTES → IsBadSource left 0 TooLong
 too_long_is_bad None exceeds = record {
-  bytes = zeros 1048577;
+  bytes = zeros (SCRIPT_BYTES + 1);
   are_left = tt;
-  bad = inl (record { long = omega (arith, length-zeros 1048577); line = refl; cause_is = refl });
+  bad = inl (record { long = omega (arith, length-zeros (SCRIPT_BYTES + 1)); line = refl; cause_is = refl });
 }
 too_long_is_bad (Some left) exceeds = record {
   bytes = left;

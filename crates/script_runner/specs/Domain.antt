@@ -2,7 +2,7 @@
 use Rattle.std.specs.Prelude.{ℕ, Bool, ◌==◌, ◌||◌, ◌≡◌, ◌⊎◌, List, [], ◌∷◌, ◌++◌, codes, decimal, Option, Some, IfSome}
 use Rattle.std.specs.Io.KnownBytes.{append_known}
 use Rattle.dom_io.specs.Known.{AppendsPrefix}
-use Rattle.dom_text.specs.Numbers.{number_of}
+use Rattle.dom_text.specs.Numbers.{number_spelled}
 use Rattle.script_reader.specs.declared.cause.Cause.{Cause}
 use Rattle.script_reader.specs.Causes.{cause_text}
 use Rattle.script_reader.specs.Scripts.{Content}
@@ -18,7 +18,7 @@ pub record AreTurns (words : List (List ℕ)) : Type 0 where
   pub word : List ℕ
   pub are : words ≡ codes "run" ∷ (codes "--turns" ∷ (word ∷ []))
   pub turns : ℕ
-  pub number : number_of word ≡ Some turns
+  pub number : number_spelled word ≡ Some turns
 
 -- the words that are taken: `run` alone or with a number of turns, as they stand
 abbrev pub IsTaken : List (List ℕ) → Type 0

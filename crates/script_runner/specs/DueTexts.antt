@@ -1,4 +1,4 @@
--- The text that is due, by its kind.
+-- The text that is due, by its kind (for the private code alone: see Serving).
 use Rattle.std.specs.Prelude.{ℕ, List, Option}
 use Rattle.script_runner.specs.declared.domain.Due.{Due}
 use Rattle.script_runner.specs.declared.domain.Due.TheVariants.{Report, Refusal}

@@ -1,6 +1,7 @@
 pub mod Turns
 pub mod Steps
 pub mod Rounds
+pub mod Serving
 pub mod Processes
 pub mod Reports
 pub mod Domain

@@ -1,12 +1,10 @@
--- One step of a process: an operation with its reply, or the end of a phase.
+-- One step of a process: an operation with its reply, or the end of a phase (for the private code alone: see Serving).
 use Rattle.std.specs.Prelude.{ℕ, ◌≡◌, ◌+◌, Bool, false, Option, Some, None}
 use Rattle.dom_history.specs.declared.op.Op.{Op}
 use Rattle.dom_history.specs.declared.op.Reply.{Reply}
 use Rattle.dom_history.specs.declared.op.Want.{Want}
 use Rattle.dom_history.specs.declared.op.Want.TheVariants.{Do, Phase, Done}
-use Rattle.dom_history.specs.Follows.{Heard}
 use Rattle.dom_history.specs.Plain.{Plain, after_deed}
-use Rattle.dom_history.specs.Programs.{heard_with}
 use Rattle.dom_history.specs.Ranges.{IsWant}
 use Rattle.dom_history.specs.Replies.{before_of, reply_of}
 use Rattle.script_runner.specs.declared.rounds.process.Process.{Process}
@@ -21,12 +19,7 @@ abbrev pub finished_at : Option Reply → ℕ → ℕ → ℕ
 finished_at None now before = now
 finished_at (Some reply) now before = before
 
--- what a process wants: to begin, or what its program asks
-abbrev pub IsWanted : (Heard → Want) → Option Heard → Want → Type 0
-IsWanted ask None want = want ≡ Phase
-IsWanted ask (Some heard) want = want ≡ ask heard
-
-module _ {S : Type 0} (ask : S → Heard → Want) (heard_by : S → Option Heard) (spent : S → Bool) (answered : S → ℕ) (becomes : S → Option Reply → S) where
+module _ {S : Type 0} (wants : S → Want) (spent : S → Bool) (answered : S → ℕ) (becomes : S → Option Reply → S) where
   -- a process once it is told a reply, or that its phase is over
   abbrev pub process_after : Process S → Option Reply → Process S
   process_after process told = record {
@@ -34,15 +27,13 @@ module _ {S : Type 0} (ask : S → Heard → Want) (heard_by : S → Option Hear
     program = becomes process.program told;
     phase = phase_after told process.phase;
     finished = finished_at told (answered process.program) process.finished;
-    want = ask process.program (heard_with (heard_by process.program) told);
+    want = wants (becomes process.program told);
   }
 
   -- a process was told so, and its program took it in
   pub record IsTold (process after : Process S) (told : Option Reply) : Type 0 where
     pub is : after ≡ process_after process told
     pub whole : spent after.program ≡ false
-    pub same_ask : ask after.program ≡ ask process.program
-    pub has_heard : heard_by after.program ≡ Some (heard_with (heard_by process.program) told)
     pub range : IsWant after.want
 
   -- an operation was answered as one store answers it

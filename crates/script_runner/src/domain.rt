@@ -1,11 +1,11 @@
 //! The program: from its words and a script's bytes to the report.
-ghost use Rattle.std.specs.Prelude.{◌≡◌, ◌⊎◌, ◌↔◌, ℕ, List, map, string_bytes, IsTrue, IsSome, IfOk, IsErrOf, Some, codes};
+ghost use Rattle.std.specs.Prelude.{◌≡◌, ◌+◌, ◌⊎◌, ◌↔◌, ℕ, List, map, string_bytes, IsTrue, IsSome, IfOk, IsErrOf, Some, codes};
 ghost use Rattle.dom_io.specs.Counts.{CountRose};
 ghost use Rattle.dom_io.specs.Known.{TakesAtMost, AppendsPrefix};
 ghost use Rattle.script_reader.specs.declared.cause.Cause.{Cause};
 ghost use Rattle.script_reader.specs.Scripts.{Content};
 ghost use Rattle.script_reader.specs.Grammar.{IsScript};
-ghost use Rattle.dom_text.specs.Numbers.{number_of};
+ghost use Rattle.dom_text.specs.Numbers.{number_spelled};
 ghost use Rattle.script_runner.specs.Domain.{is_status, IsTaken, usage as usage_text, refusal as refusal_text, Adds, AddsReport, AddsRefusal, AddsPart};
 ghost use Rattle.script_runner.specs.DueTexts.{IsDueText};
 
@@ -16,10 +16,7 @@ use script_reader::laws::scripts_have_one_reading;
 use script_reader::{Cause, ScriptFault, read_script};
 use std::alloc::Global;
 use thiserror::Error;
-use uid_names::{ByteList, NoMemory};
-
-/// The most bytes that a script has.
-const SCRIPT_LIMIT: u32 = 1_048_576;
+use uid_names::{ByteList, NoMemory, SCRIPT_BYTES};
 
 const USAGE: &[u8; 60] = b"usage: domain run [--turns N] | domain gen SEED [--turns N]\n";
 
@@ -59,7 +56,7 @@ fn is_run(word: &str) -> bool
 }
 
 fn is_turns(option: &str, turns: &str) -> bool
-    ensures { IsTrue result ↔ ((option.now ≡ codes "--turns") × IsSome (number_of turns.now)) }
+    ensures { IsTrue result ↔ ((option.now ≡ codes "--turns") × IsSome (number_spelled turns.now)) }
 {
     option == "--turns" && decimal(turns.as_bytes()).is_ok()
 }
@@ -90,9 +87,9 @@ fn refusal(alloc: Global, line: u32, cause: Cause) -> Result<ByteList, NoMemory>
 fn read_due<S: Source>(alloc: Global, script: &mut S) -> Result<Due, RunEnd>
     ensures due { IfOk result (IsDueText (S.left script.old)) }
     ensures read_fault { IsErrOf result RunEnd.ReadFault → CountRose (S.faults script.old) (S.faults script.new) }
-    ensures taken { TakesAtMost 1048577 (S.left script.old) (S.left script.new) }
+    ensures taken { TakesAtMost (SCRIPT_BYTES + 1) (S.left script.old) (S.left script.new) }
 {
-    let bytes = match read_all(alloc, script, SCRIPT_LIMIT) {
+    let bytes = match read_all(alloc, script, SCRIPT_BYTES) {
         Ok(bytes) => bytes,
         Err(ReadEnd::ReadFault) => return Err(RunEnd::ReadFault),
         Err(ReadEnd::TooLong) => return Ok(Due::Refusal(refusal(alloc, 0, Cause::TooLong)?)),
@@ -152,7 +149,7 @@ pub fn run_domain<S: Source, O: Sink, J: Sink>(
     // What stays as it was.
     ensures nothing_written { (result ≡ 4) ⊎ (result ≡ 7) → out.new ≡ out.old }
     ensures nothing_read { (IsTaken (map string_bytes words.now) → ⊥) → script.new ≡ script.old }
-    ensures source { TakesAtMost 1048577 (S.left script.old) (S.left script.new) }
+    ensures source { TakesAtMost (SCRIPT_BYTES + 1) (S.left script.old) (S.left script.new) }
     ensures journal { journal.new ≡ journal.old }
 
     // Where nothing outside fails, a script is run, or there was no memory.

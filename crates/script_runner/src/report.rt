@@ -2,6 +2,7 @@
 ghost use Rattle.std.specs.Prelude.{◌≡◌, ◌++◌, map, IfOk, OnOk};
 ghost use Rattle.script_runner.specs.Reports.{process_text, report_line, report_lines, lines_of};
 ghost use Rattle.aegis_shell.specs.AnswerTexts.{node_name};
+ghost use Rattle.aegis_shell.specs.Shells.{shell_answers};
 
 use crate::rounds::process::Process;
 use aegis_shell::Shell;
@@ -57,7 +58,7 @@ pub fn report(
     nodes: &[NodeRow],
     processes: &[Process<Shell>],
 ) -> Result<ByteList, NoMemory>
-    ensures { IfOk result (λ text. text ≡ lines_of (map (λ n. n.name) nodes.now) (map (λ p. record { proc = p.proc; answers = p.program.answers }) processes.now)) }
+    ensures { IfOk result (λ text. text ≡ lines_of (map (λ n. n.name) nodes.now) (map (λ p. record { proc = p.proc; answers = shell_answers p.program }) processes.now)) }
 {
     let mut text = ByteList::new(alloc);
     for process in processes {

@@ -5,7 +5,7 @@ pub mod turn;
 ghost use Rattle.std.specs.Prelude.{◌≡◌, ◌≤◌, ◌<◌, ◌^◌, [], None, length, All, IfSome, OnOk};
 ghost use Rattle.std.specs.Option.{ForSome};
 ghost use Rattle.dom_history.specs.declared.op.Want.TheVariants.{Done};
-ghost use Rattle.script_runner.specs.Rounds.{HasTurn, IsNext, IsFresh, AreListed, AreServed, is_first_in};
+ghost use Rattle.script_runner.specs.Serving.{HasTurn, IsNext, IsUnbegun, AreListed, AreServed, is_first_in};
 
 use crate::rounds::process::Process;
 use dom_history::laws::answered_entries_are_plain_runs;
@@ -51,11 +51,11 @@ pub fn serve_in_rounds<P: Program>(
     store: &mut PlainStore,
     processes: &mut [Process<P>],
 ) -> Result<(), NoMemory>
-    requires fresh { All (IsFresh P.ask P.heard P.spent P.answered P.becomes) processes.old }
+    requires unbegun { All (IsUnbegun P.wants P.spent P.answered P.becomes) processes.old }
     requires listed { AreListed processes.old }
     requires few { length processes.old ≤ 2 ^ 16 }
     requires empty { store.old.deeds ≡ [] }
-    ensures { OnOk result (AreServed P.ask P.answered P.becomes store.old.opening processes.old processes.new store.new.deeds) }
+    ensures { OnOk result (AreServed P.wants P.answered P.becomes store.old.opening processes.old processes.new store.new.deeds) }
 {
     // So what was served is a run once all are done.
     answered_entries_are_plain_runs();

@@ -9,7 +9,9 @@ use crate::report::report;
 use crate::rounds::process::Process;
 use crate::rounds::serve_in_rounds;
 use aegis_shell::Shell;
-use aegis_shell::laws::{answers_only_become_more, processes_come_to_their_end};
+use aegis_shell::laws::{
+    answers_only_become_more, processes_come_to_their_end, shells_go_by_all_they_heard,
+};
 use dom_history::PlainStore;
 use script_reader::Script;
 use std::alloc::Global;
@@ -34,6 +36,7 @@ pub fn run_script(alloc: Global, script: &Script) -> Result<ByteList, NoMemory>
     // The shells come to their end, and what they were served is the one run of the script.
     processes_come_to_their_end();
     answers_only_become_more();
+    shells_go_by_all_they_heard();
     the_run_is_one();
     let mut store = PlainStore::new(alloc, script.opening())?;
     let procs = processes_in(alloc, script.commands())?;

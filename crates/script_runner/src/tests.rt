@@ -1,4 +1,6 @@
 //! What no clause says: that runs find memory, and reports that were worked out by hand.
+mod examples;
+
 use super::run_domain;
 use dom_io::{MemSink, MemSource};
 use std::alloc::Global;

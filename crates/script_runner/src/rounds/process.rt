@@ -1,10 +1,10 @@
 //! A process that is served.
 ghost use Rattle.std.specs.Prelude.{◌≡◌, ◌≢◌, ◌+◌, ◌^◌, ◌<◌, ◌≤◌, ◌-◌, false, length, OnOk};
 ghost use Rattle.std.specs.Option.{option_copied};
-ghost use Rattle.dom_history.specs.Programs.{CanHear};
+ghost use Rattle.dom_history.specs.Programs.{FitsWant};
 ghost use Rattle.dom_history.specs.Ranges.{IsWant};
 ghost use Rattle.dom_history.specs.declared.op.Want.TheVariants.{Phase as PhaseWant, Done as DoneWant};
-ghost use Rattle.script_runner.specs.Steps.{IsTold, Steps, IsWanted};
+ghost use Rattle.script_runner.specs.Steps.{IsTold, Steps};
 
 use crate::rounds::turn::Turn;
 use dom_history::{PlainStore, Program, Reply, Want};
@@ -53,9 +53,9 @@ impl<P: Program> Process<P> {
     /// Tells it the reply to its operation, or that its phase is over.
     fn tell(&mut self, alloc: Global, told: Option<&Reply>) -> Result<(), NoMemory>
         requires whole { P.spent self.old.program ≡ false }
-        requires fits { CanHear (P.ask self.old.program) (P.heard self.old.program) (option_copied told) }
+        requires fits { FitsWant (P.wants self.old.program) (option_copied told) }
         requires few { self.old.phase + 1 < 2 ^ 32 }
-        ensures { OnOk result (IsTold P.ask P.heard P.spent P.answered P.becomes self.old self.new (option_copied told.entry)) }
+        ensures { OnOk result (IsTold P.wants P.spent P.answered P.becomes self.old self.new (option_copied told.entry)) }
     {
         if told.is_none() {
             self.finished = self.program.at();
@@ -68,12 +68,12 @@ impl<P: Program> Process<P> {
     /// Serves what it wants, which is not the end.
     pub fn step(&mut self, alloc: Global, store: &mut PlainStore) -> Result<(), NoMemory>
         requires whole { P.spent self.old.program ≡ false }
-        requires wanted { IsWanted (P.ask self.old.program) (P.heard self.old.program) self.old.want }
+        requires wanted { self.old.want ≡ P.wants self.old.program }
         requires range { IsWant self.old.want }
         requires more { self.old.want ≢ DoneWant }
         requires few { self.old.phase + 1 < 2 ^ 32 }
         requires few_deeds { length store.old.deeds < 2 ^ 40 }
-        ensures { OnOk result (Steps P.ask P.heard P.spent P.answered P.becomes store.old self.old store.new self.new self.old.want) }
+        ensures { OnOk result (Steps P.wants P.spent P.answered P.becomes store.old self.old store.new self.new self.old.want) }
     {
         match &self.want {
             Want::Do(op) => {

@@ -18,7 +18,7 @@ returns-then-not-begun-clause-shell c =
     (λ goes want is. waits-shell part told c.want.new.self want is (goes (λ future. reach part 1 unbound part.jobs (told ++ future)) c.requires.shell.continues))
 
 pub hear-requires : goal.hear-requires
-hear-requires c = hears-told c.args.work.now c.args.begun c.args.told.now.items c.args.self.now (option_copied c.args.last) c.if-not-begun.false c.requires.shell c.requires.hears
+hear-requires c = hears-told c.args.work.now c.args.begun c.args.told.now.items c.args.self.now (option_copied c.args.last) c.if-not-begun.false c.requires.shell c.requires.fits
 
 pub want-requires-in-None-clause-within : goal.want-requires-in-None-clause-within
 want-requires-in-None-clause-within c =

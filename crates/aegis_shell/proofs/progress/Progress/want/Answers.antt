@@ -10,7 +10,7 @@ returns-in-Some-clause-want c =
     let is = rw (c.jobs.ensures.value, c.len.ensures, c.args.self.now.answers.ok.0) at c.job-item.is in
     let within = rw (c.jobs.ensures.value, c.len.ensures, c.args.self.now.answers.ok.0) at c.loop-job-test.true in
     let at = next-job c.args.work.now.jobs n c.loop-job.job-index (length s.answers.items) job within is c.loop-job.invariant.1 in
-    wants-here c.args.work.now s s job at.0 at.1 c.in-Some.want c.loop-job.invariant.0 (sym c.in_ok-want.ensures ∙ c.in-Some.is)
+    wants-here c.args.work.now s s job at.0 at.1 c.in-Some.want c.loop-job.invariant.0 (sym c.in_ok-want.ensures.value ∙ c.in-Some.is)
 
 pub loop-job-preserved : goal.loop-job-preserved
 loop-job-preserved c =
@@ -24,5 +24,5 @@ loop-job-preserved c =
       c.loop-job.invariant.0,
       ap length answers ∙ (length-append s.answers.items _ ∙ omega (arith, c.loop-job.invariant.1)),
       λ whole before.
-          lacks-continues c.args.work.now s _ job at.0 at.1 whole c.loop-job.invariant.0 (sym c.in_ok-want.ensures ∙ c.in-None.is) refl refl refl answers (c.loop-job.invariant.2 whole before),
+          lacks-continues c.args.work.now s _ job at.0 at.1 whole c.loop-job.invariant.0 (sym c.in_ok-want.ensures.value ∙ c.in-None.is) refl refl refl answers (c.loop-job.invariant.2 whole before),
     )
