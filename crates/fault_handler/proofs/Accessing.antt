@@ -6,16 +6,17 @@ use Rattle.std.specs.List.{list_any}
 use Rattle.std.specs.Option.{unwrap_or}
 use Rattle.std.proofs.lemmas.List.{length-take}
 use Rattle.uid_names.specs.Names.{ObjectName}
+use Rattle.uid_names.specs.declared.limits.TheConstants.{MAX_LENGTH, MAX_ROOM, PAGE_BYTES}
 use Rattle.dom_history.specs.declared.deed.LockState.{LockState}
 use Rattle.dom_history.specs.declared.deed.LockState.TheVariants.{Free, Held, Taking, Releasing, Deleting}
 use Rattle.dom_history.specs.Replies.{may_write}
 use Rattle.page_cache.specs.Caches.{Resident, page_at, free_count}
 use Rattle.page_cache.specs.Changes.{without_page}
 use Rattle.page_cache.specs.Victims.{victim_of}
-use Rattle.page_cache.proofs.ListLemmas.{by_cases}
+use Rattle.uid_names.proofs.ListLemmas.{by_cases}
 use Rattle.version_stamps.specs.Stamps.{stamp_of}
 use Rattle.ring_messages.specs.Ranges.{IsBody}
-use Rattle.fault_handler.specs.declared.entries.Entry.{Entry}
+use Rattle.fault_handler.specs.declared.entries.LockEntry.{LockEntry}
 use Rattle.fault_handler.specs.declared.tasks.Work.{Work}
 use Rattle.fault_handler.specs.declared.tasks.Work.TheVariants.{Load, Store}
 use Rattle.fault_handler.specs.declared.tasks.Task.{Task}
@@ -25,7 +26,7 @@ use Rattle.fault_handler.specs.ShownPages.{is_in_transit}
 use Rattle.fault_handler.specs.Desks.{DeskState, entry_at, any_keeps, any_writes, others_fetch, grant_among, writing_grant, base_of}
 use Rattle.fault_handler.specs.Changes.{with_stored, with_dropped}
 use Rattle.fault_handler.specs.Accesses.{Accessed, page_out, waiting, performed, fetched, room_made, room_by, frame_by, missed_by, page_by, page_access}
-use Rattle.fault_handler.specs.Kept.{IsProc, is_dirty, MayWork, IsAllowed, IsEntryState, IsEntry, IsDesk}
+use Rattle.fault_handler.specs.Invariant.{IsProc, is_dirty, MayWork, IsAllowed, IsLockEntryState, IsLockEntry, IsDesk}
 use Rattle.fault_handler.specs.Conditions.{IsIdle}
 use Rattle.fault_handler.specs.Outcomes.{FitsWork, IsAsked, AfterAccess}
 use Rattle.fault_handler.proofs.Fours.{first, second, third, fourth, any-of}
@@ -42,11 +43,11 @@ pub record IsGood (p : ℕ) (a : Accessed) : Type 0 where
   pub next : AfterAccess a.desk p a.answer
 
 -- a grant under which an object is written is a number from 1
-grant-least : (o : Option Entry) → keeps_writing o ≡ true → IfSome o IsEntry → 1 ≤ grant_in o
+grant-least : (o : Option LockEntry) → keeps_writing o ≡ true → IfSome o IsLockEntry → 1 ≤ grant_in o
 grant-least None writes is = absurd (cc)
 grant-least (Some e) writes is = by_state e.state writes is
   where
-    by_state : (s : LockState) → (may_write s && not e.released) ≡ true → IsEntryState s e.grant → 1 ≤ e.grant
+    by_state : (s : LockState) → (may_write s && not e.released) ≡ true → IsLockEntryState s e.grant → 1 ≤ e.grant
     by_state Free writes is = absurd (cc)
     by_state (Held m) writes is = is
     by_state (Taking m) writes is = absurd (cc)
@@ -80,8 +81,8 @@ module _ (d : DeskState) (is : IsDesk d) (u : ObjectName) where
           (λ not_here. rw not_here (rest (rw not_here at h)))
 
 -- a page that is sent home is one that a frame can carry
-pub page_out-asked : (d : DeskState) → IsDesk d → (u : ObjectName) (k : ℕ) (bytes : List ℕ) → k < 1024 → any_writes d.entries u ≡ true → IsBody u.home (page_out d u k bytes)
-page_out-asked d is u k bytes within writes = (refl, within, writing_grant-least d is u writes, base-least d is u (any_writes-keeps d.entries u writes))
+pub page_out-asked : (d : DeskState) → IsDesk d → (u : ObjectName) (k : ℕ) (bytes : List ℕ) → k < MAX_ROOM → length bytes ≡ PAGE_BYTES → any_writes d.entries u ≡ true → IsBody u.home (page_out d u k bytes)
+page_out-asked d is u k bytes within whole writes = (refl, within, writing_grant-least d is u writes, base-least d is u (any_writes-keeps d.entries u writes), whole)
 
 -- a page that is not resident stays so where another is dropped
 absent-without : (pages : List Resident) (u : ObjectName) (k : ℕ) (v : ObjectName) (j : ℕ) → page_at pages v j ≡ None → page_at (without_page pages u k) v j ≡ None
@@ -93,7 +94,7 @@ absent-without pages u k v j none =
     (λ differ. page_at-without_other pages u k v j differ ∙ none)
 
 -- where a place lies in a page of an object, so does its end
-end-within : (task : Task) (n : ℕ) → page_of task < 1024 → start_of task + n ≤ 1024 → task.offset + n ≤ 1048576
+end-within : (task : Task) (n : ℕ) → page_of task < MAX_ROOM → start_of task + n ≤ PAGE_BYTES → task.offset + n ≤ MAX_LENGTH
 end-within task n page within = omega (arith, page, within)
 
 module _ (d : DeskState) (p : ℕ) (task : Task) (is : IsDesk d) (proc : IsProc p) (idle : IsIdle d p) (allowed : IsAllowed d.entries p task) where
@@ -105,7 +106,7 @@ module _ (d : DeskState) (p : ℕ) (task : Task) (is : IsDesk d) (proc : IsProc 
     next = record { no_call = idle.no_call; no_page = idle.no_page; keeping = idle.keeping };
   }
   performed-good (Store bytes) r same =
-      let within : start_of task + length bytes ≤ 1024 = subst (λ (w : Work). start_of task + size_of w ≤ 1024) same allowed.range.within in
+      let within : start_of task + length bytes ≤ PAGE_BYTES = subst (λ (w : Work). start_of task + size_of w ≤ PAGE_BYTES) same allowed.range.within in
       let writes : keeps_writing (entry_at d.entries p task.uid) ≡ true = subst (λ (w : Work). MayWork w (entry_at d.entries p task.uid)) same allowed.mode in
       record {
         desk = IsDesk-with_end (with_stored d task.uid (page_of task) (start_of task) bytes) task.uid (task.offset + length bytes)
@@ -116,9 +117,9 @@ module _ (d : DeskState) (p : ℕ) (task : Task) (is : IsDesk d) (proc : IsProc 
       }
 
   -- the answer fits it
-  performed-fits : (work : Work) (r : Resident) → task.work ≡ work → length r.bytes ≡ 1024 → FitsWork work (performed d task work r).answer
+  performed-fits : (work : Work) (r : Resident) → task.work ≡ work → length r.bytes ≡ PAGE_BYTES → FitsWork work (performed d task work r).answer
   performed-fits (Load count) r same whole =
-      let within : start_of task + count ≤ 1024 = subst (λ (w : Work). start_of task + size_of w ≤ 1024) same allowed.range.within in
+      let within : start_of task + count ≤ PAGE_BYTES = subst (λ (w : Work). start_of task + size_of w ≤ PAGE_BYTES) same allowed.range.within in
       omega (arith, length-take count (drop (start_of task) r.bytes), length-drop (start_of task) r.bytes)
   performed-fits (Store bytes) r same whole = tt
 
@@ -147,7 +148,7 @@ module _ (d : DeskState) (p : ℕ) (task : Task) (is : IsDesk d) (proc : IsProc 
       let shown = rw found at (is.pages.each r.uid r.page) in
       record {
         desk = IsDesk-with_eviction d p is proc task r.uid r.page idle is_dirty_there (rw found still) allowed;
-        asks = page_out-asked d is r.uid r.page r.bytes shown.page (dirty-writes d p is proc r.uid r.page is_dirty_there);
+        asks = page_out-asked d is r.uid r.page r.bytes shown.page shown.bytes (dirty-writes d p is proc r.uid r.page is_dirty_there);
         next = IsAccessing-with_eviction d p is proc task r.uid r.page;
       }
 

@@ -4,13 +4,13 @@ use Rattle.std.specs.Option.{option_map}
 use Rattle.std.proofs.lemmas.Bool.Decides.{nat_tests}
 use Rattle.uid_names.specs.Names.{ObjectName}
 use Rattle.page_cache.specs.Caches.{Resident, is_page, page_at}
-use Rattle.page_cache.proofs.ListLemmas.{by_cases}
-use Rattle.fault_handler.specs.declared.entries.Entry.{Entry}
+use Rattle.uid_names.proofs.ListLemmas.{by_cases}
+use Rattle.fault_handler.specs.declared.entries.LockEntry.{LockEntry}
 use Rattle.fault_handler.specs.declared.transits.Transit.{Transit}
 use Rattle.fault_handler.specs.declared.tasks.Task.{Task}
 use Rattle.fault_handler.specs.ShownPages.{changed_page, is_in_transit}
 use Rattle.fault_handler.specs.Transits.{is_moving}
-use Rattle.fault_handler.specs.Kept.{IsShownPage, ArePages, is_marked, is_dirty, FitsWay, FitsTransit, FitsOpen}
+use Rattle.fault_handler.specs.Invariant.{IsShownPage, ArePages, is_marked, is_dirty, FitsWay, FitsTransit, FitsOpen}
 use Rattle.fault_handler.proofs.PageLists.{is_same, same-uid, same-page, page_at-changed_same, page_at-changed_other, AreOnce-changed}
 
 -- a page that was not resident isn't, one that was on its way home is, and is as dirty as it was
@@ -30,7 +30,7 @@ AreAlike old new t = (u : ObjectName) (k : ℕ) → is_moving u k t ≡ true →
 pub is_moving-own : (t : Transit) → is_moving t.uid t.page (Some t) ≡ true
 is_moving-own t = grind (arith, nat_tests)
 
-module _ (old new : List Resident) (entries : List (List Entry)) (q : ℕ) where
+module _ (old new : List Resident) (entries : List (List LockEntry)) (q : ℕ) where
   pub FitsWay-alike : (inward : Bool) (u : ObjectName) (k : ℕ) → Alike old new u k → FitsWay inward old entries q u k → FitsWay inward new entries q u k
   FitsWay-alike true u k alike fits = (alike.absent fits.0, fits.1)
   FitsWay-alike false u k alike fits = (alike.marks fits.0, fits.1)
@@ -72,7 +72,7 @@ module _ (u : ObjectName) (k : ℕ) (change : Resident → Resident) (names : (v
       (λ is. subst (λ (w : ObjectName). P w j) (sym (same-uid v j u k is)) (subst (P u) (sym (same-page v j u k is)) here))
       other
 
-  pub ArePages-changed : (entries : List (List Entry)) → ArePages pages entries → ((r : Resident) → page_at pages u k ≡ Some r → IsShownPage entries r → IsShownPage entries (change r)) → ArePages (changed_page u k change pages) entries
+  pub ArePages-changed : (entries : List (List LockEntry)) → ArePages pages entries → ((r : Resident) → page_at pages u k ≡ Some r → IsShownPage entries r → IsShownPage entries (change r)) → ArePages (changed_page u k change pages) entries
   ArePages-changed entries are after = record {
     once = AreOnce-changed u k change names pages are.once;
     each = λ v j. by_name (λ w i. IfSome (page_at (changed_page u k change pages) w i) (IsShownPage entries)) v j

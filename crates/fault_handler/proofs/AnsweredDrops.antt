@@ -15,7 +15,7 @@ use Rattle.fault_handler.specs.Desks.{DeskState, moving_of, base_of}
 use Rattle.fault_handler.specs.Changes.{with_raised, with_arrival, with_room_settled}
 use Rattle.fault_handler.specs.Accesses.{Accessed, performed, page_access}
 use Rattle.fault_handler.specs.PageReplies.{page_by_stamp, room_taken, room_sent_again, came_by, page_came_of, failed_way, failed_by, access_failed_of}
-use Rattle.fault_handler.specs.Kept.{IsProc, is_marked, IsOpenTask, IsDesk}
+use Rattle.fault_handler.specs.Invariant.{IsProc, is_marked, IsOpenTask, IsDesk}
 use Rattle.fault_handler.specs.Conditions.{IsAccessing, fits_way, fits_move}
 use Rattle.fault_handler.specs.Drops.{dropped_in, DropsOnly, MayDrop, anew_by, anew_of, WaitsFor}
 use Rattle.fault_handler.proofs.PageLists.{is_same}

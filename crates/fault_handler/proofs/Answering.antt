@@ -1,6 +1,7 @@
 -- What holds after an answer to the call of a load or store, and after a link fault.
 use Rattle.std.proofs.Common.{◌≡◌, ℕ, ◌<◌, ◌≤◌, nat_lt, Bool, true, false, List, length, Option, Some, None, IfSome, IsSome, refl, sym, ap, subst, ◌∙◌}
 use Rattle.std.specs.Prelude.{not}
+use Rattle.uid_names.specs.declared.limits.TheConstants.{MAX_ROOM, PAGE_BYTES}
 use Rattle.page_cache.specs.Caches.{Resident, page_at}
 use Rattle.version_stamps.specs.Stamps.{stamp_of}
 use Rattle.ring_messages.specs.declared.body.Body.{Body}
@@ -14,8 +15,8 @@ use Rattle.fault_handler.specs.Desks.{DeskState, any_writes, task_of, moving_of,
 use Rattle.fault_handler.specs.Changes.{with_raised, with_arrival, with_room_settled, with_sent_again}
 use Rattle.fault_handler.specs.Accesses.{Accessed}
 use Rattle.fault_handler.specs.PageReplies.{page_by_stamp, room_taken, room_sent_again, came_by, page_came_of, failed_way, failed_by, access_failed_of}
-use Rattle.fault_handler.specs.Kept.{IsProc, is_marked, IsOpenTask, IsDesk}
-use Rattle.fault_handler.specs.Conditions.{IsIdle, IsAccessing, fits_way, fits_move, IsWhole}
+use Rattle.fault_handler.specs.Invariant.{IsProc, is_marked, IsOpenTask, IsDesk}
+use Rattle.fault_handler.specs.Conditions.{IsIdle, IsAccessing, fits_way, fits_move}
 use Rattle.fault_handler.specs.Outcomes.{FitsWork}
 use Rattle.fault_handler.proofs.PageLists.{found-page}
 use Rattle.fault_handler.proofs.Moves.{moving-uid, moving-page}
@@ -49,7 +50,7 @@ module _ (d : DeskState) (p : ℕ) (is : IsDesk d) (proc : IsProc p) (access : I
   task-seen : IsSome (stamp_of task.uid d.seen)
   task-seen = is.known.kept p proc task.uid needs.allowed.kept
 
-  page_by_stamp-served : (stamp : ℕ) (bytes : List ℕ) (old : Bool) → t.inward ≡ true → 1 ≤ stamp → length bytes ≡ 1024 → IsServed p task (page_by_stamp d p task stamp bytes old)
+  page_by_stamp-served : (stamp : ℕ) (bytes : List ℕ) (old : Bool) → t.inward ≡ true → 1 ≤ stamp → length bytes ≡ PAGE_BYTES → IsServed p task (page_by_stamp d p task stamp bytes old)
   page_by_stamp-served stamp bytes true comes least whole = record { good = record { desk = is; asks = (refl, needs.allowed.range.page); next = access }; fits = tt }
   page_by_stamp-served stamp bytes false comes least whole =
       let raised_desk = with_raised d task.uid stamp in
@@ -88,21 +89,21 @@ module _ (d : DeskState) (p : ℕ) (is : IsDesk d) (proc : IsProc p) (access : I
         record {
           good = record {
             desk = IsDesk-with_sent_again (with_raised d t.uid stamp) t.uid t.page is_raised marked;
-            asks = page_out-asked (with_sent_again (with_raised d t.uid stamp) t.uid t.page) (IsDesk-with_sent_again (with_raised d t.uid stamp) t.uid t.page is_raised marked) t.uid t.page r.bytes (page-below r found shown.page) writes;
+            asks = page_out-asked (with_sent_again (with_raised d t.uid stamp) t.uid t.page) (IsDesk-with_sent_again (with_raised d t.uid stamp) t.uid t.page is_raised marked) t.uid t.page r.bytes (page-below r found shown.page) shown.bytes writes;
             next = access;
           };
           fits = tt;
         }
       where
-        page-below : (s : Resident) → page_at d.cache.pages t.uid t.page ≡ Some s → s.page < 1024 → t.page < 1024
-        page-below s at_t below = subst (λ (n : ℕ). n < 1024) (found-page d.cache.pages t.uid t.page s at_t) below
+        page-below : (s : Resident) → page_at d.cache.pages t.uid t.page ≡ Some s → s.page < MAX_ROOM → t.page < MAX_ROOM
+        page-below s at_t below = subst (λ (n : ℕ). n < MAX_ROOM) (found-page d.cache.pages t.uid t.page s at_t) below
 
   -- by the answer
-  came_by-served : (to : ℕ) (body : Body) → fits_way t.inward body ≡ true → IsBody to body → IsWhole body → IsServed p task (came_by d p task t body)
-  came_by-served to (Page stamp bytes) fits range whole = page_by_stamp-served stamp bytes (nat_lt stamp (base_of d.seen task.uid)) fits range whole
-  came_by-served to (Stored stamp) fits range whole = room_taken-served (goes-by t.inward fits) stamp range
-  came_by-served to (Stale stamp) fits range whole = room_sent_again-served (goes-by t.inward fits) stamp range (page_at d.cache.pages t.uid t.page) refl
-  came_by-served to body fits range whole = absurd (cc)
+  came_by-served : (to : ℕ) (body : Body) → fits_way t.inward body ≡ true → IsBody to body → IsServed p task (came_by d p task t body)
+  came_by-served to (Page stamp bytes) fits range = page_by_stamp-served stamp bytes (nat_lt stamp (base_of d.seen task.uid)) fits range.0 range.1
+  came_by-served to (Stored stamp) fits range = room_taken-served (goes-by t.inward fits) stamp range
+  came_by-served to (Stale stamp) fits range = room_sent_again-served (goes-by t.inward fits) stamp range (page_at d.cache.pages t.uid t.page) refl
+  came_by-served to body fits range = absurd (cc)
 
 -- a reply that fits the call of a process's load or store: what its load or store comes to is good, and never refused
 module _ (d : DeskState) (p : ℕ) (is : IsDesk d) (proc : IsProc p) (access : IsAccessing d p) where
@@ -110,18 +111,18 @@ module _ (d : DeskState) (p : ℕ) (is : IsDesk d) (proc : IsProc p) (access : I
   pub came_to-open : (task : Task) (t : Transit) (body : Body) → task_of d p ≡ Some task → moving_of d p ≡ Some t → page_came_of d p body ≡ came_by d p task t body
   came_to-open task t body there moves = rw (there, moves) refl
 
-  pub page_came_of-good : (to : ℕ) (body : Body) → fits_move (moving_of d p) body ≡ true → IsBody to body → IsWhole body → IsGood p (page_came_of d p body)
-  page_came_of-good to body fits range whole =
+  pub page_came_of-good : (to : ℕ) (body : Body) → fits_move (moving_of d p) body ≡ true → IsBody to body → IsGood p (page_came_of d p body)
+  page_came_of-good to body fits range =
       let found = open_task d p is proc access in
       let fits_t : fits_way found.1.inward body ≡ true = rw found.3 at fits in
-      subst (IsGood p) (sym (came_to-open found.0 found.1 body found.2 found.3)) (came_by-served d p is proc access found.0 found.1 found.3 found.4 to body fits_t range whole).good
+      subst (IsGood p) (sym (came_to-open found.0 found.1 body found.2 found.3)) (came_by-served d p is proc access found.0 found.1 found.3 found.4 to body fits_t range).good
 
-  pub page_came_of-fits : (to : ℕ) (body : Body) → fits_move (moving_of d p) body ≡ true → IsBody to body → IsWhole body → IfSome (task_of d p) (λ task. FitsWork task.work (page_came_of d p body).answer)
-  page_came_of-fits to body fits range whole =
+  pub page_came_of-fits : (to : ℕ) (body : Body) → fits_move (moving_of d p) body ≡ true → IsBody to body → IfSome (task_of d p) (λ task. FitsWork task.work (page_came_of d p body).answer)
+  page_came_of-fits to body fits range =
       let found = open_task d p is proc access in
       let fits_t : fits_way found.1.inward body ≡ true = rw found.3 at fits in
       subst (λ (o : Option Task). IfSome o (λ task. FitsWork task.work (page_came_of d p body).answer)) (sym found.2)
-      (subst (λ (a : Accessed). FitsWork found.0.work a.answer) (sym (came_to-open found.0 found.1 body found.2 found.3)) (came_by-served d p is proc access found.0 found.1 found.3 found.4 to body fits_t range whole).fits)
+      (subst (λ (a : Accessed). FitsWork found.0.work a.answer) (sym (came_to-open found.0 found.1 body found.2 found.3)) (came_by-served d p is proc access found.0 found.1 found.3 found.4 to body fits_t range).fits)
 
   -- a link fault leaves a desk, and the process may go on
   failed_way-good : (t : Transit) (inward : Bool) → t.inward ≡ inward → moving_of d p ≡ Some t → IsDesk (failed_way d p t inward) × IsIdle (failed_way d p t inward) p

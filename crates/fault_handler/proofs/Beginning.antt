@@ -6,6 +6,7 @@ use Rattle.uid_names.specs.Names.{ObjectName}
 use Rattle.uid_names.specs.Segments.{segments, is_free_run as is_free_among}
 use Rattle.uid_names.proofs.Runs.{starts-below}
 use Rattle.std.proofs.lemmas.List.Elements.{All-head, All-tail}
+use Rattle.uid_names.specs.declared.limits.TheConstants.{MAX_LENGTH, MAX_ROOM, PAGE_BYTES}
 use Rattle.dom_history.specs.declared.op.Op.{Op}
 use Rattle.dom_history.specs.declared.op.Op.TheVariants.{New, Lock, Unlock, Delete, Load, Store, Length, Map, Unmap, List as ListOp}
 use Rattle.dom_history.specs.declared.op.Reply.{Reply}
@@ -16,7 +17,8 @@ use Rattle.dom_history.specs.Ranges.{IsInPage, IsOp}
 use Rattle.dom_history.specs.Fitting.{FitsLoad, FitsStore}
 use Rattle.dom_history.specs.Locks.{is_held}
 use Rattle.dom_history.specs.Replies.{may_write}
-use Rattle.page_cache.proofs.ListLemmas.{by_cases, find_passes}
+use Rattle.uid_names.proofs.Finds.{find-passes}
+use Rattle.uid_names.proofs.ListLemmas.{by_cases}
 use Rattle.address_map.specs.declared.mapping.Mapping.{Mapping}
 use Rattle.address_map.specs.declared.map.MapRefusal.{MapRefusal}
 use Rattle.address_map.specs.declared.map.MapRefusal.TheVariants as refusals
@@ -27,7 +29,7 @@ use Rattle.address_map.proofs.Changes.{IsLayout-mappings_after}
 use Rattle.address_map.specs.Maps.{IsMapping, IsLayout, is_full, map_answer, mappings_after}
 use Rattle.fault_handler.specs.declared.access.Access.{Access}
 use Rattle.fault_handler.specs.declared.access.Access.TheVariants.{Hit, Need, Wait, Refuse}
-use Rattle.fault_handler.specs.declared.entries.Entry.{Entry}
+use Rattle.fault_handler.specs.declared.entries.LockEntry.{LockEntry}
 use Rattle.fault_handler.specs.declared.lengths.Known.{Known}
 use Rattle.fault_handler.specs.declared.tasks.Work.TheVariants as works
 use Rattle.fault_handler.specs.Entries.{state_in, is_released, keeps, keeps_writing}
@@ -35,43 +37,43 @@ use Rattle.fault_handler.specs.Lengths.{known_of, room_of, length_of}
 use Rattle.fault_handler.specs.Desks.{DeskState, at, entry_at, maps_of, state_of}
 use Rattle.fault_handler.specs.Changes.{with_maps}
 use Rattle.fault_handler.specs.Accesses.{refused, page_access, task_at, target_of, load_by, load_at, store_by, store_at, length_by, map_by_answer, map_by, unmap_by, access_of}
-use Rattle.fault_handler.specs.Kept.{IsProc, IsKnown, IsAllowed, IsDesk}
+use Rattle.fault_handler.specs.Invariant.{IsProc, IsKnown, IsAllowed, IsDesk}
 use Rattle.fault_handler.specs.Conditions.{IsIdle, IsAccess}
 use Rattle.fault_handler.specs.Outcomes.{FitsReply, FitsWork, FitsAnswer}
 use Rattle.fault_handler.proofs.LockKeeps.{IsDesk-with_maps}
 use Rattle.fault_handler.proofs.Accessing.{IsGood, page_access-good, page_access-fits}
 
 -- an address lies in a page where its target does
-address-start : (address first n : ℕ) → first * 32768 ≤ address → address % 1024 + n ≤ 1024 → (address - first * 32768) % 1024 + n ≤ 1024
+address-start : (address first n : ℕ) → first * 32768 ≤ address → address % PAGE_BYTES + n ≤ PAGE_BYTES → (address - first * 32768) % PAGE_BYTES + n ≤ PAGE_BYTES
 address-start address first n low within = omega (arith, low, within)
 
 -- so does what a spot means
-pub target-within : (d : DeskState) (p : ℕ) (spot : Spot) (n : ℕ) → IsInPage spot n → IfSome (target_of d p spot) (λ t. t.1 % 1024 + n ≤ 1024)
+pub target-within : (d : DeskState) (p : ℕ) (spot : Spot) (n : ℕ) → IsInPage spot n → IfSome (target_of d p spot) (λ t. t.1 % PAGE_BYTES + n ≤ PAGE_BYTES)
 target-within d p (Of u offset) n is = is.1
 target-within d p (Addr address) n is = by_mapping (mapping_at address (maps_of d p)) refl
   where
-    by_mapping : (o : Option Mapping) → mapping_at address (maps_of d p) ≡ o → IfSome (target_in address o) (λ t. t.1 % 1024 + n ≤ 1024)
+    by_mapping : (o : Option Mapping) → mapping_at address (maps_of d p) ≡ o → IfSome (target_in address o) (λ t. t.1 % PAGE_BYTES + n ≤ PAGE_BYTES)
     by_mapping None found = tt
     by_mapping (Some m) found =
-        let within : lies_in address m ≡ true = find_passes (lies_in address) (maps_of d p) m found in
+        let within : lies_in address m ≡ true = find-passes (lies_in address) (maps_of d p) m found in
         let low : m.first * 32768 ≤ address = grind (arith, nat_tests, within) in
         address-start address m.first n low is.1
 
 -- what is known of an object is in its ranges
-length-known : (o : Option Known) → IfSome o IsKnown → length_of o ≤ 1048576
+length-known : (o : Option Known) → IfSome o IsKnown → length_of o ≤ MAX_LENGTH
 length-known None is = omega arith
 length-known (Some k) is = is.length
 
-room-known : (o : Option Known) → IfSome o IsKnown → room_of o ≤ 1024
+room-known : (o : Option Known) → IfSome o IsKnown → room_of o ≤ MAX_ROOM
 room-known None is = omega arith
-room-known (Some k) is = is.room_high
+room-known (Some k) is = is.room.1
 
--- a place before 1 MiB lies in one of 1,024 pages
-page-within : (offset n : ℕ) → 1 ≤ n → offset + n ≤ 1048576 → offset / 1024 < 1024
+-- a place within the greatest length lies in one of the pages of the greatest room
+page-within : (offset n : ℕ) → 1 ≤ n → offset + n ≤ MAX_LENGTH → offset / PAGE_BYTES < MAX_ROOM
 page-within offset n some within = omega (arith, some, within)
 
 -- a process that keeps an object and is Held in a mode that writes keeps it in that mode
-keeps-writes : (o : Option Entry) → keeps o ≡ true → may_write (state_in o) ≡ true → keeps_writing o ≡ true
+keeps-writes : (o : Option LockEntry) → keeps o ≡ true → may_write (state_in o) ≡ true → keeps_writing o ≡ true
 keeps-writes o kept writes = let a : (is_held (state_in o) && not (is_released o)) ≡ true = kept in let b : not (is_released o) ≡ true = grind (arith, nat_tests, a) in rw (writes, b) refl
 
 -- a reply that fits the load fits the operation
@@ -100,7 +102,7 @@ module _ (d : DeskState) (p : ℕ) (is : IsDesk d) (proc : IsProc p) (idle : IsI
   refused-good : (reply : Reply) → IsGood p (refused d reply)
   refused-good reply = record { desk = is; asks = tt; next = idle }
 
-  module _ (u : ObjectName) (offset count : ℕ) (some : 1 ≤ count) (within : offset % 1024 + count ≤ 1024) where
+  module _ (u : ObjectName) (offset count : ℕ) (some : 1 ≤ count) (within : offset % PAGE_BYTES + count ≤ PAGE_BYTES) where
     -- a load that passed its tests is allowed
     load-allowed : is_held (state_of d p u) ≡ true → nat_lt (length_of (known_of u d.known)) (offset + count) ≡ false → IsAllowed d.entries p (task_at u offset (works.Load count))
     load-allowed held inside =
@@ -122,26 +124,26 @@ module _ (d : DeskState) (p : ℕ) (is : IsDesk d) (proc : IsProc p) (idle : IsI
     load_by-fits spot true true h e = tt
     load_by-fits spot true false h e = FitsLoad-work spot count (page_access d p (task_at u offset (works.Load count))).answer (page_access-fits d p (task_at u offset (works.Load count)) is proc idle (load-allowed h e))
 
-  module _ (u : ObjectName) (offset : ℕ) (bytes : List ℕ) (some : 1 ≤ length bytes) (within : offset % 1024 + length bytes ≤ 1024) where
+  module _ (u : ObjectName) (offset : ℕ) (bytes : List ℕ) (some : 1 ≤ length bytes) (within : offset % PAGE_BYTES + length bytes ≤ PAGE_BYTES) where
     -- a store that passed its tests is allowed
-    store-allowed : is_held (state_of d p u) ≡ true → may_write (state_of d p u) ≡ true → nat_lt (1024 * room_of (known_of u d.known)) (offset + length bytes) ≡ false → IsAllowed d.entries p (task_at u offset (works.Store bytes))
+    store-allowed : is_held (state_of d p u) ≡ true → may_write (state_of d p u) ≡ true → nat_lt (PAGE_BYTES * room_of (known_of u d.known)) (offset + length bytes) ≡ false → IsAllowed d.entries p (task_at u offset (works.Store bytes))
     store-allowed held writes inside =
         let room = room-known (known_of u d.known) (is.known.rows u) in
-        let end : offset + length bytes ≤ 1024 * room_of (known_of u d.known) = grind (arith, nat_tests, inside) in
+        let end : offset + length bytes ≤ PAGE_BYTES * room_of (known_of u d.known) = grind (arith, nat_tests, inside) in
         record {
           range = record { some = some; within = within; page = page-within offset (length bytes) some (omega arith) };
           kept = idle.keeping u held;
           mode = keeps-writes (entry_at d.entries p u) (idle.keeping u held) writes;
         }
 
-    store_by-good : (held writes past : Bool) → is_held (state_of d p u) ≡ held → may_write (state_of d p u) ≡ writes → nat_lt (1024 * room_of (known_of u d.known)) (offset + length bytes) ≡ past
+    store_by-good : (held writes past : Bool) → is_held (state_of d p u) ≡ held → may_write (state_of d p u) ≡ writes → nat_lt (PAGE_BYTES * room_of (known_of u d.known)) (offset + length bytes) ≡ past
         → IsGood p (store_by d p (task_at u offset (works.Store bytes)) held writes past)
     store_by-good false writes past h w e = refused-good Reply.NoLock
     store_by-good true false past h w e = refused-good Reply.WrongMode
     store_by-good true true true h w e = refused-good Reply.PastRoom
     store_by-good true true false h w e = page_access-good d p (task_at u offset (works.Store bytes)) is proc idle (store-allowed h w e)
 
-    store_by-fits : (spot : Spot) (held writes past : Bool) → is_held (state_of d p u) ≡ held → may_write (state_of d p u) ≡ writes → nat_lt (1024 * room_of (known_of u d.known)) (offset + length bytes) ≡ past
+    store_by-fits : (spot : Spot) (held writes past : Bool) → is_held (state_of d p u) ≡ held → may_write (state_of d p u) ≡ writes → nat_lt (PAGE_BYTES * room_of (known_of u d.known)) (offset + length bytes) ≡ past
         → FitsAnswer (Store spot bytes) (store_by d p (task_at u offset (works.Store bytes)) held writes past).answer
     store_by-fits spot false writes past h w e = tt
     store_by-fits spot true false past h w e = tt
@@ -150,14 +152,14 @@ module _ (d : DeskState) (p : ℕ) (is : IsDesk d) (proc : IsProc p) (idle : IsI
         FitsStore-work spot bytes (page_access d p (task_at u offset (works.Store bytes))).answer (page_access-fits d p (task_at u offset (works.Store bytes)) is proc idle (store-allowed h w e))
 
   -- a load or store at what its spot means
-  load_at-good : (count : ℕ) (t : Option (ObjectName × ℕ)) → 1 ≤ count → IfSome t (λ x. x.1 % 1024 + count ≤ 1024) → IsGood p (load_at d p count t)
+  load_at-good : (count : ℕ) (t : Option (ObjectName × ℕ)) → 1 ≤ count → IfSome t (λ x. x.1 % PAGE_BYTES + count ≤ PAGE_BYTES) → IsGood p (load_at d p count t)
   load_at-good count None some within = refused-good Reply.NotMapped
   load_at-good count (Some t) some within = load_by-good t.0 t.1 count some within (is_held (state_of d p t.0)) (nat_lt (length_of (known_of t.0 d.known)) (t.1 + count)) refl refl
 
-  store_at-good : (bytes : List ℕ) (t : Option (ObjectName × ℕ)) → 1 ≤ length bytes → IfSome t (λ x. x.1 % 1024 + length bytes ≤ 1024) → IsGood p (store_at d p bytes t)
+  store_at-good : (bytes : List ℕ) (t : Option (ObjectName × ℕ)) → 1 ≤ length bytes → IfSome t (λ x. x.1 % PAGE_BYTES + length bytes ≤ PAGE_BYTES) → IsGood p (store_at d p bytes t)
   store_at-good bytes None some within = refused-good Reply.NotMapped
   store_at-good bytes (Some t) some within =
-      store_by-good t.0 t.1 bytes some within (is_held (state_of d p t.0)) (may_write (state_of d p t.0)) (nat_lt (1024 * room_of (known_of t.0 d.known)) (t.1 + length bytes)) refl refl refl
+      store_by-good t.0 t.1 bytes some within (is_held (state_of d p t.0)) (may_write (state_of d p t.0)) (nat_lt (PAGE_BYTES * room_of (known_of t.0 d.known)) (t.1 + length bytes)) refl refl refl
 
   length_by-good : (u : ObjectName) (held : Bool) → IsGood p (length_by d u held)
   length_by-good u false = refused-good Reply.NoLock
@@ -176,7 +178,7 @@ module _ (d : DeskState) (p : ℕ) (is : IsDesk d) (idle : IsIdle d p) (maps : L
 -- a room is one page or more
 room-least : (o : Option Known) → IsSome o → IfSome o IsKnown → 1 ≤ room_of o
 room-least None some is = absurd (cc)
-room-least (Some k) some is = is.room_low
+room-least (Some k) some is = is.room.0
 
 module _ (d : DeskState) (p : ℕ) (is : IsDesk d) (proc : IsProc p) (idle : IsIdle d p) where
   -- the room of an object on which a process is Held takes a segment or more
@@ -200,8 +202,8 @@ module _ (d : DeskState) (p : ℕ) (is : IsDesk d) (proc : IsProc p) (idle : IsI
 
   -- an access leaves a desk, asks what a home can be asked, and its process is idle or waits for an answer
   pub access_of-good : (op : Op) → IsOp op → IsGood p (access_of d p op)
-  access_of-good (Load spot count) range = load_at-good d p is proc idle count (target_of d p spot) range.0 (target-within d p spot count range)
-  access_of-good (Store spot bytes) range = store_at-good d p is proc idle bytes (target_of d p spot) range.0 (target-within d p spot (length bytes) range)
+  access_of-good (Load spot count) range = load_at-good d p is proc idle count (target_of d p spot) range.1.0 (target-within d p spot count range.1)
+  access_of-good (Store spot bytes) range = store_at-good d p is proc idle bytes (target_of d p spot) range.1.0 (target-within d p spot (length bytes) range.1)
   access_of-good (Length u) range = length_by-good d p is proc idle u (is_held (state_of d p u))
   access_of-good (Map u) range = map_by-good u (is_held (state_of d p u)) refl
   access_of-good (Unmap u) range = unmap_by-good u (is_some (mapping_of u (maps_of d p)))
@@ -244,7 +246,7 @@ module _ (d : DeskState) (p : ℕ) (is : IsDesk d) (proc : IsProc p) (idle : IsI
   load_at-fits : (spot : Spot) (count : ℕ) → IsInPage spot count → FitsAnswer (Load spot count) (load_at d p count (target_of d p spot)).answer
   load_at-fits spot count range = by_target spot (target_of d p spot) refl (target-within d p spot count range)
     where
-      by_target : (s : Spot) (t : Option (ObjectName × ℕ)) → target_of d p s ≡ t → IfSome t (λ x. x.1 % 1024 + count ≤ 1024) → FitsAnswer (Load s count) (load_at d p count t).answer
+      by_target : (s : Spot) (t : Option (ObjectName × ℕ)) → target_of d p s ≡ t → IfSome t (λ x. x.1 % PAGE_BYTES + count ≤ PAGE_BYTES) → FitsAnswer (Load s count) (load_at d p count t).answer
       by_target (Of u offset) None found within = absurd (cc)
       by_target (Addr address) None found within = tt
       by_target s (Some t) found within = load_by-fits d p is proc idle t.0 t.1 count range.0 within s (is_held (state_of d p t.0)) (nat_lt (length_of (known_of t.0 d.known)) (t.1 + count)) refl refl
@@ -252,11 +254,11 @@ module _ (d : DeskState) (p : ℕ) (is : IsDesk d) (proc : IsProc p) (idle : IsI
   store_at-fits : (spot : Spot) (bytes : List ℕ) → IsInPage spot (length bytes) → FitsAnswer (Store spot bytes) (store_at d p bytes (target_of d p spot)).answer
   store_at-fits spot bytes range = by_target spot (target_of d p spot) refl (target-within d p spot (length bytes) range)
     where
-      by_target : (s : Spot) (t : Option (ObjectName × ℕ)) → target_of d p s ≡ t → IfSome t (λ x. x.1 % 1024 + length bytes ≤ 1024) → FitsAnswer (Store s bytes) (store_at d p bytes t).answer
+      by_target : (s : Spot) (t : Option (ObjectName × ℕ)) → target_of d p s ≡ t → IfSome t (λ x. x.1 % PAGE_BYTES + length bytes ≤ PAGE_BYTES) → FitsAnswer (Store s bytes) (store_at d p bytes t).answer
       by_target (Of u offset) None found within = absurd (cc)
       by_target (Addr address) None found within = tt
       by_target s (Some t) found within =
-          store_by-fits d p is proc idle t.0 t.1 bytes range.0 within s (is_held (state_of d p t.0)) (may_write (state_of d p t.0)) (nat_lt (1024 * room_of (known_of t.0 d.known)) (t.1 + length bytes)) refl refl refl
+          store_by-fits d p is proc idle t.0 t.1 bytes range.0 within s (is_held (state_of d p t.0)) (may_write (state_of d p t.0)) (nat_lt (PAGE_BYTES * room_of (known_of t.0 d.known)) (t.1 + length bytes)) refl refl refl
 
   length_by-fits : (u : ObjectName) (held : Bool) → FitsAnswer (Length u) (length_by d u held).answer
   length_by-fits u false = tt
@@ -277,8 +279,8 @@ module _ (d : DeskState) (p : ℕ) (is : IsDesk d) (proc : IsProc p) (idle : IsI
 
   -- a reply is one that the operation can have
   pub access_of-fits : (op : Op) → IsAccess op → IsOp op → FitsAnswer op (access_of d p op).answer
-  access_of-fits (Load spot count) access range = load_at-fits spot count range
-  access_of-fits (Store spot bytes) access range = store_at-fits spot bytes range
+  access_of-fits (Load spot count) access range = load_at-fits spot count range.1
+  access_of-fits (Store spot bytes) access range = store_at-fits spot bytes range.1
   access_of-fits (Length u) access range = length_by-fits u (is_held (state_of d p u))
   access_of-fits (Map u) access range = map_by-fits u (is_held (state_of d p u))
   access_of-fits (Unmap u) access range = unmap_by-fits u (is_some (mapping_of u (maps_of d p)))

@@ -6,13 +6,14 @@ use Rattle.std.proofs.lemmas.List.{reverse-append}
 use Rattle.std.proofs.lemmas.Bool.Decides.{nat_tests}
 use Rattle.page_cache.specs.Caches.{Resident, page_at, free_count}
 use Rattle.page_cache.specs.Victims.{is_clean_choice, is_dirty_choice, oldest, victim_of}
-use Rattle.page_cache.proofs.ListLemmas.{count_by-cons, count_by-push, count_by-none, find_passes}
+use Rattle.uid_names.proofs.Finds.{find-passes}
+use Rattle.uid_names.proofs.ListLemmas.{count_by-cons, count_by-push, count_by-none}
 use Rattle.page_cache.proofs.PageLemmas.{page_at-oldest}
 use Rattle.fault_handler.specs.declared.transits.Transit.{Transit}
 use Rattle.fault_handler.specs.ShownPages.{is_in_transit}
 use Rattle.fault_handler.specs.Transits.{inward_count, outward_count}
 use Rattle.fault_handler.specs.Desks.{DeskState, at, count_of, moving_of}
-use Rattle.fault_handler.specs.Kept.{IsProc, IsDesk}
+use Rattle.fault_handler.specs.Invariant.{IsProc, IsDesk}
 use Rattle.fault_handler.proofs.Fours.{by_proc}
 use Rattle.fault_handler.proofs.PageLists.{AreOnce}
 
@@ -32,8 +33,8 @@ victim-resident pages r once = by_clean pages r (page_at pages r.uid r.page ≡ 
 pub victim-still : (pages : List Resident) (r : Resident) → victim_of pages ≡ Some r → is_in_transit r ≡ false
 victim-still pages r =
     by_clean pages r (is_in_transit r ≡ false)
-    (λ found. let is : is_clean_choice r ≡ true = find_passes is_clean_choice (reverse pages) r found in grind (arith, nat_tests, is))
-    (λ found. let is : is_dirty_choice r ≡ true = find_passes is_dirty_choice (reverse pages) r found in grind (arith, nat_tests, is))
+    (λ found. let is : is_clean_choice r ≡ true = find-passes is_clean_choice (reverse pages) r found in grind (arith, nat_tests, is))
+    (λ found. let is : is_dirty_choice r ≡ true = find-passes is_dirty_choice (reverse pages) r found in grind (arith, nat_tests, is))
 
 -- as many pass in the other order
 count_by-reverse : (test : Resident → Bool) (pages : List Resident) → count_by test (reverse pages) ≡ count_by test pages

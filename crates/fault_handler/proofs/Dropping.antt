@@ -5,6 +5,7 @@ use Rattle.std.specs.Option.{option_map}
 use Rattle.std.proofs.lemmas.Bool.Decides.{nat_tests}
 use Rattle.uid_names.specs.Names.{ObjectName}
 use Rattle.uid_names.specs.Segments.{segments}
+use Rattle.uid_names.specs.declared.limits.TheConstants.{PAGE_BYTES}
 use Rattle.dom_history.specs.declared.op.Op.{Op}
 use Rattle.dom_history.specs.declared.op.Op.TheVariants.{New, Lock, Unlock, Delete, Load, Store, Length, Map, Unmap, List as ListOp}
 use Rattle.dom_history.specs.declared.op.Reply.{Reply}
@@ -13,8 +14,7 @@ use Rattle.dom_history.specs.Replies.{may_write}
 use Rattle.page_cache.specs.Caches.{Resident, is_page, page_at, free_count}
 use Rattle.page_cache.specs.Changes.{without_page, used}
 use Rattle.page_cache.specs.Victims.{victim_of}
-use Rattle.page_cache.proofs.ListLemmas.{by_cases}
-use Rattle.page_cache.proofs.CacheLemmas.{none_is_no_some}
+use Rattle.uid_names.proofs.ListLemmas.{by_cases, none_is_no_some}
 use Rattle.address_map.specs.declared.mapping.Mapping.{Mapping}
 use Rattle.address_map.specs.declared.map.MapRefusal.{MapRefusal}
 use Rattle.address_map.specs.declared.map.MapRefusal.TheVariants as refusals
@@ -30,7 +30,7 @@ use Rattle.fault_handler.specs.Tasks.{page_of, start_of}
 use Rattle.fault_handler.specs.Desks.{DeskState, maps_of, state_of, moving_of, others_fetch}
 use Rattle.fault_handler.specs.Changes.{with_maps}
 use Rattle.fault_handler.specs.Accesses.{Accessed, done, refused, performed, fetched, room_made, room_by, frame_by, missed_by, page_by, page_access, task_at, target_of, load_by, load_at, store_by, store_at, length_by, map_by_answer, map_by, unmap_by, access_of}
-use Rattle.fault_handler.specs.Kept.{IsProc, IsDesk}
+use Rattle.fault_handler.specs.Invariant.{IsProc, IsDesk}
 use Rattle.fault_handler.specs.Drops.{dropped_in, DropsOnly, MayDrop, WaitsFor}
 use Rattle.fault_handler.proofs.PageLists.{is_same, same-uid, same-page, page_at-used, page_at-without_same, page_at-without_other, page_at-changed_same, page_at-changed_other}
 use Rattle.fault_handler.proofs.Choice.{victim-resident, victim-still, victim-there}
@@ -161,7 +161,7 @@ module _ (d : DeskState) (p : ℕ) (is : IsDesk d) (proc : IsProc p) (none : mov
   store_at-careful : (bytes : List ℕ) (t : Option (ObjectName × ℕ)) → IsCareful d p (store_at d p bytes t)
   store_at-careful bytes None = same-careful d p Reply.NotMapped
   store_at-careful bytes (Some t) =
-      store_by-careful (task_at t.0 t.1 (works.Store bytes)) (is_held (state_of d p t.0)) (may_write (state_of d p t.0)) (nat_lt (1024 * room_of (known_of t.0 d.known)) (t.1 + length bytes))
+      store_by-careful (task_at t.0 t.1 (works.Store bytes)) (is_held (state_of d p t.0)) (may_write (state_of d p t.0)) (nat_lt (PAGE_BYTES * room_of (known_of t.0 d.known)) (t.1 + length bytes))
 
   length_by-careful : (u : ObjectName) (held : Bool) → IsCareful d p (length_by d u held)
   length_by-careful u false = same-careful d p Reply.NoLock

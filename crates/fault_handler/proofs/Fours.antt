@@ -4,41 +4,41 @@ use Rattle.std.proofs.lemmas.Bool.{cases_eq}
 use Rattle.std.proofs.lemmas.Bool.Decides.{nat_tests}
 use Rattle.std.proofs.lemmas.List.{get_or-set_same, get_or-set_other, length-set}
 use Rattle.std.specs.List.{list_any}
-use Rattle.page_cache.proofs.ListLemmas.{by_cases}
+use Rattle.uid_names.proofs.ListLemmas.{by_cases}
 use Rattle.fault_handler.specs.declared.transits.Transit.{Transit}
 use Rattle.fault_handler.specs.Desks.{procs, at, put_at, count_of}
-use Rattle.fault_handler.specs.Kept.{IsProc}
+use Rattle.fault_handler.specs.Invariant.{IsProc}
 
 -- a process of a node is one of four
 pub by_proc : (P : ℕ → Type 0) → P 1 → P 2 → P 3 → P 4 → (q : ℕ) → IsProc q → P q
-by_proc P a b c d zero is = absurd (let h : 1 ≤ 0 = is.least in omega arith)
+by_proc P a b c d zero is = absurd (let h : 1 ≤ 0 = is.0 in omega arith)
 by_proc P a b c d (suc zero) is = a
 by_proc P a b c d (suc (suc zero)) is = b
 by_proc P a b c d (suc (suc (suc zero))) is = c
 by_proc P a b c d (suc (suc (suc (suc zero)))) is = d
-by_proc P a b c d (suc (suc (suc (suc (suc n))))) is = absurd (let h : suc (suc (suc (suc (suc n)))) ≤ 4 = is.most in omega arith)
+by_proc P a b c d (suc (suc (suc (suc (suc n))))) is = absurd (let h : suc (suc (suc (suc (suc n)))) ≤ 4 = is.1 in omega arith)
 
 -- each of the four is one
 abbrev pub first : IsProc 1
-first = record { least = omega arith; most = omega arith }
+first = (omega arith, omega arith)
 
 abbrev pub second : IsProc 2
-second = record { least = omega arith; most = omega arith }
+second = (omega arith, omega arith)
 
 abbrev pub third : IsProc 3
-third = record { least = omega arith; most = omega arith }
+third = (omega arith, omega arith)
 
 abbrev pub fourth : IsProc 4
-fourth = record { least = omega arith; most = omega arith }
+fourth = (omega arith, omega arith)
 
 -- what was put there stands at the process
 pub at-put_same : {A : Type 0} (kept : List A) (p : ℕ) (new none : A) → length kept ≡ 4 → IsProc p → at (put_at kept p new) p none ≡ new
-at-put_same kept p new none four is = let a = is.least in let b = is.most in get_or-set_same kept (p - 1) new none (omega arith)
+at-put_same kept p new none four is = let a = is.0 in let b = is.1 in get_or-set_same kept (p - 1) new none (omega arith)
 
 -- and nothing else changes
 pub at-put_other : {A : Type 0} (kept : List A) (p q : ℕ) (new none : A) → IsProc p → IsProc q → q ≢ p → at (put_at kept p new) q none ≡ at kept q none
 at-put_other kept p q new none is other differs =
-    let a = is.least in let b = other.least in get_or-set_other kept (p - 1) (q - 1) new none (λ same. differs (omega arith))
+    let a = is.0 in let b = other.0 in get_or-set_other kept (p - 1) (q - 1) new none (λ same. differs (omega arith))
 
 -- there are as many as before
 pub length-put : {A : Type 0} (kept : List A) (p : ℕ) (new : A) → length kept ≡ 4 → length (put_at kept p new) ≡ 4

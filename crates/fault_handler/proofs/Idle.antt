@@ -5,14 +5,14 @@ use Rattle.std.specs.Bool.{OnTrue}
 use Rattle.std.proofs.lemmas.Bool.Decides.{nat_tests}
 use Rattle.uid_names.specs.Names.{ObjectName}
 use Rattle.dom_history.specs.Locks.{is_held}
-use Rattle.page_cache.proofs.ListLemmas.{by_cases}
-use Rattle.fault_handler.specs.declared.entries.Entry.{Entry}
+use Rattle.uid_names.proofs.ListLemmas.{by_cases}
+use Rattle.fault_handler.specs.declared.entries.LockEntry.{LockEntry}
 use Rattle.fault_handler.specs.Entries.{is_on, entry_of, state_in, keeps, keeps_all}
-use Rattle.fault_handler.specs.Desks.{DeskState, entries_of, call_of, moving_of}
+use Rattle.fault_handler.specs.Desks.{DeskState, entries_of, open_call_of, moving_of}
 use Rattle.fault_handler.specs.Conditions.{IsIdle, is_idle}
 
 -- a process keeps an object on which it is Held, where it keeps each
-keeps-each : (entries : List Entry) (u : ObjectName) → keeps_all entries ≡ true → is_held (state_in (entry_of u entries)) ≡ true → keeps (entry_of u entries) ≡ true
+keeps-each : (entries : List LockEntry) (u : ObjectName) → keeps_all entries ≡ true → is_held (state_in (entry_of u entries)) ≡ true → keeps (entry_of u entries) ≡ true
 keeps-each [] u all held = held
 keeps-each (e ∷ rest) u all held =
     by_cases
@@ -21,10 +21,10 @@ keeps-each (e ∷ rest) u all held =
     (λ is. let here : is_held e.state ≡ true = rw is at held in rw is (first e rest all here))
     (λ fails. rw fails (keeps-each rest u (others e rest all) (rw fails at held)))
   where
-    first : (x : Entry) (xs : List Entry) → keeps_all (x ∷ xs) ≡ true → is_held x.state ≡ true → (is_held x.state && not x.released) ≡ true
+    first : (x : LockEntry) (xs : List LockEntry) → keeps_all (x ∷ xs) ≡ true → is_held x.state ≡ true → (is_held x.state && not x.released) ≡ true
     first x xs every is = grind (arith, nat_tests, every, is)
 
-    others : (x : Entry) (xs : List Entry) → keeps_all (x ∷ xs) ≡ true → keeps_all xs ≡ true
+    others : (x : LockEntry) (xs : List LockEntry) → keeps_all (x ∷ xs) ≡ true → keeps_all xs ≡ true
     others x xs every = grind (arith, nat_tests, every)
 
 none-is : {X : Type 0} (o : Option X) → is_none o ≡ true → o ≡ None
@@ -33,7 +33,7 @@ none-is (Some x) is = absurd (cc)
 
 IsIdle-test : (d : DeskState) (p : ℕ) → is_idle d p ≡ true → IsIdle d p
 IsIdle-test d p is = record {
-  no_call = none-is (call_of d p) (grind (arith, nat_tests, is));
+  no_call = none-is (open_call_of d p) (grind (arith, nat_tests, is));
   no_page = none-is (moving_of d p) (grind (arith, nat_tests, is));
   keeping = λ u held. keeps-each (entries_of d p) u (grind (arith, nat_tests, is)) held;
 }

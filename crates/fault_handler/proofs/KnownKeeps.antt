@@ -3,19 +3,19 @@ use Rattle.std.proofs.Common.{◌≡◌, ℕ, ◌≤◌, Bool, true, false, List
 use Rattle.std.specs.Prelude.{◌==◌, if◌then◌else◌}
 use Rattle.std.proofs.lemmas.Bool.Decides.{nat_tests}
 use Rattle.uid_names.specs.Names.{ObjectName, same_uid}
-use Rattle.page_cache.proofs.ListLemmas.{by_cases}
-use Rattle.page_cache.proofs.SlotLemmas.{same_uid-true}
-use Rattle.page_cache.proofs.CacheLemmas.{none_is_no_some}
+use Rattle.uid_names.specs.declared.limits.TheConstants.{MAX_LENGTH}
+use Rattle.uid_names.proofs.ListLemmas.{by_cases, none_is_no_some}
+use Rattle.uid_names.proofs.Orders.{same_uid_is}
 use Rattle.version_stamps.specs.declared.stamps.Stamp.{Stamp}
 use Rattle.version_stamps.specs.Stamps.{stamp_of, with_stamp, without_stamp, raised}
 use Rattle.version_stamps.proofs.LookUps.{stamp_of-with_stamp, stamp_of-without_stamp}
-use Rattle.fault_handler.specs.declared.entries.Entry.{Entry}
+use Rattle.fault_handler.specs.declared.entries.LockEntry.{LockEntry}
 use Rattle.fault_handler.specs.declared.lengths.Known.{Known}
 use Rattle.fault_handler.specs.Lengths.{known_of, with_known, known_after, grown, sent_length}
 use Rattle.fault_handler.specs.Entries.{keeps}
 use Rattle.fault_handler.specs.Desks.{DeskState, entry_at, any_keeps}
 use Rattle.fault_handler.specs.Changes.{with_end, with_sent_length, with_known_row, with_seen, with_raised, with_forgotten}
-use Rattle.fault_handler.specs.Kept.{IsKnown, AreKnown, IsDesk}
+use Rattle.fault_handler.specs.Invariant.{IsKnown, AreKnown, IsDesk}
 use Rattle.fault_handler.proofs.Fours.{any-at}
 use Rattle.fault_handler.proofs.KnownRows.{known_of-with_known}
 
@@ -37,7 +37,7 @@ chosen : {A : Type 0} (P : Option A → Type 0) (b : Bool) (new : A) (o : Option
 chosen P true new o here there = here
 chosen P false new o here there = there
 
-module _ (seen : List Stamp) (known : List Known) (entries : List (List Entry)) (are : AreKnown seen known entries) where
+module _ (seen : List Stamp) (known : List Known) (entries : List (List LockEntry)) (are : AreKnown seen known entries) where
   -- a row was set
   pub AreKnown-row : (row : Known) → IsKnown row → AreKnown seen (with_known row known) entries
   AreKnown-row row is = record {
@@ -59,7 +59,7 @@ module _ (seen : List Stamp) (known : List Known) (entries : List (List Entry)) 
     stamps = λ v. subst (λ (o : Option ℕ). IfSome o (λ s. 1 ≤ s)) (sym (after v)) (chosen (λ (o : Option ℕ). IfSome o (λ s. 1 ≤ s)) (same_uid v u) stamp (stamp_of v seen) least (are.stamps v));
     kept = λ q proc v keeping. subst (λ (o : Option ℕ). IsSome o) (sym (after v)) (chosen (λ (o : Option ℕ). IsSome o) (same_uid v u) stamp (stamp_of v seen) refl (are.kept q proc v keeping));
     both = λ v. by_cases (same_uid v u) (IsSome (stamp_of v (with_stamp (record { uid = u; stamp = stamp }) seen)) → IsSome (known_of v known))
-        (λ same some. subst (λ (w : ObjectName). IsSome (known_of w known)) (sym (same_uid-true v u same)) row)
+        (λ same some. subst (λ (w : ObjectName). IsSome (known_of w known)) (sym (same_uid_is v u same)) row)
         (λ differ some. are.both v (rw differ at (subst (λ (o : Option ℕ). IsSome o) (after v) some)));
   }
     where
@@ -72,7 +72,7 @@ module _ (seen : List Stamp) (known : List Known) (entries : List (List Entry)) 
     rows = are.rows;
     stamps = λ v. by_cases (same_uid v u) (IfSome (stamp_of v (without_stamp u seen)) (λ s. 1 ≤ s)) (λ same. subst (λ (o : Option ℕ). IfSome o (λ s. 1 ≤ s)) (sym (gone v same)) tt) (λ differ. subst (λ (o : Option ℕ). IfSome o (λ s. 1 ≤ s)) (sym (left v differ)) (are.stamps v));
     kept = λ q proc v keeping. by_cases (same_uid v u) (IsSome (stamp_of v (without_stamp u seen)))
-        (λ same. absurd (let there : any_keeps entries u ≡ true = any-at (λ r. keeps (entry_at entries r u)) q proc (subst (λ (w : ObjectName). keeps (entry_at entries q w) ≡ true) (same_uid-true v u same) keeping) in cc))
+        (λ same. absurd (let there : any_keeps entries u ≡ true = any-at (λ r. keeps (entry_at entries r u)) q proc (subst (λ (w : ObjectName). keeps (entry_at entries q w) ≡ true) (same_uid_is v u same) keeping) in cc))
         (λ differ. subst (λ (o : Option ℕ). IsSome o) (sym (left v differ)) (are.kept q proc v keeping));
     both = λ v. by_cases (same_uid v u) (IsSome (stamp_of v (without_stamp u seen)) → IsSome (known_of v known))
         (λ same some. absurd (none_is_no_some (stamp_of v (without_stamp u seen)) some (gone v same)))
@@ -91,12 +91,12 @@ raised-least stamp None least = least
 raised-least stamp (Some s) least = omega arith
 
 -- a row is a row after a store and after its length was sent
-IsKnown-grown : (end : ℕ) → end ≤ 1048576 → (k : Known) → IsKnown k → IsKnown (grown end k)
+IsKnown-grown : (end : ℕ) → end ≤ MAX_LENGTH → (k : Known) → IsKnown k → IsKnown (grown end k)
 IsKnown-grown end within k is =
     by_cases
     (nat_lt k.length end)
     (IsKnown (grown end k))
-    (λ longer. rw longer (record { room_low = is.room_low; room_high = is.room_high; length = within }))
+    (λ longer. rw longer (record { room = is.room; length = within }))
     (λ h. rw h is)
 
 IsKnown-sent : (n : ℕ) (k : Known) → IsKnown k → IsKnown (sent_length n k)
@@ -104,11 +104,11 @@ IsKnown-sent n k is =
     by_cases
     (k.length == n)
     (IsKnown (sent_length n k))
-    (λ same. rw same (record { room_low = is.room_low; room_high = is.room_high; length = is.length }))
+    (λ same. rw same (record { room = is.room; length = is.length }))
     (λ h. rw h is)
 
 -- a store ended there
-pub IsDesk-with_end : (d : DeskState) (u : ObjectName) (end : ℕ) → IsDesk d → end ≤ 1048576 → IsDesk (with_end d u end)
+pub IsDesk-with_end : (d : DeskState) (u : ObjectName) (end : ℕ) → IsDesk d → end ≤ MAX_LENGTH → IsDesk (with_end d u end)
 IsDesk-with_end d u end is within =
     IsDesk-known d d.seen (known_after (grown end) (known_of u d.known) d.known) is
     (AreKnown-after d.seen d.known d.entries is.known (grown end) (IsKnown-grown end within) (known_of u d.known) (is.known.rows u))

@@ -10,11 +10,11 @@ use Rattle.dom_history.specs.declared.deed.LockState.{LockState}
 use Rattle.dom_history.specs.declared.deed.LockState.TheVariants.{Free, Held, Taking, Releasing, Deleting}
 use Rattle.dom_history.specs.Locks.{is_held, is_free}
 use Rattle.page_cache.specs.Caches.{Resident, page_at}
-use Rattle.page_cache.proofs.ListLemmas.{by_cases, find-push, find-none, find-map, find_passes, find-filter_leaves, count_by-filter_takes}
-use Rattle.page_cache.proofs.SlotLemmas.{same_uid-true}
-use Rattle.page_cache.proofs.CacheLemmas.{none_is_no_some}
+use Rattle.uid_names.proofs.Finds.{find-passes}
+use Rattle.uid_names.proofs.ListLemmas.{by_cases, find-push, find-count_none, find-map, find-filter_leaves, count_by-filter_takes, none_is_no_some}
+use Rattle.uid_names.proofs.Orders.{same_uid_is}
 use Rattle.version_stamps.specs.Stamps.{stamp_of}
-use Rattle.fault_handler.specs.declared.entries.Entry.{Entry}
+use Rattle.fault_handler.specs.declared.entries.LockEntry.{LockEntry}
 use Rattle.fault_handler.specs.declared.transits.Transit.{Transit}
 use Rattle.fault_handler.specs.declared.tasks.Work.{Work}
 use Rattle.fault_handler.specs.declared.tasks.Work.TheVariants.{Load, Store}
@@ -26,9 +26,9 @@ use Rattle.address_map.specs.Maps.{IsLayout}
 use Rattle.address_map.proofs.Keeps.{IsLayout-none}
 use Rattle.fault_handler.specs.Transits.{is_moving}
 use Rattle.fault_handler.specs.Conditions.{IsNotAccessing, IsOther, empty_desk}
-use Rattle.fault_handler.specs.Desks.{DeskState, procs, at, put_at, entry_at, any_keeps, any_writes, others_write, entries_of, call_of, task_of, moving_of}
+use Rattle.fault_handler.specs.Desks.{DeskState, procs, at, put_at, entry_at, any_keeps, any_writes, others_write, entries_of, open_call_of, task_of, moving_of}
 use Rattle.fault_handler.specs.Changes.{with_state, with_note, with_call, with_maps}
-use Rattle.fault_handler.specs.Kept.{IsProc, IsShownPage, is_dirty, FitsWay, FitsTransit, is_access, MayWork, IsAllowed, KeepsAll, FitsOpen, IsEntry, AreEntries, IsDesk}
+use Rattle.fault_handler.specs.Invariant.{IsProc, IsShownPage, is_dirty, FitsWay, FitsTransit, is_access, MayWork, IsAllowed, KeepsAll, FitsOpen, IsLockEntry, AreEntries, IsDesk}
 use Rattle.fault_handler.proofs.Fours.{at-put_same, at-put_other, by_proc, length-put, each-put, any-at, any-of, any-more}
 use Rattle.fault_handler.proofs.PageLists.{found-uid}
 use Rattle.fault_handler.proofs.Moves.{FitsOpen-task, not_access}
@@ -39,33 +39,33 @@ own : (u : ObjectName) → same_uid u u ≡ true
 own u = grind (arith, nat_tests)
 
 -- what is on another object is not on this one
-on_other : (u v : ObjectName) (e : Entry) → same_uid v u ≡ false → is_on v e ≡ true → is_on u e ≡ false
+on_other : (u v : ObjectName) (e : LockEntry) → same_uid v u ≡ false → is_on v e ≡ true → is_on u e ≡ false
 on_other u v e differ is = grind (arith, nat_tests, differ, is)
 
 -- the entry of the object is gone
-pub entry_of-without_same : (u : ObjectName) (entries : List Entry) → entry_of u (entries_without u entries) ≡ None
-entry_of-without_same u entries = find-none (is_on u) (entries_without u entries) (count_by-filter_takes (is_on u) (λ e. not (is_on u e)) (λ e is. ap not is) entries)
+pub entry_of-without_same : (u : ObjectName) (entries : List LockEntry) → entry_of u (entries_without u entries) ≡ None
+entry_of-without_same u entries = find-count_none (is_on u) (entries_without u entries) (count_by-filter_takes (is_on u) (λ e. not (is_on u e)) (λ e is. ap not is) entries)
 
 -- the others stay
-pub entry_of-without_other : (u v : ObjectName) (entries : List Entry) → same_uid v u ≡ false → entry_of v (entries_without u entries) ≡ entry_of v entries
+pub entry_of-without_other : (u v : ObjectName) (entries : List LockEntry) → same_uid v u ≡ false → entry_of v (entries_without u entries) ≡ entry_of v entries
 entry_of-without_other u v entries differ = find-filter_leaves (is_on v) (λ e. not (is_on u e)) (λ e is. ap not (on_other u v e differ is)) entries
 
 -- the new entry is the object's
-pub entry_of-with_same : (e : Entry) (entries : List Entry) → entry_of e.uid (entries_with e entries) ≡ Some e
+pub entry_of-with_same : (e : LockEntry) (entries : List LockEntry) → entry_of e.uid (entries_with e entries) ≡ Some e
 entry_of-with_same e entries = find-push (is_on e.uid) (entries_without e.uid entries) e ∙ rw (entry_of-without_same e.uid entries, own e.uid) refl
 
-pub entry_of-with_other : (e : Entry) (v : ObjectName) (entries : List Entry) → same_uid v e.uid ≡ false → entry_of v (entries_with e entries) ≡ entry_of v entries
+pub entry_of-with_other : (e : LockEntry) (v : ObjectName) (entries : List LockEntry) → same_uid v e.uid ≡ false → entry_of v (entries_with e entries) ≡ entry_of v entries
 entry_of-with_other e v entries differ = find-push (is_on v) (entries_without e.uid entries) e ∙ rw (differ, entry_of-without_other e.uid v entries differ) (option_or-none (entry_of v entries))
   where
-    option_or-none : (o : Option Entry) → option_or o None ≡ o
+    option_or-none : (o : Option LockEntry) → option_or o None ≡ o
     option_or-none None = refl
     option_or-none (Some x) = refl
 
 -- the entry after a state was set
-abbrev pub entry_after : ObjectName → LockState → ℕ → Option Entry
+abbrev pub entry_after : ObjectName → LockState → ℕ → Option LockEntry
 entry_after u s grant = if is_free s then None else Some (record { uid = u; state = s; grant = grant; released = false })
 
-pub entry_of-after_same : (u : ObjectName) (s : LockState) (grant : ℕ) (entries : List Entry) → entry_of u (entries_after u s grant entries) ≡ entry_after u s grant
+pub entry_of-after_same : (u : ObjectName) (s : LockState) (grant : ℕ) (entries : List LockEntry) → entry_of u (entries_after u s grant entries) ≡ entry_after u s grant
 entry_of-after_same u s grant entries =
     by_cases
     (is_free s)
@@ -73,7 +73,7 @@ entry_of-after_same u s grant entries =
     (λ free. rw free (entry_of-without_same u entries))
     (λ other. rw other (entry_of-with_same (record { uid = u; state = s; grant = grant; released = false }) entries))
 
-pub entry_of-after_other : (u : ObjectName) (s : LockState) (grant : ℕ) (v : ObjectName) (entries : List Entry) → same_uid v u ≡ false → entry_of v (entries_after u s grant entries) ≡ entry_of v entries
+pub entry_of-after_other : (u : ObjectName) (s : LockState) (grant : ℕ) (v : ObjectName) (entries : List LockEntry) → same_uid v u ≡ false → entry_of v (entries_after u s grant entries) ≡ entry_of v entries
 entry_of-after_other u s grant v entries differ =
     by_cases
     (is_free s)
@@ -82,42 +82,42 @@ entry_of-after_other u s grant v entries differ =
     (λ other. rw other (entry_of-with_other (record { uid = u; state = s; grant = grant; released = false }) v entries differ))
 
 -- what a note changes
-abbrev noting : ObjectName → Entry → Entry
+abbrev noting : ObjectName → LockEntry → LockEntry
 noting u e = noted_if (is_on u e) e
 
-is_on-noting : (u v : ObjectName) (e : Entry) → is_on v (noting u e) ≡ is_on v e
+is_on-noting : (u v : ObjectName) (e : LockEntry) → is_on v (noting u e) ≡ is_on v e
 is_on-noting u v e = by_cases (is_on u e) (is_on v (noting u e) ≡ is_on v e) (λ is. rw is refl) (λ is. rw is refl)
 
-entry_of-noted : (u v : ObjectName) (entries : List Entry) → entry_of v (entries_noted u entries) ≡ option_map (noting u) (entry_of v entries)
+entry_of-noted : (u v : ObjectName) (entries : List LockEntry) → entry_of v (entries_noted u entries) ≡ option_map (noting u) (entry_of v entries)
 entry_of-noted u v entries = find-map (noting u) (is_on v) entries ∙ ap (λ t. option_map (noting u) (find t entries)) (λ i e. is_on-noting u v e i)
 
-pub entry_of-noted_same : (u : ObjectName) (entries : List Entry) → entry_of u (entries_noted u entries) ≡ option_map (noted_if true) (entry_of u entries)
+pub entry_of-noted_same : (u : ObjectName) (entries : List LockEntry) → entry_of u (entries_noted u entries) ≡ option_map (noted_if true) (entry_of u entries)
 entry_of-noted_same u entries = entry_of-noted u u entries ∙ by_found (entry_of u entries) refl
   where
-    by_found : (o : Option Entry) → entry_of u entries ≡ o → option_map (noting u) o ≡ option_map (noted_if true) o
+    by_found : (o : Option LockEntry) → entry_of u entries ≡ o → option_map (noting u) o ≡ option_map (noted_if true) o
     by_found None found = refl
-    by_found (Some e) found = let here : is_on u e ≡ true = find_passes (is_on u) entries e found in rw here refl
+    by_found (Some e) found = let here : is_on u e ≡ true = find-passes (is_on u) entries e found in rw here refl
 
-pub entry_of-noted_other : (u v : ObjectName) (entries : List Entry) → same_uid v u ≡ false → entry_of v (entries_noted u entries) ≡ entry_of v entries
+pub entry_of-noted_other : (u v : ObjectName) (entries : List LockEntry) → same_uid v u ≡ false → entry_of v (entries_noted u entries) ≡ entry_of v entries
 entry_of-noted_other u v entries differ = entry_of-noted u v entries ∙ by_found (entry_of v entries) refl
   where
-    by_found : (o : Option Entry) → entry_of v entries ≡ o → option_map (noting u) o ≡ o
+    by_found : (o : Option LockEntry) → entry_of v entries ≡ o → option_map (noting u) o ≡ o
     by_found None found = refl
-    by_found (Some e) found = let away : is_on u e ≡ false = on_other u v e differ (find_passes (is_on v) entries e found) in rw away refl
+    by_found (Some e) found = let away : is_on u e ≡ false = on_other u v e differ (find-passes (is_on v) entries e found) in rw away refl
 
 -- where a process keeps an object its entry stays
-abbrev pub Stays : List (List Entry) → List (List Entry) → ℕ → Type 0
+abbrev pub Stays : List (List LockEntry) → List (List LockEntry) → ℕ → Type 0
 Stays old new q = (v : ObjectName) → keeps (entry_at old q v) ≡ true → entry_at new q v ≡ entry_at old q v
 
 -- some process keeps an object where one kept it
-pub any_keeps-stays : (old new : List (List Entry)) → ((q : ℕ) → IsProc q → Stays old new q) → (v : ObjectName) → any_keeps old v ≡ true → any_keeps new v ≡ true
+pub any_keeps-stays : (old new : List (List LockEntry)) → ((q : ℕ) → IsProc q → Stays old new q) → (v : ObjectName) → any_keeps old v ≡ true → any_keeps new v ≡ true
 any_keeps-stays old new stays v = any-more (λ q. keeps (entry_at old q v)) (λ q. keeps (entry_at new q v)) (λ q proc is. ap keeps (stays q proc v is) ∙ is)
 
-pub any_writes-stays : (old new : List (List Entry)) → ((q : ℕ) → IsProc q → Stays old new q) → (v : ObjectName) → any_writes old v ≡ true → any_writes new v ≡ true
+pub any_writes-stays : (old new : List (List LockEntry)) → ((q : ℕ) → IsProc q → Stays old new q) → (v : ObjectName) → any_writes old v ≡ true → any_writes new v ≡ true
 any_writes-stays old new stays v =
     any-more (λ q. keeps_writing (entry_at old q v)) (λ q. keeps_writing (entry_at new q v)) (λ q proc is. ap keeps_writing (stays q proc v (keeps_writing-keeps (entry_at old q v) is)) ∙ is)
 
-module _ (old new : List (List Entry)) (q : ℕ) (stays : Stays old new q) where
+module _ (old new : List (List LockEntry)) (q : ℕ) (stays : Stays old new q) where
   MayWork-stays : (work : Work) (v : ObjectName) → keeps (entry_at old q v) ≡ true → MayWork work (entry_at old q v) → MayWork work (entry_at new q v)
   MayWork-stays (Load n) v kept may = tt
   MayWork-stays (Store bytes) v kept may = ap keeps_writing (stays v kept) ∙ may
@@ -138,19 +138,19 @@ module _ (old new : List (List Entry)) (q : ℕ) (stays : Stays old new q) where
   FitsOpen-stays pages false (Some task) t keeping fits = fits
 
 -- where none is open, entries speak of the page that the process moves alone
-FitsOpen-closed : (pages : List Resident) (old new : List (List Entry)) (q : ℕ) (access : Bool) (task : Option Task) (t : Option Transit) → access ≡ false → (IsSome t → Stays old new q)
+FitsOpen-closed : (pages : List Resident) (old new : List (List LockEntry)) (q : ℕ) (access : Bool) (task : Option Task) (t : Option Transit) → access ≡ false → (IsSome t → Stays old new q)
     → FitsOpen pages old q access task t → FitsOpen pages new q access task t
 FitsOpen-closed pages old new q true task t closed stays fits = absurd (cc)
 FitsOpen-closed pages old new q false None None closed stays fits = fits
 FitsOpen-closed pages old new q false None (Some t) closed stays fits = (fits.0, ap keeps (stays refl t.uid fits.1) ∙ fits.1)
 FitsOpen-closed pages old new q false (Some task) t closed stays fits = fits
 
-module _ (d : DeskState) (new : List (List Entry)) (is : IsDesk d) where
+module _ (d : DeskState) (new : List (List LockEntry)) (is : IsDesk d) where
   -- other entries: an object whose page is dirty has a writer still, and what a process that moves a page keeps stays
   module _ (four : length new ≡ 4) (entries : AreEntries new)
       (writes : (v : ObjectName) (k : ℕ) → is_dirty (page_at d.cache.pages v k) ≡ true → any_writes d.entries v ≡ true → any_writes new v ≡ true)
       (stays : (q : ℕ) → IsProc q → IsSome (moving_of d q) → Stays d.entries new q)
-      (keeping : (q : ℕ) → IsProc q → is_access (call_of d q) ≡ true → KeepsAll d.entries q → KeepsAll new q)
+      (keeping : (q : ℕ) → IsProc q → is_access (open_call_of d q) ≡ true → KeepsAll d.entries q → KeepsAll new q)
       (stamped : (q : ℕ) → IsProc q → (v : ObjectName) → keeps (entry_at new q v) ≡ true → IsSome (stamp_of v d.seen)) where
     shown : (v : ObjectName) (k : ℕ) (o : Option Resident) → page_at d.cache.pages v k ≡ o → IfSome o (IsShownPage d.entries) → IfSome o (IsShownPage new)
     shown v k None found was = tt
@@ -178,18 +178,18 @@ module _ (d : DeskState) (new : List (List Entry)) (is : IsDesk d) where
 
         by_way : (b : Bool) → t.inward ≡ b → FitsWay b d.cache.pages d.entries q t.uid t.page → FitsWay b d.cache.pages new q t.uid t.page
         by_way true way f = (f.0, ap keeps (stays q proc some t.uid f.1) ∙ f.1)
-        by_way false way f = (f.0, goes_by (is_access (call_of d q)) (task_of d q) way (subst (FitsOpen d.cache.pages d.entries q (is_access (call_of d q)) (task_of d q)) moves (is.calls q proc)))
+        by_way false way f = (f.0, goes_by (is_access (open_call_of d q)) (task_of d q) way (subst (FitsOpen d.cache.pages d.entries q (is_access (open_call_of d q)) (task_of d q)) moves (is.calls q proc)))
 
-    opened : (q : ℕ) → IsProc q → FitsOpen d.cache.pages new q (is_access (call_of d q)) (task_of d q) (moving_of d q)
+    opened : (q : ℕ) → IsProc q → FitsOpen d.cache.pages new q (is_access (open_call_of d q)) (task_of d q) (moving_of d q)
     opened q proc =
         by_cases
-        (is_access (call_of d q))
-        (FitsOpen d.cache.pages new q (is_access (call_of d q)) (task_of d q) (moving_of d q))
-        (λ access. FitsOpen-stays d.entries new q (stays q proc (moves-some access)) d.cache.pages (is_access (call_of d q)) (task_of d q) (moving_of d q) (keeping q proc access) (is.calls q proc))
-        (λ closed. FitsOpen-closed d.cache.pages d.entries new q (is_access (call_of d q)) (task_of d q) (moving_of d q) closed (stays q proc) (is.calls q proc))
+        (is_access (open_call_of d q))
+        (FitsOpen d.cache.pages new q (is_access (open_call_of d q)) (task_of d q) (moving_of d q))
+        (λ access. FitsOpen-stays d.entries new q (stays q proc (moves-some access)) d.cache.pages (is_access (open_call_of d q)) (task_of d q) (moving_of d q) (keeping q proc access) (is.calls q proc))
+        (λ closed. FitsOpen-closed d.cache.pages d.entries new q (is_access (open_call_of d q)) (task_of d q) (moving_of d q) closed (stays q proc) (is.calls q proc))
       where
-        moves-some : is_access (call_of d q) ≡ true → IsSome (moving_of d q)
-        moves-some access = let found = FitsOpen-task d.cache.pages d.entries q (is_access (call_of d q)) (task_of d q) (moving_of d q) access (is.calls q proc) in rw found.3 refl
+        moves-some : is_access (open_call_of d q) ≡ true → IsSome (moving_of d q)
+        moves-some access = let found = FitsOpen-task d.cache.pages d.entries q (is_access (open_call_of d q)) (task_of d q) (moving_of d q) access (is.calls q proc) in rw found.3 refl
 
     pub IsDesk-entries : IsDesk (record d { entries = new })
     IsDesk-entries = record {
@@ -204,14 +204,14 @@ module _ (d : DeskState) (new : List (List Entry)) (is : IsDesk d) where
     }
 
 -- a process's new entries, as all see them
-entry_at-put_same : (entries : List (List Entry)) (p : ℕ) (new : List Entry) (v : ObjectName) → length entries ≡ 4 → IsProc p → entry_at (put_at entries p new) p v ≡ entry_of v new
+entry_at-put_same : (entries : List (List LockEntry)) (p : ℕ) (new : List LockEntry) (v : ObjectName) → length entries ≡ 4 → IsProc p → entry_at (put_at entries p new) p v ≡ entry_of v new
 entry_at-put_same entries p new v four proc = ap (entry_of v) (at-put_same entries p new [] four proc)
 
-entry_at-put_other : (entries : List (List Entry)) (p q : ℕ) (new : List Entry) (v : ObjectName) → IsProc p → IsProc q → q ≢ p → entry_at (put_at entries p new) q v ≡ entry_at entries q v
+entry_at-put_other : (entries : List (List LockEntry)) (p q : ℕ) (new : List LockEntry) (v : ObjectName) → IsProc p → IsProc q → q ≢ p → entry_at (put_at entries p new) q v ≡ entry_at entries q v
 entry_at-put_other entries p q new v proc other differs = ap (entry_of v) (at-put_other entries p q new [] proc other differs)
 
 -- what holds of the entry of an object after a process's entries changed: of the changed one, of the process's others, and of those of others
-by_entry : (P : ℕ → ObjectName → Option Entry → Type 0) (entries : List (List Entry)) (p : ℕ) (new : List Entry) (u : ObjectName) → length entries ≡ 4 → IsProc p → P p u (entry_of u new)
+by_entry : (P : ℕ → ObjectName → Option LockEntry → Type 0) (entries : List (List LockEntry)) (p : ℕ) (new : List LockEntry) (u : ObjectName) → length entries ≡ 4 → IsProc p → P p u (entry_of u new)
     → ((v : ObjectName) → same_uid v u ≡ false → P p v (entry_of v new))
     → ((q : ℕ) → IsProc q → q ≢ p → (v : ObjectName) → P q v (entry_at entries q v))
     → (q : ℕ) → IsProc q → (v : ObjectName) → P q v (entry_at (put_at entries p new) q v)
@@ -219,28 +219,28 @@ by_entry P entries p new u four proc here others elsewhere q proc_q v = elim (ca
   | inl same ↦
       subst (λ (r : ℕ). P r v (entry_at (put_at entries p new) r v)) (sym same)
       (subst (P p v) (sym (entry_at-put_same entries p new v four proc))
-      (by_cases (same_uid v u) (P p v (entry_of v new)) (λ is. subst (λ (w : ObjectName). P p w (entry_of w new)) (sym (same_uid-true v u is)) here) (others v)))
+      (by_cases (same_uid v u) (P p v (entry_of v new)) (λ is. subst (λ (w : ObjectName). P p w (entry_of w new)) (sym (same_uid_is v u is)) here) (others v)))
   | inr differs ↦ subst (P q v) (sym (entry_at-put_other entries p q new v proc proc_q differs)) (elsewhere q proc_q differs v)
 ]
 
 -- a state was set
 module _ (d : DeskState) (p : ℕ) (u : ObjectName) (s : LockState) (grant : ℕ) (is : IsDesk d) (proc : IsProc p)
     (given_up : keeps (entry_at d.entries p u) ≡ false) (seen : is_held s ≡ true → IsSome (stamp_of u d.seen)) (least : is_held s ≡ true → 1 ≤ grant) where
-  abbrev new : List Entry
+  abbrev new : List LockEntry
   new = entries_after u s grant (entries_of d p)
 
   -- what holds of each entry afterwards
-  by_new : (P : ℕ → ObjectName → Option Entry → Type 0) → P p u (entry_after u s grant) → ((q : ℕ) → IsProc q → (v : ObjectName) → P q v (entry_at d.entries q v)) → (q : ℕ) → IsProc q → (v : ObjectName) → P q v (entry_at (put_at d.entries p new) q v)
+  by_new : (P : ℕ → ObjectName → Option LockEntry → Type 0) → P p u (entry_after u s grant) → ((q : ℕ) → IsProc q → (v : ObjectName) → P q v (entry_at d.entries q v)) → (q : ℕ) → IsProc q → (v : ObjectName) → P q v (entry_at (put_at d.entries p new) q v)
   by_new P here before =
       by_entry P d.entries p new u is.four.entries proc
       (subst (P p u) (sym (entry_of-after_same u s grant (entries_of d p))) here)
       (λ v differ. subst (P p v) (sym (entry_of-after_other u s grant v (entries_of d p) differ)) (before p proc v))
       (λ q proc_q differs v. before q proc_q v)
 
-  IsEntry-after : IfSome (entry_after u s grant) IsEntry
-  IsEntry-after = by_state s refl
+  IsLockEntry-after : IfSome (entry_after u s grant) IsLockEntry
+  IsLockEntry-after = by_state s refl
     where
-      by_state : (t : LockState) → s ≡ t → IfSome (entry_after u t grant) IsEntry
+      by_state : (t : LockState) → s ≡ t → IfSome (entry_after u t grant) IsLockEntry
       by_state Free same = tt
       by_state (Held m) same = least (ap is_held same)
       by_state (Taking m) same = tt
@@ -266,18 +266,18 @@ module _ (d : DeskState) (p : ℕ) (u : ObjectName) (s : LockState) (grant : ℕ
   pub IsDesk-with_state : IsDesk (with_state d p u s grant)
   IsDesk-with_state =
       IsDesk-entries d (put_at d.entries p new) is (length-put d.entries p new is.four.entries)
-      (by_new (λ q v o. IfSome o IsEntry) IsEntry-after is.entries)
+      (by_new (λ q v o. IfSome o IsLockEntry) IsLockEntry-after is.entries)
       (λ v k dirty. any_writes-stays d.entries (put_at d.entries p new) stays-after v)
       (λ q proc_q some. stays-after q proc_q)
       (λ q proc_q access all v. by_new (λ r w o. KeepsAll d.entries r → is_held (state_in o) ≡ true → keeps o ≡ true) (λ every. keeps-after.1) (λ r proc_r w every. every w) q proc_q v all)
       (by_new (λ q v o. keeps o ≡ true → IsSome (stamp_of v d.seen)) (λ is_kept. seen (keeps-after.0 is_kept)) (λ q proc_q v. is.known.kept q proc_q v))
 
 -- a noted entry is an entry, and is not kept
-IsEntry-noted : (o : Option Entry) → IfSome o IsEntry → IfSome (option_map (noted_if true) o) IsEntry
-IsEntry-noted None is = tt
-IsEntry-noted (Some e) is = is
+IsLockEntry-noted : (o : Option LockEntry) → IfSome o IsLockEntry → IfSome (option_map (noted_if true) o) IsLockEntry
+IsLockEntry-noted None is = tt
+IsLockEntry-noted (Some e) is = is
 
-keeps-noted : (o : Option Entry) → keeps (option_map (noted_if true) o) ≡ true → ⊥
+keeps-noted : (o : Option LockEntry) → keeps (option_map (noted_if true) o) ≡ true → ⊥
 keeps-noted None is = cc
 keeps-noted (Some e) is = grind (arith, nat_tests, is)
 
@@ -285,11 +285,11 @@ keeps-noted (Some e) is = grind (arith, nat_tests, is)
 module _ (d : DeskState) (p : ℕ) (u : ObjectName) (is : IsDesk d) (proc : IsProc p) (other : IsNotAccessing d p)
     (dirty : (k : ℕ) → is_dirty (page_at d.cache.pages u k) ≡ true → others_write d.entries p u ≡ true)
     (still : moving_of d p ≡ None) where
-  abbrev noted : List (List Entry)
+  abbrev noted : List (List LockEntry)
   noted = put_at d.entries p (entries_noted u (entries_of d p))
 
   -- what holds of each entry afterwards
-  by_noted : (P : ℕ → ObjectName → Option Entry → Type 0) → P p u (option_map (noted_if true) (entry_at d.entries p u)) → ((q : ℕ) → IsProc q → (v : ObjectName) → P q v (entry_at d.entries q v)) → (q : ℕ) → IsProc q → (v : ObjectName) → P q v (entry_at noted q v)
+  by_noted : (P : ℕ → ObjectName → Option LockEntry → Type 0) → P p u (option_map (noted_if true) (entry_at d.entries p u)) → ((q : ℕ) → IsProc q → (v : ObjectName) → P q v (entry_at d.entries q v)) → (q : ℕ) → IsProc q → (v : ObjectName) → P q v (entry_at noted q v)
   by_noted P here before =
       by_entry P d.entries p (entries_noted u (entries_of d p)) u is.four.entries proc
       (subst (P p u) (sym (entry_of-noted_same u (entries_of d p))) here)
@@ -309,7 +309,7 @@ module _ (d : DeskState) (p : ℕ) (u : ObjectName) (is : IsDesk d) (proc : IsPr
   ]
 
   -- a test that another process passes, and one on another object
-  passes-noted : (test : Option Entry → Bool) (v : ObjectName) → (same_uid v u ≡ true → list_any (λ q. not (q == p) && test (entry_at d.entries q u)) procs ≡ true)
+  passes-noted : (test : Option LockEntry → Bool) (v : ObjectName) → (same_uid v u ≡ true → list_any (λ q. not (q == p) && test (entry_at d.entries q u)) procs ≡ true)
       → list_any (λ q. test (entry_at d.entries q v)) procs ≡ true → list_any (λ q. test (entry_at noted q v)) procs ≡ true
   passes-noted test v beside passes =
       by_cases
@@ -318,7 +318,7 @@ module _ (d : DeskState) (p : ℕ) (u : ObjectName) (is : IsDesk d) (proc : IsPr
       (λ same.
       let found = any-of (λ q. not (q == p) && test (entry_at d.entries q u)) (beside same) in
       let at_v : test (entry_at noted found.0 u) ≡ true = ap test (noted-elsewhere found.0 found.1 (apart-left found.0 (test (entry_at d.entries found.0 u)) found.2) u) ∙ apart-right found.0 (test (entry_at d.entries found.0 u)) found.2 in
-      any-at (λ q. test (entry_at noted q v)) found.0 found.1 (subst (λ (w : ObjectName). test (entry_at noted found.0 w) ≡ true) (sym (same_uid-true v u same)) at_v))
+      any-at (λ q. test (entry_at noted q v)) found.0 found.1 (subst (λ (w : ObjectName). test (entry_at noted found.0 w) ≡ true) (sym (same_uid_is v u same)) at_v))
       (λ differ. any-more (λ q. test (entry_at d.entries q v)) (λ q. test (entry_at noted q v)) (λ q proc_q h. ap test (noted-others v differ q proc_q) ∙ h) passes)
     where
       apart-left : (q : ℕ) (b : Bool) → (not (q == p) && b) ≡ true → q ≢ p
@@ -331,16 +331,16 @@ module _ (d : DeskState) (p : ℕ) (u : ObjectName) (is : IsDesk d) (proc : IsPr
   mover : (q : ℕ) → IsSome (moving_of d q) → q ≢ p
   mover q some same = let h : IsSome (moving_of d p) = subst (λ (r : ℕ). IsSome (moving_of d r)) same some in none_is_no_some (moving_of d p) h still
 
-  another : (q : ℕ) → is_access (call_of d q) ≡ true → q ≢ p
-  another q access same = let closed = not_access (call_of d p) other in let e : is_access (call_of d p) ≡ true = subst (λ (r : ℕ). is_access (call_of d r) ≡ true) same access in cc
+  another : (q : ℕ) → is_access (open_call_of d q) ≡ true → q ≢ p
+  another q access same = let closed = not_access (open_call_of d p) other in let e : is_access (open_call_of d p) ≡ true = subst (λ (r : ℕ). is_access (open_call_of d r) ≡ true) same access in cc
 
   pub IsDesk-with_note : IsDesk (with_note d p u)
   IsDesk-with_note =
       IsDesk-entries d noted is (length-put d.entries p (entries_noted u (entries_of d p)) is.four.entries)
-      (by_noted (λ q v o. IfSome o IsEntry) (IsEntry-noted (entry_at d.entries p u) (is.entries p proc u)) is.entries)
-      (λ v k h. passes-noted keeps_writing v (λ same. dirty k (subst (λ (w : ObjectName). is_dirty (page_at d.cache.pages w k) ≡ true) (same_uid-true v u same) h)))
+      (by_noted (λ q v o. IfSome o IsLockEntry) (IsLockEntry-noted (entry_at d.entries p u) (is.entries p proc u)) is.entries)
+      (λ v k h. passes-noted keeps_writing v (λ same. dirty k (subst (λ (w : ObjectName). is_dirty (page_at d.cache.pages w k) ≡ true) (same_uid_is v u same) h)))
       (λ q proc_q some v is_kept. noted-elsewhere q proc_q (mover q some) v)
-      (λ q proc_q access all v. subst (λ (o : Option Entry). is_held (state_in o) ≡ true → keeps o ≡ true) (sym (noted-elsewhere q proc_q (another q access) v)) (all v))
+      (λ q proc_q access all v. subst (λ (o : Option LockEntry). is_held (state_in o) ≡ true → keeps o ≡ true) (sym (noted-elsewhere q proc_q (another q access) v)) (all v))
       (by_noted (λ q v o. keeps o ≡ true → IsSome (stamp_of v d.seen)) (λ h. absurd (keeps-noted (entry_at d.entries p u) h)) (λ q proc_q v. is.known.kept q proc_q v))
 
 -- an open call was set that neither is nor was that of a load or store
@@ -352,7 +352,7 @@ IsDesk-with_call d p call is proc other new_other = record {
   pages = is.pages;
   moved = is.moved;
   calls = each-put (λ q c. FitsOpen d.cache.pages d.entries q (is_access c) (task_of d q) (moving_of d q)) d.calls p call None is.four.calls proc
-      (subst (λ (b : Bool). FitsOpen d.cache.pages d.entries p b (task_of d p) (moving_of d p)) (not_access (call_of d p) other ∙ sym (not_access call new_other)) (is.calls p proc))
+      (subst (λ (b : Bool). FitsOpen d.cache.pages d.entries p b (task_of d p) (moving_of d p)) (not_access (open_call_of d p) other ∙ sym (not_access call new_other)) (is.calls p proc))
       (λ q proc_q differs. is.calls q proc_q);
   entries = is.entries;
   known = is.known;
@@ -385,7 +385,7 @@ IsDesk-empty_desk node nodes frames least = record {
     apart = λ q r one two u k own_q moves. absurd (nothing q one u k own_q);
   };
   calls = by_proc (λ q. FitsOpen [] (empty_desk node nodes frames).entries q (is_access (at (empty_desk node nodes frames).calls q None)) (at (empty_desk node nodes frames).tasks q None) (at (empty_desk node nodes frames).moving q None)) tt tt tt tt;
-  entries = λ q proc u. by_proc (λ r. IfSome (entry_at (empty_desk node nodes frames).entries r u) IsEntry) tt tt tt tt q proc;
+  entries = λ q proc u. by_proc (λ r. IfSome (entry_at (empty_desk node nodes frames).entries r u) IsLockEntry) tt tt tt tt q proc;
   known = record {
     rows = λ u. tt;
     stamps = λ u. tt;

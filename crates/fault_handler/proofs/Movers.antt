@@ -7,12 +7,12 @@ use Rattle.std.proofs.lemmas.Bool.Decides.{nat_tests}
 use Rattle.uid_names.specs.Names.{ObjectName}
 use Rattle.page_cache.specs.Caches.{Resident, is_page, page_at}
 use Rattle.page_cache.specs.Changes.{without_page}
-use Rattle.page_cache.proofs.ListLemmas.{by_cases, count_by-filter_found, count_by-found_by}
+use Rattle.uid_names.proofs.ListLemmas.{by_cases, count_by-filter_found, count_by-found_by}
 use Rattle.fault_handler.specs.declared.transits.Transit.{Transit}
 use Rattle.fault_handler.specs.ShownPages.{is_in_transit}
 use Rattle.fault_handler.specs.Transits.{is_moving, outward_count, going}
 use Rattle.fault_handler.specs.Desks.{DeskState, procs, count_of, moving_of}
-use Rattle.fault_handler.specs.Kept.{IsProc, is_marked, FitsTransit, IsDesk}
+use Rattle.fault_handler.specs.Invariant.{IsProc, is_marked, FitsTransit, IsDesk}
 use Rattle.fault_handler.proofs.Fours.{first, second, third, fourth, any-of, any-not}
 use Rattle.fault_handler.proofs.PageLists.{page_at-without_other}
 use Rattle.fault_handler.proofs.Moves.{moving-uid, moving-page}

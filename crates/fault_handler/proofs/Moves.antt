@@ -5,7 +5,7 @@ use Rattle.std.proofs.lemmas.Bool.{cases_eq}
 use Rattle.std.proofs.lemmas.Bool.Decides.{nat_tests}
 use Rattle.uid_names.specs.Names.{ObjectName}
 use Rattle.page_cache.specs.Caches.{Resident, page_at}
-use Rattle.fault_handler.specs.declared.entries.Entry.{Entry}
+use Rattle.fault_handler.specs.declared.entries.LockEntry.{LockEntry}
 use Rattle.fault_handler.specs.declared.transits.Transit.{Transit}
 use Rattle.fault_handler.specs.declared.tasks.Task.{Task}
 use Rattle.fault_handler.specs.declared.open_call.OpenCall.{OpenCall}
@@ -14,7 +14,7 @@ use Rattle.fault_handler.specs.ShownPages.{is_in_transit}
 use Rattle.fault_handler.specs.Transits.{is_moving, is_coming, inward_count, outward_count, going}
 use Rattle.fault_handler.specs.Entries.{keeps}
 use Rattle.fault_handler.specs.Desks.{at, put_at, entry_at, count_of, others_fetch}
-use Rattle.fault_handler.specs.Kept.{IsProc, is_marked, FitsWay, FitsTransit, AreApart, AreMoved, is_access, IsOpenTask, FitsOpen, AreOpen}
+use Rattle.fault_handler.specs.Invariant.{IsProc, is_marked, FitsWay, FitsTransit, AreApart, AreMoved, is_access, IsOpenTask, FitsOpen, AreOpen}
 use Rattle.fault_handler.proofs.Fours.{at-put_same, at-put_other, each-put, any-not, count_of-put}
 use Rattle.fault_handler.proofs.PageLists.{same-uid, same-page}
 use Rattle.fault_handler.proofs.Alike.{AreAlike, FitsTransit-alike, FitsOpen-alike}
@@ -54,7 +54,7 @@ AreApart-put moving p new four is apart alone q r one two u k =
     other s proc differs a = ap (is_moving u k) (sym (at-put_other moving p s new None is proc differs)) ∙ a
 
 -- a process moves another page
-pub AreMoved-put : (frames after : ℕ) (old new : List Resident) (entries : List (List Entry)) (moving : List (Option Transit)) (p : ℕ) (t : Option Transit)
+pub AreMoved-put : (frames after : ℕ) (old new : List Resident) (entries : List (List LockEntry)) (moving : List (Option Transit)) (p : ℕ) (t : Option Transit)
     → length moving ≡ 4 → IsProc p → AreMoved frames old entries moving
     → after + inward_count (at moving p None) ≡ frames + inward_count t
     → count_by is_in_transit new + outward_count (at moving p None) ≡ count_by is_in_transit old + outward_count t
@@ -74,7 +74,7 @@ AreMoved-put frames after old new entries moving p t four is moved reserved mark
 }
 
 -- nothing moves, while pages change that no process moves
-pub AreMoved-alike : (frames : ℕ) (old new : List Resident) (entries : List (List Entry)) (moving : List (Option Transit)) → AreMoved frames old entries moving
+pub AreMoved-alike : (frames : ℕ) (old new : List Resident) (entries : List (List LockEntry)) (moving : List (Option Transit)) → AreMoved frames old entries moving
     → count_by is_in_transit new ≡ count_by is_in_transit old → ((q : ℕ) → IsProc q → AreAlike old new (at moving q None)) → AreMoved frames new entries moving
 AreMoved-alike frames old new entries moving moved same alike = record {
   reserved = moved.reserved;
@@ -83,13 +83,13 @@ AreMoved-alike frames old new entries moving moved same alike = record {
   apart = moved.apart;
 }
 
-pub AreOpen-alike : (frames : ℕ) (old new : List Resident) (entries : List (List Entry)) (calls : List (Option OpenCall)) (tasks : List (Option Task)) (moving : List (Option Transit)) → AreMoved frames old entries moving → AreOpen old entries calls tasks moving
+pub AreOpen-alike : (frames : ℕ) (old new : List Resident) (entries : List (List LockEntry)) (calls : List (Option OpenCall)) (tasks : List (Option Task)) (moving : List (Option Transit)) → AreMoved frames old entries moving → AreOpen old entries calls tasks moving
     → ((q : ℕ) → IsProc q → AreAlike old new (at moving q None)) → AreOpen new entries calls tasks moving
 AreOpen-alike frames old new entries calls tasks moving moved open_ones alike q proc =
     FitsOpen-alike old new entries q (is_access (at calls q None)) (at tasks q None) (at moving q None) (alike q proc) (moved.each q proc) (open_ones q proc)
 
 -- a process opens or ends a load or store
-pub AreOpen-put : (frames : ℕ) (old new : List Resident) (entries : List (List Entry)) (calls : List (Option OpenCall)) (tasks : List (Option Task)) (moving : List (Option Transit))
+pub AreOpen-put : (frames : ℕ) (old new : List Resident) (entries : List (List LockEntry)) (calls : List (Option OpenCall)) (tasks : List (Option Task)) (moving : List (Option Transit))
     (p : ℕ) (call : Option OpenCall) (task : Option Task) (t : Option Transit) → length calls ≡ 4 → length tasks ≡ 4 → length moving ≡ 4 → IsProc p
     → AreMoved frames old entries moving → AreOpen old entries calls tasks moving
     → FitsOpen new entries p (is_access call) task t
@@ -100,7 +100,7 @@ AreOpen-put frames old new entries calls tasks moving p call task t fc ft fm is 
     (λ q proc differs. FitsOpen-alike old new entries q (is_access (at calls q None)) (at tasks q None) (at moving q None) (alike q proc differs) (moved.each q proc) (open_ones q proc))
 
 -- a process of which no load or store is open moves another page
-pub AreOpen-moved : (frames : ℕ) (old new : List Resident) (entries : List (List Entry)) (calls : List (Option OpenCall)) (tasks : List (Option Task)) (moving : List (Option Transit))
+pub AreOpen-moved : (frames : ℕ) (old new : List Resident) (entries : List (List LockEntry)) (calls : List (Option OpenCall)) (tasks : List (Option Task)) (moving : List (Option Transit))
     (p : ℕ) (t : Option Transit) → length moving ≡ 4 → IsProc p
     → AreMoved frames old entries moving → AreOpen old entries calls tasks moving
     → FitsOpen new entries p (is_access (at calls p None)) (at tasks p None) t
@@ -117,7 +117,7 @@ moving-uid u k t is = same-uid t.uid t.page u k is
 pub moving-page : (u : ObjectName) (k : ℕ) (t : Transit) → is_moving u k (Some t) ≡ true → t.page ≡ k
 moving-page u k t is = same-page t.uid t.page u k is
 
-module _ (pages : List Resident) (entries : List (List Entry)) (q : ℕ) (u : ObjectName) (k : ℕ) where
+module _ (pages : List Resident) (entries : List (List LockEntry)) (q : ℕ) (u : ObjectName) (k : ℕ) where
   -- what fits the transit of a page speaks of that page
   FitsWay-named : (t : Transit) → is_moving u k (Some t) ≡ true → FitsTransit pages entries q (Some t) → FitsWay t.inward pages entries q u k
   FitsWay-named t is fits = subst (λ (n : ℕ). FitsWay t.inward pages entries q u n) (moving-page u k t is) (subst (λ (v : ObjectName). FitsWay t.inward pages entries q v t.page) (moving-uid u k t is) fits)
@@ -163,7 +163,7 @@ access-is (Some (AttrOut u n delete)) is = absurd (cc)
 access-is (Some (Unlock u)) is = absurd (cc)
 access-is (Some (Remove u)) is = absurd (cc)
 
-module _ (pages : List Resident) (entries : List (List Entry)) (q : ℕ) where
+module _ (pages : List Resident) (entries : List (List LockEntry)) (q : ℕ) where
   -- where none is open there is none
   pub FitsOpen-no_task : (access : Bool) (task : Option Task) (t : Option Transit) → access ≡ false → FitsOpen pages entries q access task t → task ≡ None
   FitsOpen-no_task true task t closed fits = absurd (cc)
@@ -206,7 +206,7 @@ pub alone-apart : (moving : List (Option Transit)) (p : ℕ) (u : ObjectName) (k
 alone-apart moving p u k is apart here q proc differs v j own other = differs (apart q p proc is v j other own)
 
 -- none does where another was found not to bring it
-pub alone-absent : (pages : List Resident) (entries : List (List Entry)) (frames : ℕ) (moving : List (Option Transit)) (p : ℕ) (u : ObjectName) (k : ℕ) → AreMoved frames pages entries moving → page_at pages u k ≡ None
+pub alone-absent : (pages : List Resident) (entries : List (List LockEntry)) (frames : ℕ) (moving : List (Option Transit)) (p : ℕ) (u : ObjectName) (k : ℕ) → AreMoved frames pages entries moving → page_at pages u k ≡ None
     → others_fetch moving p u k ≡ false → (q : ℕ) → IsProc q → q ≢ p → is_moving u k (at moving q None) ≡ true → ⊥
 alone-absent pages entries frames moving p u k moved none alone q proc differs is =
     let comes : is_coming u k (at moving q None) ≡ true = moving-absent pages entries q u k (at moving q None) none (moved.each q proc) is in

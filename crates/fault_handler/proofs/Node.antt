@@ -15,6 +15,7 @@ use Rattle.address_map.specs.Mappings.{mapping_of}
 use Rattle.address_map.specs.Runs.{lowest_run}
 use Rattle.address_map.specs.Maps.{is_full, map_answer, mappings_after}
 use Rattle.uid_names.specs.Segments.{segments}
+use Rattle.uid_names.specs.declared.limits.TheConstants.{PAGE_BYTES}
 use Rattle.ring_messages.specs.declared.body.Body.{Body}
 use Rattle.ring_messages.specs.declared.body.Body.TheVariants.{Page, Stored, Stale}
 use Rattle.fault_handler.specs.declared.tasks.Work.{Work}
@@ -28,7 +29,7 @@ use Rattle.fault_handler.specs.Desks.{DeskState, state_of, maps_of, task_of, mov
 use Rattle.fault_handler.specs.Changes.{with_maps, with_raised, with_arrival, with_room_settled, page_done_by, page_done_of}
 use Rattle.fault_handler.specs.Accesses.{Accessed, task_at, target_of, performed, room_made, room_by, frame_by, missed_by, page_by, page_access, load_by, load_at, store_by, store_at, length_by, map_by_answer, mapped, map_by, unmap_by, access_of}
 use Rattle.fault_handler.specs.PageReplies.{page_by_stamp, room_sent_again, came_by, came_to, page_came_of, failed_way, failed_by, access_failed_of}
-use Rattle.fault_handler.specs.Outcomes.{Gives}
+use Rattle.fault_handler.specs.Answered.{Gives}
 
 module _ (d : DeskState) (p : ℕ) (task : Task) where
   node-performed : (work : Work) (r : Resident) → (performed d task work r).desk.node ≡ d.node
@@ -77,7 +78,7 @@ module _ (d : DeskState) (p : ℕ) where
   node-store_at : (bytes : List ℕ) (o : Option (ObjectName × ℕ)) → (store_at d p bytes o).desk.node ≡ d.node
   node-store_at bytes None = refl
   node-store_at bytes (Some (u, offset)) =
-      node-store_by d p (task_at u offset (Store bytes)) (is_held (state_of d p u)) (may_write (state_of d p u)) (nat_lt (1024 * room_of (known_of u d.known)) (offset + length bytes))
+      node-store_by d p (task_at u offset (Store bytes)) (is_held (state_of d p u)) (may_write (state_of d p u)) (nat_lt (PAGE_BYTES * room_of (known_of u d.known)) (offset + length bytes))
 
   node-length_by : (u : ObjectName) (held : Bool) → (length_by d u held).desk.node ≡ d.node
   node-length_by u true = refl

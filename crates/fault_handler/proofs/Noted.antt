@@ -3,15 +3,15 @@ use Rattle.std.proofs.Common.{◌≡◌, ℕ, true, false, [], Option, Some, Non
 use Rattle.std.specs.Option.{option_map}
 use Rattle.std.proofs.lemmas.Bool.Decides.{nat_tests}
 use Rattle.uid_names.specs.Names.{ObjectName}
-use Rattle.fault_handler.specs.declared.entries.Entry.{Entry}
+use Rattle.fault_handler.specs.declared.entries.LockEntry.{LockEntry}
 use Rattle.fault_handler.specs.Entries.{keeps, entry_of, noted_if, entries_noted}
 use Rattle.fault_handler.specs.Desks.{DeskState, entries_of, entry_at}
 use Rattle.fault_handler.specs.Changes.{with_note}
-use Rattle.fault_handler.specs.Kept.{IsProc, IsDesk}
+use Rattle.fault_handler.specs.Invariant.{IsProc, IsDesk}
 use Rattle.fault_handler.proofs.Fours.{at-put_same}
 use Rattle.fault_handler.proofs.LockKeeps.{entry_of-noted_same}
 
-noted-not_kept : (o : Option Entry) → keeps (option_map (noted_if true) o) ≡ false
+noted-not_kept : (o : Option LockEntry) → keeps (option_map (noted_if true) o) ≡ false
 noted-not_kept None = refl
 noted-not_kept (Some e) = grind (arith, nat_tests)
 

@@ -7,13 +7,13 @@ use Rattle.std.proofs.lemmas.Bool.Decides.{nat_tests}
 use Rattle.uid_names.specs.Names.{ObjectName, same_uid}
 use Rattle.page_cache.specs.Caches.{Resident, is_page, page_at}
 use Rattle.page_cache.specs.Numbers.{is_dirty_of, lesser, dirty_page}
-use Rattle.page_cache.proofs.ListLemmas.{by_cases}
+use Rattle.uid_names.proofs.ListLemmas.{by_cases}
 use Rattle.fault_handler.specs.declared.lengths.Known.{Known}
 use Rattle.fault_handler.specs.declared.transits.Transit.{Transit}
 use Rattle.fault_handler.specs.Lengths.{is_changed, changed_length, length_of}
 use Rattle.fault_handler.specs.Transits.{is_moving, moved_page, going}
 use Rattle.fault_handler.specs.Desks.{DeskState, at, any_keeps, moving_of, other_transit}
-use Rattle.fault_handler.specs.Kept.{IsProc, is_marked, is_dirty, IsDesk}
+use Rattle.fault_handler.specs.Invariant.{IsProc, is_marked, is_dirty, IsDesk}
 use Rattle.fault_handler.proofs.Fours.{by_proc, first}
 use Rattle.fault_handler.proofs.TransitKeeps.{any_writes-keeps, dirty-writes, going-marked}
 use Rattle.fault_handler.proofs.Movers.{moved-by}

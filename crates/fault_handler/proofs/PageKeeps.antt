@@ -3,16 +3,17 @@ use Rattle.std.proofs.Common.{◌≡◌, ℕ, ◌+◌, ◌≤◌, true, false, L
 use Rattle.std.specs.Prelude.{not}
 use Rattle.std.proofs.lemmas.List.{length-take}
 use Rattle.uid_names.specs.Names.{ObjectName, same_uid}
+use Rattle.uid_names.specs.declared.limits.TheConstants.{PAGE_BYTES}
 use Rattle.page_cache.specs.Caches.{Resident, is_of, is_page, page_at}
 use Rattle.page_cache.specs.Changes.{spliced, without_page, without_object, used}
-use Rattle.page_cache.proofs.ListLemmas.{by_cases, count_by-filter-le}
-use Rattle.page_cache.proofs.SlotLemmas.{same_uid-true}
-use Rattle.fault_handler.specs.declared.entries.Entry.{Entry}
+use Rattle.uid_names.proofs.ListLemmas.{by_cases, count_by-filter-le}
+use Rattle.uid_names.proofs.Orders.{same_uid_is}
+use Rattle.fault_handler.specs.declared.entries.LockEntry.{LockEntry}
 use Rattle.fault_handler.specs.Entries.{keeps_writing}
 use Rattle.fault_handler.specs.ShownPages.{changed_page, written, as_sent, is_in_transit}
 use Rattle.fault_handler.specs.Desks.{DeskState, entry_at, any_writes}
 use Rattle.fault_handler.specs.Changes.{with_pages, with_used, with_stored, with_dropped, with_no_page, with_sent_again}
-use Rattle.fault_handler.specs.Kept.{IsProc, IsShownPage, ArePages, is_marked, IsDesk}
+use Rattle.fault_handler.specs.Invariant.{IsProc, IsShownPage, ArePages, is_marked, IsDesk}
 use Rattle.fault_handler.proofs.Fours.{any-at}
 use Rattle.fault_handler.proofs.PageLists.{is_same, AreOnce, says, found-uid, same-uid, same-page, page_at-used, count_by-used, page_at-without_same, page_at-without_other, page_at-without_object_same, page_at-without_object_other, count_by-without, count_by-without_object, count_by-changed, count_by-changed_one}
 use Rattle.fault_handler.proofs.Alike.{Alike, Alike-same, ArePages-changed, Alike-changed}
@@ -65,7 +66,7 @@ IsDesk-changed d u k change is names marks dirt after =
     (Alike-changed u k change names d.cache.pages (λ r h. marks r ∙ h) dirt)
 
 -- bytes were stored in a page, by a process that keeps the object in a mode that writes
-pub IsDesk-with_stored : (d : DeskState) (u : ObjectName) (k offset : ℕ) (bytes : List ℕ) (p : ℕ) → IsDesk d → IsProc p → offset + length bytes ≤ 1024 → keeps_writing (entry_at d.entries p u) ≡ true → IsDesk (with_stored d u k offset bytes)
+pub IsDesk-with_stored : (d : DeskState) (u : ObjectName) (k offset : ℕ) (bytes : List ℕ) (p : ℕ) → IsDesk d → IsProc p → offset + length bytes ≤ PAGE_BYTES → keeps_writing (entry_at d.entries p u) ≡ true → IsDesk (with_stored d u k offset bytes)
 IsDesk-with_stored d u k offset bytes p is proc within writes =
     IsDesk-changed (with_used d u k) u k (written offset bytes) (IsDesk-with_used d u k is) (λ v j r. refl) (λ r. refl) (λ r h. refl) after
   where
@@ -82,7 +83,7 @@ marked-there None is = absurd (cc)
 marked-there (Some r) is = (r, refl, is)
 
 -- a page that is sent is shown as before
-pub IsShownPage-sent : (entries : List (List Entry)) (r : Resident) → IsShownPage entries r → IsShownPage entries (as_sent r)
+pub IsShownPage-sent : (entries : List (List LockEntry)) (r : Resident) → IsShownPage entries r → IsShownPage entries (as_sent r)
 IsShownPage-sent entries r shown = record { page = shown.page; bytes = shown.bytes; written = shown.written }
 
 -- as many pages are marked where one is sent again
@@ -145,4 +146,4 @@ IsDesk-with_no_page d u is still =
     (λ v j. by_cases (same_uid v u) (Left d.cache.pages (without_object d.cache.pages u) v j) (gone v j) (λ differ. inl (page_at-without_object_other d.cache.pages u v j differ)))
   where
     gone : (v : ObjectName) (j : ℕ) → same_uid v u ≡ true → Left d.cache.pages (without_object d.cache.pages u) v j
-    gone v j same = inr (rw (same_uid-true v u same) (page_at-without_object_same d.cache.pages u j, still j))
+    gone v j same = inr (rw (same_uid_is v u same) (page_at-without_object_same d.cache.pages u j, still j))

@@ -7,8 +7,9 @@ use Rattle.std.proofs.lemmas.Bool.Decides.{nat_tests}
 use Rattle.uid_names.specs.Names.{ObjectName, same_uid}
 use Rattle.page_cache.specs.Caches.{Resident, is_of, is_page, page_at}
 use Rattle.page_cache.specs.Changes.{changed_if, without_page, without_object, used, with_front}
-use Rattle.page_cache.proofs.ListLemmas.{by_cases, count_by-cons, count_by-cons_passes, count_by-cons_fails, find-none, count_by-none, find_passes, filter_not-none, count_by-filter_takes, find-filter_leaves, count_by-to_front, find-map, count_by-map}
-use Rattle.page_cache.proofs.SlotLemmas.{same_uid-true}
+use Rattle.uid_names.proofs.Finds.{find-passes}
+use Rattle.uid_names.proofs.ListLemmas.{by_cases, count_by-cons, count_by-cons_passes, count_by-cons_fails, find-count_none, count_by-none, filter_not-none, count_by-filter_takes, find-filter_leaves, count_by-to_front, find-map, count_by-map}
+use Rattle.uid_names.proofs.Orders.{same_uid_is}
 use Rattle.fault_handler.specs.ShownPages.{changed_page}
 
 -- whether two names are of one page
@@ -21,17 +22,17 @@ AreOnce pages = (u : ObjectName) (k : ℕ) → count_by (is_page u k) pages ≤ 
 
 -- names of one page are equal
 pub same-uid : (u : ObjectName) (k : ℕ) (v : ObjectName) (j : ℕ) → is_same u k v j ≡ true → u ≡ v
-same-uid u k v j is = same_uid-true u v (grind (arith, nat_tests))
+same-uid u k v j is = same_uid_is u v (grind (arith, nat_tests))
 
 pub same-page : (u : ObjectName) (k : ℕ) (v : ObjectName) (j : ℕ) → is_same u k v j ≡ true → k ≡ j
 same-page u k v j is = grind (arith, nat_tests)
 
 -- the page that is found has the name
 pub found-uid : (pages : List Resident) (u : ObjectName) (k : ℕ) (r : Resident) → page_at pages u k ≡ Some r → r.uid ≡ u
-found-uid pages u k r found = same-uid r.uid r.page u k (find_passes (is_page u k) pages r found)
+found-uid pages u k r found = same-uid r.uid r.page u k (find-passes (is_page u k) pages r found)
 
 pub found-page : (pages : List Resident) (u : ObjectName) (k : ℕ) (r : Resident) → page_at pages u k ≡ Some r → r.page ≡ k
-found-page pages u k r found = same-page r.uid r.page u k (find_passes (is_page u k) pages r found)
+found-page pages u k r found = same-page r.uid r.page u k (find-passes (is_page u k) pages r found)
 
 -- what is of one page is not of another
 pub apart : (u : ObjectName) (k : ℕ) (v : ObjectName) (j : ℕ) (r : Resident) → is_same v j u k ≡ false → is_page v j r ≡ true → is_page u k r ≡ false
@@ -40,7 +41,7 @@ apart u k v j r differ is = grind (arith, nat_tests, differ, is)
 module _ (pages : List Resident) (u : ObjectName) (k : ℕ) where
   -- a page that was dropped is not found
   pub page_at-without_same : page_at (without_page pages u k) u k ≡ None
-  page_at-without_same = find-none (is_page u k) (without_page pages u k) (count_by-filter_takes (is_page u k) (λ r. not (is_page u k r)) (λ r is. ap not is) pages)
+  page_at-without_same = find-count_none (is_page u k) (without_page pages u k) (count_by-filter_takes (is_page u k) (λ r. not (is_page u k r)) (λ r is. ap not is) pages)
 
   -- the others are found as before
   pub page_at-without_other : (v : ObjectName) (j : ℕ) → is_same v j u k ≡ false → page_at (without_page pages u k) v j ≡ page_at pages v j
@@ -61,10 +62,10 @@ module _ (pages : List Resident) (u : ObjectName) (k : ℕ) where
           (is_same v j u k)
           (page_at (s ∷ without_page pages u k) v j ≡ page_at pages v j)
           (λ is.
-          let here : is_page u k s ≡ true = find_passes (is_page u k) pages s found in
+          let here : is_page u k s ≡ true = find-passes (is_page u k) pages s found in
           rw (same-uid v j u k is, same-page v j u k is, here) (sym found))
           (λ differ.
-          let no : is_page v j s ≡ false = by_cases (is_page v j s) (is_page v j s ≡ false) (λ h. absurd (let a = apart u k v j s differ h in let b = find_passes (is_page u k) pages s found in cc)) (λ h. h) in
+          let no : is_page v j s ≡ false = by_cases (is_page v j s) (is_page v j s ≡ false) (λ h. absurd (let a = apart u k v j s differ h in let b = find-passes (is_page u k) pages s found in cc)) (λ h. h) in
           rw no (page_at-without_other v j differ))
 
   -- as many pass
@@ -86,7 +87,7 @@ of_another u v j r differ is = grind (arith, nat_tests, differ, is)
 -- no page of the object is found where they were dropped
 pub page_at-without_object_same : (pages : List Resident) (u : ObjectName) (j : ℕ) → page_at (without_object pages u) u j ≡ None
 page_at-without_object_same pages u j =
-    find-none (is_page u j) (without_object pages u) (count_by-filter_takes (is_page u j) (λ r. not (is_of u r)) (λ r is. ap not (of_page u j r is)) pages)
+    find-count_none (is_page u j) (without_object pages u) (count_by-filter_takes (is_page u j) (λ r. not (is_of u r)) (λ r is. ap not (of_page u j r is)) pages)
 
 -- the pages of others are found as before
 pub page_at-without_object_other : (pages : List Resident) (u v : ObjectName) (j : ℕ) → same_uid v u ≡ false → page_at (without_object pages u) v j ≡ page_at pages v j
@@ -125,7 +126,7 @@ module _ (test : Resident → Bool) where
       by_cases
       (is_page u k r)
       (says (page_at pages u k) ≡ false)
-      (λ is. rw (find-none (is_page u k) pages (omega (arith, count_by-cons_passes (is_page u k) r pages is, once u k))) refl)
+      (λ is. rw (find-count_none (is_page u k) pages (omega (arith, count_by-cons_passes (is_page u k) r pages is, once u k))) refl)
       (λ is. rw is at (fails k))
 
   pub count_by-without_object : (pages : List Resident) (u : ObjectName) → AreOnce pages → ((k : ℕ) → says (page_at pages u k) ≡ false) → count_by test (without_object pages u) ≡ count_by test pages
@@ -199,7 +200,7 @@ module _ (u : ObjectName) (k : ℕ) (change : Resident → Resident) where
       where
         by_found : (o : Option Resident) → page_at pages u k ≡ o → option_map changing o ≡ option_map change o
         by_found None none = refl
-        by_found (Some r) found = let here : is_page u k r ≡ true = find_passes (is_page u k) pages r found in rw here refl
+        by_found (Some r) found = let here : is_page u k r ≡ true = find-passes (is_page u k) pages r found in rw here refl
 
     -- the others are found as before
     pub page_at-changed_other : (pages : List Resident) (v : ObjectName) (j : ℕ) → is_same v j u k ≡ false → page_at (changed_page u k change pages) v j ≡ page_at pages v j
@@ -207,4 +208,4 @@ module _ (u : ObjectName) (k : ℕ) (change : Resident → Resident) where
       where
         by_found : (o : Option Resident) → page_at pages v j ≡ o → option_map changing o ≡ o
         by_found None none = refl
-        by_found (Some r) found = let no : is_page u k r ≡ false = apart u k v j r differ (find_passes (is_page v j) pages r found) in rw no refl
+        by_found (Some r) found = let no : is_page u k r ≡ false = apart u k v j r differ (find-passes (is_page v j) pages r found) in rw no refl

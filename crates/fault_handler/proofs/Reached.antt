@@ -5,7 +5,8 @@ use Rattle.uid_names.specs.Names.{ObjectName}
 use Rattle.page_cache.specs.Caches.{Resident, page_at, is_page, free_count}
 use Rattle.page_cache.specs.Changes.{without_page}
 use Rattle.page_cache.specs.Victims.{victim_of, name_of}
-use Rattle.page_cache.proofs.ListLemmas.{find_passes, find-none, count_by-none, count_by-found, count_by-filter-le, length-filter_not}
+use Rattle.uid_names.proofs.Finds.{find-passes}
+use Rattle.uid_names.proofs.ListLemmas.{find-count_none, count_by-none, count_by-found, count_by-filter-le, length-filter_not}
 use Rattle.ring_messages.specs.declared.body.Body.{Body}
 use Rattle.fault_handler.specs.declared.tasks.Task.{Task}
 use Rattle.fault_handler.specs.declared.access.Access.{Access}
@@ -13,8 +14,8 @@ use Rattle.fault_handler.specs.declared.access.Access.TheVariants.{Need}
 use Rattle.fault_handler.specs.Desks.{DeskState}
 use Rattle.fault_handler.specs.Changes.{with_eviction, with_dropped}
 use Rattle.fault_handler.specs.Accesses.{page_out, fetched, room_made, room_by}
-use Rattle.fault_handler.specs.Outcomes.{Gives}
-use Rattle.fault_handler.specs.Kept.{is_marked, is_dirty}
+use Rattle.fault_handler.specs.Answered.{Gives}
+use Rattle.fault_handler.specs.Invariant.{is_marked, is_dirty}
 use Rattle.fault_handler.proofs.PageLists.{AreOnce, same-uid, same-page}
 use Rattle.fault_handler.proofs.TransitKeeps.{there_is}
 use Rattle.fault_handler.proofs.Choice.{victim-resident, victim-still}
@@ -56,7 +57,7 @@ gives-evicted old new p task u k home body dropped desk at asks none = by_page (
     by_page : (o : Option Resident) → page_at old.cache.pages u k ≡ o → option_map (λ r. page_out old u k r.bytes) o ≡ Some body → IfSome o (λ r. Gives new (room_made old p task r true) (Need home body dropped))
     by_page None found asked = tt
     by_page (Some r) found asked =
-        let is : is_page u k r ≡ true = find_passes (is_page u k) old.cache.pages r found in
+        let is : is_page u k r ≡ true = find-passes (is_page u k) old.cache.pages r found in
         let sent : page_out old u k r.bytes ≡ body = cc in
         rw (same-uid r.uid r.page u k is, same-page r.uid r.page u k is, desk, at, none, ← sent) refl
 
@@ -69,7 +70,7 @@ module _ (d : DeskState) (u : ObjectName) (k : ℕ) where
 
   pub absent-dropped : (v : ObjectName) (j : ℕ) → page_at d.cache.pages v j ≡ None → page_at (without_page d.cache.pages u k) v j ≡ None
   absent-dropped v j none =
-      find-none (is_page v j) (without_page d.cache.pages u k)
+      find-count_none (is_page v j) (without_page d.cache.pages u k)
       (omega (arith, count_by-none (is_page v j) d.cache.pages none, count_by-filter-le (is_page v j) (λ r. not (is_page u k r)) d.cache.pages))
 
 -- a clean page was dropped to make room
@@ -80,5 +81,5 @@ gives-dropped old mid new p task u k dropped answer desk list gives chosen there
     by_page : (o : Option Resident) → page_at old.cache.pages u k ≡ o → IsSome o → is_dirty o ≡ false → Gives new (room_by old p task o) answer
     by_page None found some is = absurd (cc)
     by_page (Some r) found some is =
-        let named : is_page u k r ≡ true = find_passes (is_page u k) old.cache.pages r found in
+        let named : is_page u k r ≡ true = find-passes (is_page u k) old.cache.pages r found in
         rw (is, same-uid r.uid r.page u k named, same-page r.uid r.page u k named) (rw (desk, list) at gives)

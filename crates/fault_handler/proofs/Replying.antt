@@ -9,7 +9,8 @@ use Rattle.dom_history.specs.declared.op.Op.{Op}
 use Rattle.dom_history.specs.declared.op.Reply.TheVariants.{Bytes}
 use Rattle.ring_messages.specs.declared.body.Body.{Body}
 use Rattle.fault_handler.specs.ShownPages.{fresh_page}
-use Rattle.fault_handler.specs.Tasks.{page_of, start_of, loaded_from}
+use Rattle.fault_handler.specs.Tasks.{page_of, start_of}
+use Rattle.fault_handler.specs.Unseen.{loaded_from}
 use Rattle.fault_handler.specs.declared.tasks.Work.{Work}
 use Rattle.fault_handler.specs.declared.tasks.Work.TheVariants.{Load, Store}
 use Rattle.fault_handler.specs.declared.tasks.Task.{Task}
@@ -21,8 +22,9 @@ use Rattle.fault_handler.specs.Changes.{with_used, with_raised, with_arrival, wi
 use Rattle.fault_handler.specs.Accesses.{Accessed, performed, page_by, page_access, page_out}
 use Rattle.fault_handler.specs.PageReplies.{page_by_stamp, room_taken, room_stale, room_sent_again}
 use Rattle.fault_handler.specs.Conditions.{IsIdle, IsAccessing}
-use Rattle.fault_handler.specs.Outcomes.{Gives, FitsAnswer, FitsWork, IsAsked, AfterAccess}
-use Rattle.fault_handler.specs.Kept.{IsProc, IsDesk, IsAllowed, is_marked}
+use Rattle.fault_handler.specs.Answered.{Gives}
+use Rattle.fault_handler.specs.Outcomes.{FitsAnswer, FitsWork, IsAsked, AfterAccess}
+use Rattle.fault_handler.specs.Invariant.{IsProc, IsDesk, IsAllowed, is_marked}
 use Rattle.fault_handler.proofs.TransitKeeps.{open_task, page-comes, coming-absent, going-marked}
 use Rattle.fault_handler.proofs.Accessing.{stamp-seen}
 

@@ -2,11 +2,12 @@
 use Rattle.std.proofs.Common.{◌≡◌, ◌∙◌, Bool, true, false, List, [], ◌∷◌, ℕ, refl, ap, arith}
 use Rattle.std.specs.Prelude.{filter, not, is_some, Option, Some, None, IsSome}
 use Rattle.uid_names.specs.InOrder.{put_in_order}
+use Rattle.uid_names.specs.Tables.{row_below, is_row_of}
 use Rattle.std.proofs.lemmas.Bool.Decides.{nat_tests}
-use Rattle.page_cache.proofs.ListLemmas.{by_cases}
+use Rattle.uid_names.proofs.ListLemmas.{by_cases}
 use Rattle.version_stamps.specs.declared.stamps.Stamp.{Stamp}
-use Rattle.version_stamps.specs.Stamps.{stamp_lt, is_of, stamp_of, with_stamp, without_stamp}
-use Rattle.version_stamps.proofs.Places.{without_stamp-none}
+use Rattle.version_stamps.specs.Stamps.{object_of, stamp_of, with_stamp, without_stamp}
+use Rattle.version_stamps.proofs.LookUps.{without_stamp-none}
 use Rattle.fault_handler.specs.declared.lengths.Known.{Known}
 
 -- an element that fails a filter leaves no trace where it was put
@@ -26,9 +27,9 @@ filter-put lt p new fails (x ∷ xs) =
 -- a stamp that was set where none was known is forgotten without a trace
 pub without-with_stamp : (new : Stamp) (rows : List Stamp) → is_some (stamp_of new.uid rows) ≡ false → without_stamp new.uid (with_stamp new rows) ≡ rows
 without-with_stamp new rows none =
-    let own : is_of new.uid new ≡ true = grind (arith, nat_tests) in
+    let own : is_row_of object_of new.uid new ≡ true = grind (arith, nat_tests) in
     rw (without_stamp-none new.uid rows none)
-    (filter-put stamp_lt (λ row. not (is_of new.uid row)) new (ap not own) rows ∙ without_stamp-none new.uid rows none)
+    (filter-put (row_below object_of) (λ row. not (is_row_of object_of new.uid row)) new (ap not own) rows ∙ without_stamp-none new.uid rows none)
 
 -- no stamp was seen of an object of which nothing is known
 pub no-stamp : (stamp : Option ℕ) (known : Option Known) → (IsSome stamp → IsSome known) → is_some known ≡ false → is_some stamp ≡ false

@@ -9,9 +9,11 @@ use Rattle.page_cache.specs.Caches.{Resident, Cached, IsCache, IsResident, IsFra
 use Rattle.page_cache.specs.Changes.{without_page, without_object, with_front, used, changed_if, changed_in, with_flags, with_bytes, spliced}
 use Rattle.page_cache.specs.Victims.{is_clean_choice, is_dirty_choice, oldest, victim_of, name_of}
 use Rattle.page_cache.specs.Numbers.{is_dirty_of, numbers, least, rising, dirty_page, resident_pages}
-use Rattle.page_cache.proofs.ListLemmas.{by_cases, count_by-cons_passes, count_by-cons_fails, find_passes, find-map, filter-map}
+use Rattle.uid_names.proofs.Finds.{find-passes}
+use Rattle.uid_names.proofs.ListLemmas.{by_cases, count_by-cons_passes, count_by-cons_fails, find-map, filter-map}
 use Rattle.page_cache.proofs.PageLemmas.{changed_in-none}
-use Rattle.fault_handler.specs.ShownPages.{unframed, changed_page}
+use Rattle.fault_handler.specs.ShownPages.{changed_page}
+use Rattle.fault_handler.specs.Unseen.{unframed}
 
 -- a page is resident where it is shown, and the other way round
 pub page_at-shown : (pages : List Resident) (u : ObjectName) (k : ℕ) → page_at (map unframed pages) u k ≡ option_map unframed (page_at pages u k)
@@ -69,7 +71,7 @@ resident-front None pages u k passes some = absurd (cc)
 resident-front (Some r) pages u k passes some = rw (passes r refl) refl
 
 pub IsResident-used : (pages : List Resident) (u : ObjectName) (k : ℕ) → IsResident pages u k → IsResident (used pages u k) u k
-IsResident-used pages u k is = resident-front (page_at pages u k) (without_page pages u k) u k (find_passes (is_page u k) pages) is
+IsResident-used pages u k is = resident-front (page_at pages u k) (without_page pages u k) u k (find-passes (is_page u k) pages) is
 
 -- a page is changed by its name where its frame is: each stands once
 changed_page-none : (u : ObjectName) (k : ℕ) (change : Resident → Resident) (pages : List Resident) → count_by (is_page u k) pages ≡ 0 → changed_page u k change (map unframed pages) ≡ map unframed pages
@@ -91,13 +93,13 @@ changed_in-shown frame u k f g r same (x ∷ rest) one_frame one_page in_it at =
     (λ here.
     let some : Some x ≡ Some r = rw here at in_it in
     let is : x ≡ r = cc in
-    let named : is_page u k x ≡ true = rw is (find_passes (is_page u k) (x ∷ rest) r at) in
+    let named : is_page u k x ≡ true = rw is (find-passes (is_page u k) (x ∷ rest) r at) in
     let none_in = changed_in-none frame f rest (omega (arith, count_by-cons_passes (is_in frame) x rest here)) in
     let none_of = changed_page-none u k g rest (omega (arith, count_by-cons_passes (is_page u k) x rest named)) in
     let front : unframed (f x) ≡ g (unframed x) = rw is same in
     rw (here, named, none_in, none_of) (ap (λ y. y ∷ map unframed rest) front))
     (λ fails.
-    let frame_is : is_in frame r ≡ true = find_passes (is_in frame) (x ∷ rest) r in_it in
+    let frame_is : is_in frame r ≡ true = find-passes (is_in frame) (x ∷ rest) r in_it in
     by_cases
     (is_page u k x)
     (map unframed (changed_in frame f (x ∷ rest)) ≡ changed_page u k g (map unframed (x ∷ rest)))

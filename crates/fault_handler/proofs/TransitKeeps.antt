@@ -5,13 +5,14 @@ use Rattle.std.specs.Option.{option_map}
 use Rattle.std.proofs.lemmas.Bool.Decides.{nat_tests}
 use Rattle.std.proofs.lemmas.Option.{same_Some}
 use Rattle.uid_names.specs.Names.{ObjectName}
+use Rattle.uid_names.specs.declared.limits.TheConstants.{MAX_ROOM, PAGE_BYTES}
 use Rattle.dom_history.specs.declared.deed.LockState.{LockState}
 use Rattle.dom_history.specs.declared.deed.LockState.TheVariants.{Free, Held, Taking, Releasing, Deleting}
 use Rattle.dom_history.specs.Locks.{is_held}
 use Rattle.dom_history.specs.Replies.{may_write}
 use Rattle.page_cache.specs.Caches.{Resident, is_page, page_at}
-use Rattle.page_cache.proofs.ListLemmas.{by_cases, count_by-cons_passes, count_by-cons_fails, count_by-none}
-use Rattle.fault_handler.specs.declared.entries.Entry.{Entry}
+use Rattle.uid_names.proofs.ListLemmas.{by_cases, count_by-cons_passes, count_by-cons_fails, count_by-none}
+use Rattle.fault_handler.specs.declared.entries.LockEntry.{LockEntry}
 use Rattle.fault_handler.specs.declared.transits.Transit.{Transit}
 use Rattle.fault_handler.specs.declared.tasks.Task.{Task}
 use Rattle.fault_handler.specs.declared.open_call.OpenCall.{OpenCall}
@@ -20,9 +21,9 @@ use Rattle.fault_handler.specs.Entries.{keeps, keeps_writing}
 use Rattle.fault_handler.specs.ShownPages.{fresh_page, changed_page, as_sent, settled, is_in_transit}
 use Rattle.fault_handler.specs.Transits.{is_moving, inward_count, outward_count, coming, going}
 use Rattle.fault_handler.specs.Tasks.{page_of}
-use Rattle.fault_handler.specs.Desks.{DeskState, at, put_at, entry_at, any_keeps, any_writes, call_of, task_of, moving_of, others_fetch, count_of}
+use Rattle.fault_handler.specs.Desks.{DeskState, at, put_at, entry_at, any_keeps, any_writes, open_call_of, task_of, moving_of, others_fetch, count_of}
 use Rattle.fault_handler.specs.Changes.{with_fetch, with_sent_page, with_eviction, with_arrival, with_loss, with_room_settled, with_page_done, page_done_by, page_done_of}
-use Rattle.fault_handler.specs.Kept.{IsProc, IsShownPage, ArePages, is_marked, is_dirty, FitsTransit, is_access, IsAllowed, KeepsAll, IsOpenTask, FitsOpen, IsDesk}
+use Rattle.fault_handler.specs.Invariant.{IsProc, IsShownPage, ArePages, is_marked, is_dirty, FitsTransit, is_access, IsAllowed, KeepsAll, IsOpenTask, FitsOpen, IsDesk}
 use Rattle.fault_handler.specs.Conditions.{IsIdle, IsAccessing, IsNotAccessing}
 use Rattle.fault_handler.proofs.Fours.{at-put_same, count_of-at, any-at, any-more, length-put}
 use Rattle.fault_handler.proofs.PageLists.{is_same, AreOnce, same-uid, same-page, found-uid, page_at-changed_same, count_by-changed_one}
@@ -36,7 +37,7 @@ there_is None some = absurd (cc)
 there_is (Some x) some = (x, refl)
 
 -- a process that keeps an object in a mode that writes keeps it
-pub keeps_writing-keeps : (o : Option Entry) → keeps_writing o ≡ true → keeps o ≡ true
+pub keeps_writing-keeps : (o : Option LockEntry) → keeps_writing o ≡ true → keeps o ≡ true
 keeps_writing-keeps None is = is
 keeps_writing-keeps (Some e) is = by_state e.state is
   where
@@ -47,11 +48,11 @@ keeps_writing-keeps (Some e) is = by_state e.state is
     by_state (Releasing m) is = is
     by_state Deleting is = is
 
-pub any_writes-keeps : (entries : List (List Entry)) (u : ObjectName) → any_writes entries u ≡ true → any_keeps entries u ≡ true
+pub any_writes-keeps : (entries : List (List LockEntry)) (u : ObjectName) → any_writes entries u ≡ true → any_keeps entries u ≡ true
 any_writes-keeps entries u = any-more (λ q. keeps_writing (entry_at entries q u)) (λ q. keeps (entry_at entries q u)) (λ q proc. keeps_writing-keeps (entry_at entries q u))
 
 -- a page that is settled is shown as before
-IsShownPage-settled : (entries : List (List Entry)) (taken : Bool) (r : Resident) → IsShownPage entries r → IsShownPage entries (settled taken r)
+IsShownPage-settled : (entries : List (List LockEntry)) (taken : Bool) (r : Resident) → IsShownPage entries r → IsShownPage entries (settled taken r)
 IsShownPage-settled entries taken r shown = record {
   page = shown.page;
   bytes = shown.bytes;
@@ -88,7 +89,7 @@ module _ (d : DeskState) (p : ℕ) (is : IsDesk d) (proc : IsProc p) where
   IsDesk-moved : (new : List Resident) (t : Option Transit) → ArePages new d.entries
       → d.cache.reserved + inward_count (moving_of d p) ≡ d.cache.reserved + inward_count t
       → count_by is_in_transit new + outward_count (moving_of d p) ≡ count_by is_in_transit d.cache.pages + outward_count t
-      → FitsTransit new d.entries p t → FitsOpen new d.entries p (is_access (call_of d p)) (task_of d p) t
+      → FitsTransit new d.entries p t → FitsOpen new d.entries p (is_access (open_call_of d p)) (task_of d p) t
       → ((q : ℕ) → IsProc q → q ≢ p → AreAlike d.cache.pages new (at d.moving q None))
       → ((q : ℕ) → IsProc q → q ≢ p → (v : ObjectName) (j : ℕ) → is_moving v j t ≡ true → is_moving v j (at d.moving q None) ≡ true → ⊥)
       → IsDesk (record d { cache = record d.cache { pages = new }; moving = put_at d.moving p t })
@@ -116,7 +117,7 @@ module _ (d : DeskState) (p : ℕ) (is : IsDesk d) (proc : IsProc p) where
 
   -- a process whose load or store is open keeps each object on which it is Held
   pub open_task : IsAccessing d p → (a : Task) × (m : Transit) × (task_of d p ≡ Some a) × (moving_of d p ≡ Some m) × IsOpenTask d.cache.pages d.entries p a m
-  open_task access = FitsOpen-task d.cache.pages d.entries p (is_access (call_of d p)) (task_of d p) (moving_of d p) (is_access-is (call_of d p) access) (is.calls p proc)
+  open_task access = FitsOpen-task d.cache.pages d.entries p (is_access (open_call_of d p)) (task_of d p) (moving_of d p) (is_access-is (open_call_of d p) access) (is.calls p proc)
 
   pub KeepsAll-open : IsAccessing d p → KeepsAll d.entries p
   KeepsAll-open access = (open_task access).4.keeping
@@ -124,9 +125,9 @@ module _ (d : DeskState) (p : ℕ) (is : IsDesk d) (proc : IsProc p) where
   -- one is open where a page comes
   pub IsAccessing-comes : (u : ObjectName) (k : ℕ) → moving_of d p ≡ coming u k → IsAccessing d p
   IsAccessing-comes u k comes =
-      access-is (call_of d p)
-      (FitsOpen-comes d.cache.pages d.entries p (is_access (call_of d p)) (task_of d p) (record { uid = u; page = k; inward = true }) refl
-      (subst (FitsOpen d.cache.pages d.entries p (is_access (call_of d p)) (task_of d p)) comes (is.calls p proc)))
+      access-is (open_call_of d p)
+      (FitsOpen-comes d.cache.pages d.entries p (is_access (open_call_of d p)) (task_of d p) (record { uid = u; page = k; inward = true }) refl
+      (subst (FitsOpen d.cache.pages d.entries p (is_access (open_call_of d p)) (task_of d p)) comes (is.calls p proc)))
 
   -- a process asks for the page of its load or store
   pub IsDesk-with_fetch : (task : Task) → IsIdle d p → page_at d.cache.pages task.uid (page_of task) ≡ None → others_fetch d.moving p task.uid (page_of task) ≡ false → IsAllowed d.entries p task → IsDesk (with_fetch d p task)
@@ -184,7 +185,7 @@ module _ (d : DeskState) (p : ℕ) (is : IsDesk d) (proc : IsProc p) where
       (ArePages-changed u k as_sent (λ v j r. refl) d.cache.pages d.entries is.pages (λ r found shown. IsShownPage-sent d.entries r shown))
       (inward ready) (outward ready)
       (sent-marked u k there, any-at (λ q. keeps (entry_at d.entries q u)) p proc keeping)
-      (FitsOpen-going d.cache.pages d.entries p (changed_page u k as_sent d.cache.pages) (is_access (call_of d p)) (task_of d p) (moving_of d p) u k (not_access (call_of d p) other) keeping (is.calls p proc))
+      (FitsOpen-going d.cache.pages d.entries p (changed_page u k as_sent d.cache.pages) (is_access (open_call_of d p)) (task_of d p) (moving_of d p) u k (not_access (open_call_of d p) other) keeping (is.calls p proc))
       (λ q proc_q differs v j moves. Alike-changed u k as_sent (λ v j r. refl) d.cache.pages (λ r h. refl) (λ r h. h) v j)
       (alone ready)
     where
@@ -227,7 +228,7 @@ module _ (d : DeskState) (p : ℕ) (is : IsDesk d) (proc : IsProc p) where
       (λ q other differs v j own moves. unmoved u k there still q other v j own moves)
 
   -- a page comes to the load or store that needs it
-  pub page-comes : (u : ObjectName) (k : ℕ) → moving_of d p ≡ coming u k → (a : Task) × (task_of d p ≡ Some a) × (a.uid ≡ u) × (page_of a ≡ k) × (k < 1024) × IsAllowed d.entries p a × KeepsAll d.entries p
+  pub page-comes : (u : ObjectName) (k : ℕ) → moving_of d p ≡ coming u k → (a : Task) × (task_of d p ≡ Some a) × (a.uid ≡ u) × (page_of a ≡ k) × (k < MAX_ROOM) × IsAllowed d.entries p a × KeepsAll d.entries p
   page-comes u k comes =
       let found = open_task (IsAccessing-comes u k comes) in
       let a = found.0 in
@@ -237,7 +238,7 @@ module _ (d : DeskState) (p : ℕ) (is : IsDesk d) (proc : IsProc p) where
       let needs : is_moving a.uid (page_of a) (Some m) ≡ true = found.4.comes (ap (λ (t : Transit). t.inward) is_m) in
       let uid : a.uid ≡ u = sym (moving-uid a.uid (page_of a) m needs) ∙ ap (λ (t : Transit). t.uid) is_m in
       let page : page_of a ≡ k = sym (moving-page a.uid (page_of a) m needs) ∙ ap (λ (t : Transit). t.page) is_m in
-      (a, found.2, uid, page, subst (λ (n : ℕ). n < 1024) page found.4.allowed.range.page, found.4.allowed, found.4.keeping)
+      (a, found.2, uid, page, subst (λ (n : ℕ). n < MAX_ROOM) page found.4.allowed.range.page, found.4.allowed, found.4.keeping)
 
   -- a frame is reserved for it
   pub reserved-least : (u : ObjectName) (k : ℕ) → moving_of d p ≡ coming u k → 1 ≤ d.cache.reserved
@@ -248,7 +249,7 @@ module _ (d : DeskState) (p : ℕ) (is : IsDesk d) (proc : IsProc p) where
       omega arith
 
   -- the page came that a load or store asked for
-  pub IsDesk-with_arrival : (u : ObjectName) (k : ℕ) (bytes : List ℕ) → moving_of d p ≡ coming u k → length bytes ≡ 1024 → IsDesk (with_arrival d p u k bytes)
+  pub IsDesk-with_arrival : (u : ObjectName) (k : ℕ) (bytes : List ℕ) → moving_of d p ≡ coming u k → length bytes ≡ PAGE_BYTES → IsDesk (with_arrival d p u k bytes)
   IsDesk-with_arrival u k bytes comes whole =
       IsDesk-opened (d.cache.reserved - 1) (fresh_page u k bytes ∷ d.cache.pages) None None None
       (record { once = once; each = shown })
@@ -321,14 +322,14 @@ module _ (d : DeskState) (p : ℕ) (is : IsDesk d) (proc : IsProc p) where
     pub IsDesk-with_page_done : IsNotAccessing d p → IsDesk (with_page_done d p u k taken)
     IsDesk-with_page_done other =
         IsDesk-moved (changed_page u k (settled taken) d.cache.pages) None ArePages-settled (rw goes refl) (let one = count_by-settled in rw goes (omega arith)) tt
-        (FitsOpen-still d.cache.pages d.entries p (changed_page u k (settled taken) d.cache.pages) (is_access (call_of d p)) (task_of d p) (moving_of d p) (not_access (call_of d p) other) (is.calls p proc))
+        (FitsOpen-still d.cache.pages d.entries p (changed_page u k (settled taken) d.cache.pages) (is_access (open_call_of d p)) (task_of d p) (moving_of d p) (not_access (open_call_of d p) other) (is.calls p proc))
         alike-settled
         (λ q other_q differs v j own moves. absurd (cc))
 
   -- a process of which no load or store is open moves a page home alone
   pub going-of : IsNotAccessing d p → (t : Transit) → moving_of d p ≡ Some t → moving_of d p ≡ going t.uid t.page
   going-of other t moves =
-      let away : t.inward ≡ false = FitsOpen-goes d.cache.pages d.entries p (is_access (call_of d p)) (task_of d p) t (not_access (call_of d p) other) (subst (FitsOpen d.cache.pages d.entries p (is_access (call_of d p)) (task_of d p)) moves (is.calls p proc)) in
+      let away : t.inward ≡ false = FitsOpen-goes d.cache.pages d.entries p (is_access (open_call_of d p)) (task_of d p) t (not_access (open_call_of d p) other) (subst (FitsOpen d.cache.pages d.entries p (is_access (open_call_of d p)) (task_of d p)) moves (is.calls p proc)) in
       moves ∙ (λ i. Some (record { uid = t.uid; page = t.page; inward = away i }))
 
   -- the transit of the page that a process sent home ended

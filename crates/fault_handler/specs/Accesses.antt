@@ -19,6 +19,7 @@ use Rattle.address_map.specs.Runs.{lowest_run}
 use Rattle.address_map.specs.Maps.{is_full, map_answer, mappings_after}
 use Rattle.ring_messages.specs.declared.body.Body.{Body}
 use Rattle.ring_messages.specs.declared.body.Body.TheVariants.{PageIn, PageOut}
+use Rattle.uid_names.specs.declared.limits.TheConstants.{PAGE_BYTES}
 use Rattle.fault_handler.specs.declared.tasks.Work.{Work}
 use Rattle.fault_handler.specs.declared.tasks.Work.TheVariants.{Load, Store}
 use Rattle.fault_handler.specs.declared.tasks.Task.{Task}
@@ -28,12 +29,12 @@ use Rattle.fault_handler.specs.Lengths.{known_of, room_of, length_of}
 use Rattle.fault_handler.specs.Entries.{grant_in}
 use Rattle.fault_handler.specs.Tasks.{page_of, start_of}
 use Rattle.fault_handler.specs.Desks.{DeskState, maps_of, state_of, entry_at, others_fetch, writing_grant, base_of}
+use Rattle.fault_handler.specs.Answered.{Answered}
 use Rattle.fault_handler.specs.Changes.{with_used, with_stored, with_dropped, with_end, with_fetch, with_eviction, with_maps}
 
--- the desk after a call, and the call's answer
-pub record Accessed : Type 0 where
-  pub desk : DeskState
-  pub answer : Access
+-- the desk after an access, and what it comes to
+abbrev pub Accessed : Type 0
+Accessed = Answered Access
 
 abbrev pub done : DeskState → Reply → Accessed
 done d reply = record { desk = d; answer = Hit reply [] }
@@ -119,7 +120,7 @@ store_by d p task true true false = page_access d p task
 abbrev pub store_at : DeskState → ℕ → List ℕ → Option (ObjectName × ℕ) → Accessed
 store_at d p bytes None = refused d NotMapped
 store_at d p bytes (Some (u, offset)) =
-    store_by d p (task_at u offset (Store bytes)) (is_held (state_of d p u)) (may_write (state_of d p u)) (nat_lt (1024 * room_of (known_of u d.known)) (offset + length bytes))
+    store_by d p (task_at u offset (Store bytes)) (is_held (state_of d p u)) (may_write (state_of d p u)) (nat_lt (PAGE_BYTES * room_of (known_of u d.known)) (offset + length bytes))
 
 abbrev pub length_by : DeskState → ObjectName → Bool → Accessed
 length_by d u false = refused d NoLock

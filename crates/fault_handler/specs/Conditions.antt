@@ -1,5 +1,5 @@
 -- The conditions of a desk's calls.
-use Rattle.std.specs.Prelude.{◌≡◌, ◌≢◌, ℕ, nat_lt, Bool, true, false, not, ◌&&◌, is_none, Option, Some, None, [], ◌∷◌, length}
+use Rattle.std.specs.Prelude.{◌≡◌, ◌≢◌, ℕ, nat_lt, Bool, true, false, not, ◌&&◌, is_none, Option, Some, None, [], ◌∷◌}
 use Rattle.uid_names.specs.Names.{ProcName, ObjectName}
 use Rattle.dom_history.specs.declared.op.Op.{Op}
 use Rattle.dom_history.specs.declared.op.Op.TheVariants.{Load, Store, Length, Map, Unmap}
@@ -10,7 +10,7 @@ use Rattle.fault_handler.specs.declared.transits.Transit.{Transit}
 use Rattle.fault_handler.specs.declared.open_call.OpenCall.{OpenCall}
 use Rattle.fault_handler.specs.declared.open_call.OpenCall.TheVariants.{Access}
 use Rattle.fault_handler.specs.Entries.{keeps, keeps_all}
-use Rattle.fault_handler.specs.Desks.{DeskState, state_of, entry_at, entries_of, call_of, moving_of, base_of}
+use Rattle.fault_handler.specs.Desks.{DeskState, state_of, entry_at, entries_of, open_call_of, moving_of, base_of}
 
 -- a process of the desk's node
 abbrev pub IsOf : DeskState → ProcName → Type 0
@@ -19,13 +19,13 @@ IsOf d p = p.node ≡ d.node
 -- a process that may begin an operation or go on with one: no call of it is open, it moves no page, and it keeps
 -- each object on which it is Held
 pub record IsIdle (d : DeskState) (p : ℕ) : Type 0 where
-  pub no_call : call_of d p ≡ None
+  pub no_call : open_call_of d p ≡ None
   pub no_page : moving_of d p ≡ None
   pub keeping : (u : ObjectName) → is_held (state_of d p u) ≡ true → keeps (entry_at d.entries p u) ≡ true
 
 -- the same as a test
 abbrev pub is_idle : DeskState → ℕ → Bool
-is_idle d p = is_none (call_of d p) && (is_none (moving_of d p) && keeps_all (entries_of d p))
+is_idle d p = is_none (open_call_of d p) && (is_none (moving_of d p) && keeps_all (entries_of d p))
 
 -- an operation that the process's own node answers, by its pages and mappings
 abbrev pub IsAccess : Op → Type 0
@@ -51,11 +51,11 @@ MayWantAt d t body = ⊥
 
 -- the open call of the process is that of a load or store
 abbrev pub IsAccessing : DeskState → ℕ → Type 0
-IsAccessing d p = call_of d p ≡ Some Access
+IsAccessing d p = open_call_of d p ≡ Some Access
 
 -- it is not
 abbrev pub IsNotAccessing : DeskState → ℕ → Type 0
-IsNotAccessing d p = call_of d p ≢ Some Access
+IsNotAccessing d p = open_call_of d p ≢ Some Access
 
 -- whether a body answers a page-in, where a page comes, or else a page-out
 abbrev pub fits_way : Bool → Body → Bool
@@ -68,11 +68,6 @@ fits_way inward _ = false
 abbrev pub fits_move : Option Transit → Body → Bool
 fits_move None body = false
 fits_move (Some t) body = fits_way t.inward body
-
--- a page that a frame brings is whole
-abbrev pub IsWhole : Body → Type 0
-IsWhole (Page stamp bytes) = length bytes ≡ 1024
-IsWhole body = Unit {0}
 
 -- a desk without pages, locks and mappings
 abbrev pub empty_desk : ℕ → ℕ → ℕ → DeskState

@@ -9,7 +9,7 @@ use Rattle.page_cache.specs.Numbers.{lesser}
 use Rattle.version_stamps.specs.declared.stamps.Stamp.{Stamp}
 use Rattle.version_stamps.specs.Stamps.{stamp_of}
 use Rattle.address_map.specs.declared.mapping.Mapping.{Mapping}
-use Rattle.fault_handler.specs.declared.entries.Entry.{Entry}
+use Rattle.fault_handler.specs.declared.entries.LockEntry.{LockEntry}
 use Rattle.fault_handler.specs.declared.lengths.Known.{Known}
 use Rattle.fault_handler.specs.declared.transits.Transit.{Transit}
 use Rattle.fault_handler.specs.declared.tasks.Task.{Task}
@@ -23,7 +23,7 @@ pub record DeskState : Type 0 where
   pub cache : Cached
   pub seen : List Stamp
   pub known : List Known
-  pub entries : List (List Entry)
+  pub entries : List (List LockEntry)
   pub maps : List (List Mapping)
   pub calls : List (Option OpenCall)
   pub tasks : List (Option Task)
@@ -41,14 +41,14 @@ at kept p none = slice_index_or kept (p - 1) none
 abbrev pub put_at : {A : Type 0} → List A → ℕ → A → List A
 put_at kept p new = slice_set kept (p - 1) new
 
-abbrev pub entries_of : DeskState → ℕ → List Entry
+abbrev pub entries_of : DeskState → ℕ → List LockEntry
 entries_of d p = at d.entries p []
 
 abbrev pub maps_of : DeskState → ℕ → List Mapping
 maps_of d p = at d.maps p []
 
-abbrev pub call_of : DeskState → ℕ → Option OpenCall
-call_of d p = at d.calls p None
+abbrev pub open_call_of : DeskState → ℕ → Option OpenCall
+open_call_of d p = at d.calls p None
 
 abbrev pub task_of : DeskState → ℕ → Option Task
 task_of d p = at d.tasks p None
@@ -61,33 +61,33 @@ abbrev pub state_of : DeskState → ℕ → ObjectName → LockState
 state_of d p u = state_in (entry_of u (entries_of d p))
 
 -- a process's entry of u
-abbrev pub entry_at : List (List Entry) → ℕ → ObjectName → Option Entry
+abbrev pub entry_at : List (List LockEntry) → ℕ → ObjectName → Option LockEntry
 entry_at entries p u = entry_of u (at entries p [])
 
 -- whether another process of the node keeps u
-abbrev pub others_keep : List (List Entry) → ℕ → ObjectName → Bool
+abbrev pub others_keep : List (List LockEntry) → ℕ → ObjectName → Bool
 others_keep entries p u = list_any (λ q. not (q == p) && keeps (entry_at entries q u)) procs
 
 -- whether a process of the node keeps u
-abbrev pub any_keeps : List (List Entry) → ObjectName → Bool
+abbrev pub any_keeps : List (List LockEntry) → ObjectName → Bool
 any_keeps entries u = list_any (λ q. keeps (entry_at entries q u)) procs
 
 -- whether a process of the node keeps u in a mode that writes
-abbrev pub any_writes : List (List Entry) → ObjectName → Bool
+abbrev pub any_writes : List (List LockEntry) → ObjectName → Bool
 any_writes entries u = list_any (λ q. keeps_writing (entry_at entries q u)) procs
 
 -- whether another process keeps u in a mode that writes
-abbrev pub others_write : List (List Entry) → ℕ → ObjectName → Bool
+abbrev pub others_write : List (List LockEntry) → ℕ → ObjectName → Bool
 others_write entries p u = list_any (λ q. not (q == p) && keeps_writing (entry_at entries q u)) procs
 
 -- the grant of the process with the lowest number, of these, that keeps u in a mode that writes
-abbrev pub grant_among : List (List Entry) → ObjectName → List ℕ → ℕ
+abbrev pub grant_among : List (List LockEntry) → ObjectName → List ℕ → ℕ
 grant_among entries u [] = 0
 grant_among entries u (q ∷ qs) =
     if keeps_writing (entry_at entries q u) then grant_in (entry_at entries q u) else grant_among entries u qs
 
 -- the grant under which the node writes u
-abbrev pub writing_grant : List (List Entry) → ObjectName → ℕ
+abbrev pub writing_grant : List (List LockEntry) → ObjectName → ℕ
 writing_grant entries u = grant_among entries u procs
 
 -- whether another process has this page in transit from its home

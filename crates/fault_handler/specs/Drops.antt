@@ -12,7 +12,7 @@ use Rattle.fault_handler.specs.declared.access.Access.TheVariants.{Hit, Need, Wa
 use Rattle.fault_handler.specs.declared.transits.Transit.{Transit}
 use Rattle.fault_handler.specs.Desks.{DeskState, moving_of, others_fetch}
 use Rattle.fault_handler.specs.Changes.{with_raised, with_room_settled}
-use Rattle.fault_handler.specs.Kept.{is_marked, is_dirty}
+use Rattle.fault_handler.specs.Invariant.{is_marked, is_dirty}
 
 -- the pages that a call dropped
 abbrev pub dropped_in : Access → List (ObjectName × ℕ)

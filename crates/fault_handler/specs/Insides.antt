@@ -1,4 +1,4 @@
--- The desk that its parts stand for.
+-- The desk that its private parts stand for: the view of a desk, which no clause cites.
 use Rattle.fault_handler.specs.Desks.{DeskState}
 use Rattle.fault_handler.specs.declared.desk.Desk.TheInside.{Inside}
 

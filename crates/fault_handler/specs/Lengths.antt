@@ -1,37 +1,20 @@
 -- What a node knows of the objects that its processes locked: one row of each, the objects rising.
-use Rattle.std.specs.Prelude.{ℕ, Bool, true, false, not, nat_lt, ◌==◌, Option, Some, None, List, find, filter}
-use Rattle.std.specs.List.{prefix_len}
-use Rattle.uid_names.specs.Names.{ObjectName, same_uid, uid_lt}
-use Rattle.uid_names.specs.InOrder.{AreInOrder, put_in_order}
+use Rattle.std.specs.Prelude.{ℕ, Bool, true, false, nat_lt, ◌==◌, Option, Some, None, List}
+use Rattle.uid_names.specs.Names.{ObjectName}
+use Rattle.uid_names.specs.Tables.{row_of, with_row}
 use Rattle.fault_handler.specs.declared.lengths.Known.{Known}
 
--- the order of rows: by object
-abbrev pub known_lt : Known → Known → Bool
-known_lt a b = uid_lt a.uid b.uid
-
--- each object comes before those of the later rows
-abbrev pub AreRising : List Known → Type 0
-AreRising = AreInOrder known_lt
-
--- the row is of u
-abbrev pub is_known_of : ObjectName → Known → Bool
-is_known_of u row = same_uid u row.uid
-
--- how many rows stand before that of u
-abbrev pub place_of : ObjectName → List Known → ℕ
-place_of u rows = prefix_len (λ row. uid_lt row.uid u) rows
+-- the object of a row
+abbrev pub known_name : Known → ObjectName
+known_name row = row.uid
 
 -- the row of u
 abbrev pub known_of : ObjectName → List Known → Option Known
-known_of u rows = find (is_known_of u) rows
-
--- rows without that of u
-abbrev pub without_known : ObjectName → List Known → List Known
-without_known u rows = filter (λ row. not (is_known_of u row)) rows
+known_of u rows = row_of known_name u rows
 
 -- rows in order, with this one in the place of that of its object
 abbrev pub with_known : Known → List Known → List Known
-with_known new rows = put_in_order known_lt new (without_known new.uid rows)
+with_known new rows = with_row known_name new rows
 
 abbrev pub room_of : Option Known → ℕ
 room_of None = 0

@@ -4,11 +4,13 @@ pub mod ShownPages
 pub mod Transits
 pub mod Tasks
 pub mod Desks
+pub mod Answered
 pub mod Changes
 pub mod Accesses
 pub mod PageReplies
-pub mod Kept
+pub mod Invariant
 pub mod Conditions
 pub mod Outcomes
 pub mod Drops
+pub mod Unseen
 pub mod Insides

@@ -10,12 +10,7 @@ use Rattle.fault_handler.specs.declared.tasks.Work.TheVariants.{Load, Store}
 use Rattle.fault_handler.specs.declared.access.Access.{Access}
 use Rattle.fault_handler.specs.declared.access.Access.TheVariants.{Hit, Need, Wait, Refuse}
 use Rattle.fault_handler.specs.Desks.{DeskState}
-use Rattle.fault_handler.specs.Accesses.{Accessed}
 use Rattle.fault_handler.specs.Conditions.{IsIdle, IsAccessing}
-
--- the call's desk and answer are those of the definition
-abbrev pub Gives : DeskState → Accessed → Access → Type 0
-Gives new outcome answer = outcome ≡ record { desk = new; answer = answer }
 
 -- a reply is one that the operation can have
 abbrev pub FitsAnswer : Op → Access → Type 0

@@ -3,14 +3,8 @@
 use Rattle.std.specs.Prelude.{ℕ, Bool, true, false, not, ◌&&◌, List, map}
 use Rattle.uid_names.specs.Names.{ObjectName}
 use Rattle.page_frames.specs.Pools.{no_flags}
-use Rattle.page_cache.specs.Caches.{Resident, Cached, is_page}
+use Rattle.page_cache.specs.Caches.{Resident, is_page}
 use Rattle.page_cache.specs.Changes.{changed_if, spliced, used}
-
-abbrev pub unframed : Resident → Resident
-unframed r = record r { frame = 0 }
-
-abbrev pub shown : Cached → Cached
-shown c = record c { pages = map unframed c.pages }
 
 -- a page as it comes from its home
 abbrev pub fresh_page : ObjectName → ℕ → List ℕ → Resident

@@ -7,8 +7,8 @@ ghost use Rattle.page_cache.specs.Numbers.{dirty_page};
 ghost use Rattle.version_stamps.specs.Stamps.{stamp_of};
 ghost use Rattle.fault_handler.specs.Lengths.{known_of, changed_length, length_of, room_of};
 ghost use Rattle.fault_handler.specs.Entries.{grant_in};
-ghost use Rattle.fault_handler.specs.Desks.{entries_of, state_of, entry_at, call_of, others_keep, other_transit};
-ghost use Rattle.fault_handler.specs.Kept.{IsProc, IsDesk};
+ghost use Rattle.fault_handler.specs.Desks.{entries_of, state_of, entry_at, open_call_of, others_keep, other_transit};
+ghost use Rattle.fault_handler.specs.Invariant.{IsProc, IsDesk};
 ghost use Rattle.fault_handler.specs.Conditions.{IsOf, IsIdle, is_idle, empty_desk, held_grant};
 
 mod accesses;
@@ -17,17 +17,19 @@ mod changes;
 mod replies;
 
 use crate::entries::EntryTable;
-use crate::four::{PROCESSES, index_of, other_transit, others_keep};
-use crate::lengths::KnownTable;
+use crate::four::{index_of, other_transit, others_keep};
+use crate::lengths::Known;
 use crate::open_call::OpenCall;
-use crate::pages::Pages;
+use crate::pages::ResidentPages;
 use crate::tasks::Task;
 use crate::transits::Transit;
 use address_map::AddressMap;
 use dom_history::LockState;
 use std::alloc::Global;
 use std::marker::Model;
-use uid_names::{NoMemory, NodeId, ProcId, Uid};
+use uid_names::{
+    MAX_NODES, NODE_PROCESSES, NoMemory, NodeId, PROCESS_LOCKS, ProcId, Uid, UidTable,
+};
 use version_stamps::Seen;
 
 /// The desk of a node: its cached pages, the stamps that it has seen, what it knows of objects, and
@@ -38,14 +40,14 @@ pub struct Desk {
     alloc: Global,
     node: NodeId,
     nodes: u8,
-    pages: Pages,
+    pages: ResidentPages,
     seen: Seen,
-    known: KnownTable,
-    entries: [EntryTable; PROCESSES],
-    maps: [AddressMap; PROCESSES],
-    calls: [Option<OpenCall>; PROCESSES],
-    tasks: [Option<Task>; PROCESSES],
-    moving: [Option<Transit>; PROCESSES],
+    known: UidTable<Known>,
+    entries: [EntryTable; NODE_PROCESSES],
+    maps: [AddressMap; NODE_PROCESSES],
+    calls: [Option<OpenCall>; NODE_PROCESSES],
+    tasks: [Option<Task>; NODE_PROCESSES],
+    moving: [Option<Transit>; NODE_PROCESSES],
 }
 
 impl Model for Desk {
@@ -54,7 +56,7 @@ impl Model for Desk {
     ghost Value = { DeskState };
 
     ghost use Rattle.fault_handler.specs.Insides.{desk_of};
-    ghost use Rattle.fault_handler.specs.Kept.{IsDesk};
+    ghost use Rattle.fault_handler.specs.Invariant.{IsDesk};
 
     ghost view = { desk_of };
 
@@ -65,19 +67,19 @@ impl Desk {
     /// The desk of a node, of so many nodes, with so many page frames: no page, no lock, no mapping.
     pub fn new(alloc: Global, node: NodeId, nodes: u8, frames: u16) -> Result<Desk, NoMemory>
         requires nodes_low { 1 ≤ nodes }
-        requires nodes_high { nodes ≤ 8 }
+        requires nodes_high { nodes ≤ MAX_NODES }
         requires frames_low { 5 ≤ frames }
         requires frames_high { frames ≤ 256 }
         ensures { IfOk result (λ desk. desk ≡ empty_desk node nodes frames) }
     {
-        let pages = Pages::new(alloc, frames)?;
+        let pages = ResidentPages::new(alloc, frames)?;
         Ok(Desk {
             alloc,
             node,
             nodes,
             pages,
             seen: Seen::new(alloc),
-            known: KnownTable::new(alloc),
+            known: UidTable::new(alloc),
             entries: [
                 EntryTable::new(alloc)?,
                 EntryTable::new(alloc)?,
@@ -90,9 +92,9 @@ impl Desk {
                 AddressMap::new(alloc)?,
                 AddressMap::new(alloc)?,
             ],
-            calls: [None; PROCESSES],
+            calls: [None; NODE_PROCESSES],
             tasks: [None, None, None, None],
-            moving: [None; PROCESSES],
+            moving: [None; NODE_PROCESSES],
         })
     }
 
@@ -141,7 +143,7 @@ impl Desk {
     pub fn not_free(&self, proc: ProcId) -> u8
         requires { IsOf self.now proc }
         ensures count { result ≡ length (entries_of self.now proc.number) }
-        ensures few { result ≤ 8 }
+        ensures few { result ≤ PROCESS_LOCKS }
     {
         self.entries[index_of(proc)].count()
     }
@@ -204,7 +206,7 @@ impl Desk {
     /// A process's open call. Takes no memory.
     pub fn open_call(&self, proc: ProcId) -> Option<OpenCall>
         requires { IsOf self.now proc }
-        ensures value { result ≡ call_of self.now proc.number }
+        ensures value { result ≡ open_call_of self.now proc.number }
         ensures kept { IsDesk self.now }
     {
         self.calls[index_of(proc)]

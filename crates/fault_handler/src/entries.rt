@@ -6,14 +6,11 @@ ghost use Rattle.fault_handler.specs.Entries.{entry_of, state_in, grant_in, keep
 use dom_history::LockState;
 use std::alloc::Global;
 use std::marker::Model;
-use uid_names::{NoMemory, Uid};
-
-/// On how many objects a process is not Free at most.
-pub const MAX_ENTRIES: usize = 8;
+use uid_names::{NoMemory, PROCESS_LOCKS, Uid};
 
 /// An object on which a process is not Free.
 #[derive(Clone, Copy, Debug, PartialEq, Eq)]
-pub struct Entry {
+pub struct LockEntry {
     pub uid: Uid,
     pub state: LockState,
     /// The number of the grant, where the state is Held.
@@ -23,7 +20,7 @@ pub struct Entry {
 }
 
 /// The entry of an object.
-fn entry_of(entries: &[Entry], uid: Uid) -> Option<Entry>
+fn entry_of(entries: &[LockEntry], uid: Uid) -> Option<LockEntry>
     ensures { result ≡ entry_of uid entries.now }
 {
     for entry in entries {
@@ -35,7 +32,7 @@ fn entry_of(entries: &[Entry], uid: Uid) -> Option<Entry>
 }
 
 /// The release or the removal of an object was sent.
-fn note(entries: &mut [Entry], uid: Uid)
+fn note(entries: &mut [LockEntry], uid: Uid)
     ensures { entries.new ≡ entries_noted uid entries.old }
 {
     for entry in entries.iter_mut() {
@@ -48,19 +45,19 @@ fn note(entries: &mut [Entry], uid: Uid)
 /// The objects on which a process is not Free, in the order in which their states were set.
 #[derive(Drop, Debug)]
 pub struct EntryTable {
-    items: Vec<Entry>,
+    items: Vec<LockEntry>,
 }
 
 impl Model for EntryTable {
     ghost use Rattle.std.specs.Prelude.{◌≤◌, List, length, vec_capacity};
-    ghost use Rattle.fault_handler.specs.declared.entries.Entry.{Entry};
-    ghost use Rattle.fault_handler.specs.declared.entries.TheConstants.{MAX_ENTRIES};
+    ghost use Rattle.fault_handler.specs.declared.entries.LockEntry.{LockEntry};
+    ghost use Rattle.uid_names.specs.declared.limits.TheConstants.{PROCESS_LOCKS};
 
-    ghost Value = { List Entry };
+    ghost Value = { List LockEntry };
 
     ghost view = { λ t. t.items.items };
 
-    ghost invariant = { λ t. (length t.items.items ≤ MAX_ENTRIES) × (MAX_ENTRIES ≤ vec_capacity t.items) };
+    ghost invariant = { λ t. (length t.items.items ≤ PROCESS_LOCKS) × (PROCESS_LOCKS ≤ vec_capacity t.items) };
 }
 
 impl EntryTable {
@@ -68,12 +65,12 @@ impl EntryTable {
     pub fn new(alloc: Global) -> Result<EntryTable, NoMemory>
         ensures { IfOk result (λ table. table ≡ []) }
     {
-        let items = Vec::with_capacity(alloc, MAX_ENTRIES)?;
+        let items = Vec::with_capacity(alloc, PROCESS_LOCKS)?;
         Ok(EntryTable { items })
     }
 
     /// The entry of an object; None where the process is Free on it. Takes no memory.
-    pub fn find(&self, uid: Uid) -> Option<Entry>
+    pub fn find(&self, uid: Uid) -> Option<LockEntry>
         ensures { result ≡ entry_of uid self.now }
     {
         entry_of(self.items.as_slice(), uid)
@@ -132,14 +129,14 @@ impl EntryTable {
     /// On how many objects the process is not Free, at most eight. Takes no memory.
     pub fn count(&self) -> u8
         ensures count { result ≡ length self.now }
-        ensures few { result ≤ MAX_ENTRIES }
+        ensures few { result ≤ PROCESS_LOCKS }
     {
         self.items.len() as u8
     }
 
     /// Sets the entry of an object. Takes no memory.
-    pub fn set(&mut self, entry: Entry)
-        requires { IsSome (entry_of entry.uid self.old) ⊎ (length self.old < MAX_ENTRIES) }
+    pub fn set(&mut self, entry: LockEntry)
+        requires { IsSome (entry_of entry.uid self.old) ⊎ (length self.old < PROCESS_LOCKS) }
         ensures { self.new ≡ entries_with entry self.old }
     {
         self.remove(entry.uid);
@@ -153,14 +150,14 @@ impl EntryTable {
     /// The process is Free on an object. Takes no memory.
     pub fn remove(&mut self, uid: Uid)
         ensures others { self.new ≡ entries_without uid self.old }
-        ensures few { length self.old ≤ MAX_ENTRIES }
+        ensures few { length self.old ≤ PROCESS_LOCKS }
     {
         self.items.retain(|other| !uid.is(other.uid));
     }
 
     /// Sets the state on an object, with the grant where it is Held. Takes no memory.
     pub fn set_state(&mut self, uid: Uid, state: LockState, grant: u64)
-        requires { (is_free state ≡ true) ⊎ IsSome (entry_of uid self.old) ⊎ (length self.old < MAX_ENTRIES) }
+        requires { (is_free state ≡ true) ⊎ IsSome (entry_of uid self.old) ⊎ (length self.old < PROCESS_LOCKS) }
         ensures { self.new ≡ entries_after uid state grant self.old }
     {
         match state {
@@ -168,7 +165,7 @@ impl EntryTable {
             LockState::Held(_)
             | LockState::Taking(_)
             | LockState::Releasing(_)
-            | LockState::Deleting => self.set(Entry {
+            | LockState::Deleting => self.set(LockEntry {
                 uid,
                 state,
                 grant,

@@ -3,26 +3,26 @@ ghost use Rattle.std.specs.Prelude.{◌≡◌, ◌+◌, ◌<◌, ◌≤◌, ◌=
 ghost use Rattle.page_cache.specs.Numbers.{lesser};
 ghost use Rattle.fault_handler.specs.Entries.{keeps, keeps_writing, grant_in};
 ghost use Rattle.fault_handler.specs.Transits.{is_coming, moved_page};
-ghost use Rattle.fault_handler.specs.Kept.{IsProc};
+ghost use Rattle.fault_handler.specs.Invariant.{IsProc};
 ghost use Rattle.fault_handler.specs.Desks.{at, entry_at, others_keep, any_keeps, others_fetch, writing_grant, other_transit};
 
 use crate::entries::EntryTable;
 use crate::transits::Transit;
-use uid_names::{ProcId, Uid};
-
-/// How many processes a node has.
-pub const PROCESSES: usize = 4;
+use uid_names::{NODE_PROCESSES, ProcId, Uid};
 
 /// Where a process's own stands.
 pub(crate) fn index_of(proc: ProcId) -> usize
     ensures value { result + 1 ≡ proc.number }
-    ensures bound { result < 4 }
+    ensures bound { result < NODE_PROCESSES }
 {
     usize::from(proc.number()) - 1
 }
 
 /// The page that a process moves.
-pub(crate) fn transit_of(moving: &[Option<Transit>; PROCESSES], proc: ProcId) -> Option<Transit>
+pub(crate) fn transit_of(
+    moving: &[Option<Transit>; NODE_PROCESSES],
+    proc: ProcId,
+) -> Option<Transit>
     ensures value { result ≡ at moving.now proc.number None }
     ensures process { IsProc proc.number }
 {
@@ -30,16 +30,16 @@ pub(crate) fn transit_of(moving: &[Option<Transit>; PROCESSES], proc: ProcId) ->
 }
 
 /// Whether process q, unless it is p, keeps an object.
-fn keeps_beside(entries: &[EntryTable; PROCESSES], q: u8, p: u8, uid: Uid) -> bool
+fn keeps_beside(entries: &[EntryTable; NODE_PROCESSES], q: u8, p: u8, uid: Uid) -> bool
     requires least { 1 ≤ q }
-    requires most { q ≤ 4 }
+    requires most { q ≤ NODE_PROCESSES }
     ensures { result ≡ (not (q == p) && keeps (entry_at entries.now q uid)) }
 {
     q != p && entries[usize::from(q) - 1].keeps(uid)
 }
 
 /// Whether a process other than p keeps an object.
-pub(crate) fn others_keep(entries: &[EntryTable; PROCESSES], p: u8, uid: Uid) -> bool
+pub(crate) fn others_keep(entries: &[EntryTable; NODE_PROCESSES], p: u8, uid: Uid) -> bool
     ensures { result ≡ others_keep entries.now p uid }
 {
     keeps_beside(entries, 1, p, uid)
@@ -49,9 +49,9 @@ pub(crate) fn others_keep(entries: &[EntryTable; PROCESSES], p: u8, uid: Uid) ->
 }
 
 /// The grant of process q, where it keeps an object in a mode that writes; else the one that is given.
-fn grant_from(entries: &[EntryTable; PROCESSES], q: u8, uid: Uid, other: u64) -> u64
+fn grant_from(entries: &[EntryTable; NODE_PROCESSES], q: u8, uid: Uid, other: u64) -> u64
     requires least { 1 ≤ q }
-    requires most { q ≤ 4 }
+    requires most { q ≤ NODE_PROCESSES }
     ensures { result
         ≡ (if keeps_writing (entry_at entries.now q uid) then grant_in (entry_at entries.now q uid) else other) }
 {
@@ -64,7 +64,7 @@ fn grant_from(entries: &[EntryTable; PROCESSES], q: u8, uid: Uid, other: u64) ->
 }
 
 /// The grant under which the node writes an object.
-pub(crate) fn writing_grant(entries: &[EntryTable; PROCESSES], uid: Uid) -> u64
+pub(crate) fn writing_grant(entries: &[EntryTable; NODE_PROCESSES], uid: Uid) -> u64
     ensures { result ≡ writing_grant entries.now uid }
 {
     let fourth = grant_from(entries, 4, uid, 0);
@@ -74,9 +74,15 @@ pub(crate) fn writing_grant(entries: &[EntryTable; PROCESSES], uid: Uid) -> u64
 }
 
 /// Whether process q, unless it is p, has a page in transit from its home.
-fn fetches_beside(moving: &[Option<Transit>; PROCESSES], q: u8, p: u8, uid: Uid, page: u32) -> bool
+fn fetches_beside(
+    moving: &[Option<Transit>; NODE_PROCESSES],
+    q: u8,
+    p: u8,
+    uid: Uid,
+    page: u32,
+) -> bool
     requires least { 1 ≤ q }
-    requires most { q ≤ 4 }
+    requires most { q ≤ NODE_PROCESSES }
     ensures { result ≡ (not (q == p) && is_coming uid page (at moving.now q None)) }
 {
     if q == p {
@@ -90,7 +96,7 @@ fn fetches_beside(moving: &[Option<Transit>; PROCESSES], q: u8, p: u8, uid: Uid,
 
 /// Whether a process other than p has a page in transit from its home.
 pub(crate) fn others_fetch(
-    moving: &[Option<Transit>; PROCESSES],
+    moving: &[Option<Transit>; NODE_PROCESSES],
     p: u8,
     uid: Uid,
     page: u32,
@@ -105,14 +111,14 @@ pub(crate) fn others_fetch(
 
 /// The lower of a page and that of the object which process q, unless it is p, has in transit.
 fn lower_beside(
-    moving: &[Option<Transit>; PROCESSES],
+    moving: &[Option<Transit>; NODE_PROCESSES],
     q: u8,
     p: u8,
     uid: Uid,
     other: Option<u32>,
 ) -> Option<u32>
     requires least { 1 ≤ q }
-    requires most { q ≤ 4 }
+    requires most { q ≤ NODE_PROCESSES }
     ensures { result ≡ lesser (if q == p then None else moved_page uid (at moving.now q None)) other }
 {
     if q == p {
@@ -128,7 +134,11 @@ fn lower_beside(
 }
 
 /// The lowest page of an object that a process other than p has in transit.
-pub(crate) fn other_transit(moving: &[Option<Transit>; PROCESSES], p: u8, uid: Uid) -> Option<u32>
+pub(crate) fn other_transit(
+    moving: &[Option<Transit>; NODE_PROCESSES],
+    p: u8,
+    uid: Uid,
+) -> Option<u32>
     ensures { result ≡ other_transit moving.now p uid }
 {
     let fourth = lower_beside(moving, 4, p, uid, None);

@@ -11,8 +11,8 @@ ghost use Rattle.fault_handler.specs.Transits.{going};
 ghost use Rattle.fault_handler.specs.Desks.{DeskState, any_writes, moving_of, task_of};
 ghost use Rattle.fault_handler.specs.Accesses.{access_of};
 ghost use Rattle.fault_handler.specs.PageReplies.{page_came_of, access_failed_of};
-ghost use Rattle.fault_handler.specs.Kept.{IsProc, is_dirty, is_marked, AreApart, IsDesk};
-ghost use Rattle.fault_handler.specs.Conditions.{IsIdle, IsAccess, IsAccessing, IsWhole, fits_move};
+ghost use Rattle.fault_handler.specs.Invariant.{IsProc, is_dirty, is_marked, AreApart, IsDesk};
+ghost use Rattle.fault_handler.specs.Conditions.{IsIdle, IsAccess, IsAccessing, fits_move};
 ghost use Rattle.fault_handler.specs.Outcomes.{FitsAnswer, FitsWork, IsAsked, AfterAccess};
 ghost use Rattle.fault_handler.specs.Drops.{dropped_in, DropsOnly, MayDrop, anew_of, WaitsFor};
 
@@ -52,14 +52,14 @@ pub fn an_access_leaves_a_desk()
 /// So does each answer to its call that a home might give, which never leads to a refusal.
 pub fn an_answer_leaves_a_desk()
     ensures desk { (d : DeskState) (p to : ℕ) (body : Body) → IsDesk d → IsProc p → IsAccessing d p →
-        fits_move (moving_of d p) body ≡ true → IsBody to body → IsWhole body → IsDesk (page_came_of d p body).desk }
+        fits_move (moving_of d p) body ≡ true → IsBody to body → IsDesk (page_came_of d p body).desk }
     ensures asks { (d : DeskState) (p to : ℕ) (body : Body) → IsDesk d → IsProc p → IsAccessing d p →
-        fits_move (moving_of d p) body ≡ true → IsBody to body → IsWhole body → IsAsked (page_came_of d p body).answer }
+        fits_move (moving_of d p) body ≡ true → IsBody to body → IsAsked (page_came_of d p body).answer }
     ensures next { (d : DeskState) (p to : ℕ) (body : Body) → IsDesk d → IsProc p → IsAccessing d p →
-        fits_move (moving_of d p) body ≡ true → IsBody to body → IsWhole body →
+        fits_move (moving_of d p) body ≡ true → IsBody to body →
         AfterAccess (page_came_of d p body).desk p (page_came_of d p body).answer }
     ensures fits { (d : DeskState) (p to : ℕ) (body : Body) → IsDesk d → IsProc p → IsAccessing d p →
-        fits_move (moving_of d p) body ≡ true → IsBody to body → IsWhole body →
+        fits_move (moving_of d p) body ≡ true → IsBody to body →
         IfSome (task_of d p) (λ task. FitsWork task.work (page_came_of d p body).answer) }
 {}
 

@@ -12,7 +12,7 @@ use page_cache::{Cache, PageList};
 use page_frames::{Flags, FrameNo};
 use std::alloc::Global;
 use std::marker::Model;
-use uid_names::{ByteList, NoMemory, Uid};
+use uid_names::{ByteList, NoMemory, PAGE_BYTES, Uid};
 
 /// The frame of a resident page.
 fn frame_of(cache: &Cache, uid: Uid, page: u32) -> FrameNo
@@ -42,28 +42,28 @@ fn settled_flags(flags: Flags, taken: bool) -> Flags
 
 /// The resident pages, the last used first, and the reserved frames.
 #[derive(Drop)]
-pub(crate) struct Pages {
+pub(crate) struct ResidentPages {
     cache: Cache,
 }
 
-impl Model for Pages {
+impl Model for ResidentPages {
     ghost use Rattle.page_cache.specs.Caches.{Cached};
-    ghost use Rattle.fault_handler.specs.ShownPages.{shown};
+    ghost use Rattle.fault_handler.specs.Unseen.{shown};
 
     ghost Value = { Cached };
 
     ghost view = { λ p. shown p.cache };
 }
 
-impl Pages {
+impl ResidentPages {
     /// No page is resident, and no frame is reserved.
-    pub(crate) fn new(alloc: Global, frames: u16) -> Result<Pages, NoMemory>
+    pub(crate) fn new(alloc: Global, frames: u16) -> Result<ResidentPages, NoMemory>
         requires few { 5 ≤ frames }
         requires many { frames ≤ 256 }
         ensures { IfOk result (λ pages. pages ≡ record { frames = frames; reserved = 0; pages = [] }) }
     {
         let cache = Cache::new(alloc, frames)?;
-        Ok(Pages { cache })
+        Ok(ResidentPages { cache })
     }
 
     /// How many frames are neither taken nor reserved.
@@ -94,7 +94,7 @@ impl Pages {
         count: u32,
     ) -> Result<ByteList, NoMemory>
         requires resident { IsResident self.now.pages uid page }
-        requires within { start + count ≤ 1024 }
+        requires within { start + count ≤ PAGE_BYTES }
         ensures bytes { IfOk result (λ bytes. option_map (λ r. take count (drop start r.bytes)) (page_at self.now.pages uid page) ≡ Some bytes) }
         ensures size { IfOk result (λ bytes. length bytes ≡ count) }
     {
@@ -103,7 +103,7 @@ impl Pages {
     }
 
     /// The bytes of a resident page.
-    pub(crate) fn bytes(&self, uid: Uid, page: u32) -> [u8; 1024]
+    pub(crate) fn bytes(&self, uid: Uid, page: u32) -> [u8; PAGE_BYTES]
         requires { IsResident self.now.pages uid page }
         ensures { option_map (λ r. r.bytes) (page_at self.now.pages uid page) ≡ Some result }
     {
@@ -121,7 +121,7 @@ impl Pages {
     /// Stores bytes in a resident page, which becomes the last used one.
     pub(crate) fn store(&mut self, uid: Uid, page: u32, start: u32, bytes: &[u8])
         requires resident { IsResident self.old.pages uid page }
-        requires within { start + length bytes.now ≤ 1024 }
+        requires within { start + length bytes.now ≤ PAGE_BYTES }
         ensures { self.new ≡ record self.old { pages = stored uid page start bytes.now self.old.pages } }
     {
         self.cache.touch(uid, page);
@@ -187,7 +187,7 @@ impl Pages {
         &mut self,
         uid: Uid,
         page: u32,
-        bytes: &[u8; 1024],
+        bytes: &[u8; PAGE_BYTES],
     ) -> Result<(), NoMemory>
         requires reserved { 0 < self.old.reserved }
         requires absent { page_at self.old.pages uid page ≡ None }

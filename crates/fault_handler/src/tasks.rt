@@ -1,21 +1,19 @@
 //! Loads and stores at their places.
 ghost use Rattle.std.specs.Prelude.{◌≡◌, ◌+◌, ◌≤◌, IfOk, length, take, drop};
-ghost use Rattle.fault_handler.specs.Tasks.{page_of, start_of, size_of, loaded_from};
+ghost use Rattle.fault_handler.specs.Tasks.{page_of, start_of, size_of};
+ghost use Rattle.fault_handler.specs.Unseen.{loaded_from};
 
 use std::alloc::Global;
-use uid_names::{ByteList, NoMemory, Uid};
-
-/// How many bytes a page has.
-pub const PAGE_BYTES: u32 = 1024;
+use uid_names::{ByteList, NoMemory, PAGE_BYTES, Uid};
 
 /// So many bytes of a page, from one on.
 pub(crate) fn part(
     alloc: Global,
-    page: &[u8; 1024],
+    page: &[u8; PAGE_BYTES],
     start: u32,
     count: u32,
 ) -> Result<ByteList, NoMemory>
-    requires { start + count ≤ 1024 }
+    requires { start + count ≤ PAGE_BYTES }
     ensures bytes { IfOk result (λ bytes. bytes ≡ take count (drop start page.now)) }
     ensures size { IfOk result (λ bytes. length bytes ≡ count) }
 {
@@ -43,23 +41,23 @@ impl Task {
     pub fn page(&self) -> u32
         ensures { result ≡ page_of self.now }
     {
-        self.offset / PAGE_BYTES
+        self.offset / PAGE_BYTES as u32
     }
 
     /// Where it begins in that page.
     pub fn start(&self) -> u32
         ensures { result ≡ start_of self.now }
     {
-        self.offset % PAGE_BYTES
+        self.offset % PAGE_BYTES as u32
     }
 
     /// The bytes that a load takes from its page; None of a store.
     pub(crate) fn loaded(
         &self,
         alloc: Global,
-        page: &[u8; 1024],
+        page: &[u8; PAGE_BYTES],
     ) -> Result<Option<ByteList>, NoMemory>
-        requires { start_of self.now + size_of self.now.work ≤ 1024 }
+        requires { start_of self.now + size_of self.now.work ≤ PAGE_BYTES }
         ensures { IfOk result (λ loaded. loaded ≡ loaded_from page.now (start_of self.now) self.now.work) }
     {
         match &self.work {

@@ -1,23 +1,28 @@
 //! What each call of a desk comes to, met once, as one sees it from outside.
 ghost use Rattle.std.specs.Prelude.{◌≡◌, ℕ, false, IfOk};
 ghost use Rattle.std.specs.Bool.{OnTrue};
-ghost use Rattle.dom_history.specs.Ranges.{IsOp};
+ghost use Rattle.uid_names.specs.Names.{IsName};
+ghost use Rattle.dom_history.specs.Ranges.{IsOp, IsSpot};
 ghost use Rattle.page_cache.specs.Caches.{page_at};
 ghost use Rattle.ring_messages.specs.Ranges.{IsBody};
-ghost use Rattle.fault_handler.specs.Kept.{is_marked, is_dirty};
+ghost use Rattle.fault_handler.specs.Invariant.{is_marked, is_dirty};
 ghost use Rattle.fault_handler.specs.Conditions.{IsOf, IsIdle, IsAccess, empty_desk};
 
 use super::*;
-use crate::tasks::PAGE_BYTES;
 use dom_history::{Op, Reply, Spot};
 use ring_messages::Body;
 use std::process::Abort;
 use std::test::Fail;
-use uid_names::{ByteList, MAX_ROOM, Mode, NodeId, ProcId, Uid};
+use uid_names::{
+    ByteList, MAX_LENGTH, MAX_ROOM, Mode, NodeId, PAGE_BYTES, PROCESS_LOCKS, ProcId, Uid,
+};
 
 mod accesses;
 mod answers;
 mod calls;
+
+/// Where the second page of an object begins.
+const PAGE: u32 = PAGE_BYTES as u32;
 
 /// Why an access is refused.
 #[derive(Clone, Copy, Debug, PartialEq, Eq)]
@@ -165,6 +170,15 @@ fn object(counter: u64) -> Result<Uid, Fail> {
     Ok(Uid::from_parts(counter % 1000 + 1, home))
 }
 
+/// An object, which is a name.
+fn named(uid: Uid) -> Uid
+    ensures same { result ≡ uid }
+    ensures name { IsName result }
+{
+    let _number = uid.number();
+    uid
+}
+
 /// The number of an object in steps.
 fn number_of(uid: Uid) -> u64 {
     uid.counter() - 1
@@ -188,13 +202,13 @@ fn proc(desk: &Desk, number: u8) -> Result<ProcId, Fail>
 
 /// A process is granted a lock on an object of ten pages, of which eight are within the length.
 fn grant(desk: &mut Desk, number: u8, uid: Uid, mode: Mode, grant: u64) -> Result<(), Fail> {
-    desk.know(uid, 1, 10, 8 * PAGE_BYTES)?;
+    desk.know(uid, 1, 10, 8 * PAGE)?;
     hold(desk, number, uid, mode, grant)
 }
 
 /// What is known of an object.
 fn know(desk: &mut Desk, uid: Uid, stamp: u64, room: u32, length: u32) -> Result<(), Fail> {
-    let ranges = 1 <= stamp && 1 <= room && room <= MAX_ROOM && length <= 1024 * MAX_ROOM;
+    let ranges = 1 <= stamp && 1 <= room && room <= MAX_ROOM && length <= MAX_LENGTH;
     if !ranges {
         return Err(Fail::from("out of range"));
     }
@@ -206,7 +220,10 @@ fn know(desk: &mut Desk, uid: Uid, stamp: u64, room: u32, length: u32) -> Result
 fn hold(desk: &mut Desk, number: u8, uid: Uid, mode: Mode, grant: u64) -> Result<(), Fail> {
     let proc = proc(desk, number)?;
     match desk.state(proc, uid) {
-        LockState::Free if grant >= 1 && desk.seen(uid).is_some() && desk.not_free(proc) < 8 => {
+        LockState::Free
+            if grant >= 1
+                && desk.seen(uid).is_some()
+                && usize::from(desk.not_free(proc)) < PROCESS_LOCKS => {
             desk.set_state(proc, uid, LockState::Held(mode), grant);
             Ok(())
         }
@@ -227,12 +244,16 @@ fn access(desk: &mut Desk, number: u8, op: &Op) -> Result<Told, Fail>
 }
 
 /// Loads the byte at a spot.
-fn load(desk: &mut Desk, number: u8, spot: Spot) -> Result<Told, Fail> {
+fn load(desk: &mut Desk, number: u8, spot: Spot) -> Result<Told, Fail>
+    requires { IsSpot spot }
+{
     access(desk, number, &Op::Load { spot, count: 1 })
 }
 
 /// Stores a byte at a spot.
-fn store(desk: &mut Desk, number: u8, spot: Spot, byte: u8) -> Result<Told, Fail> {
+fn store(desk: &mut Desk, number: u8, spot: Spot, byte: u8) -> Result<Told, Fail>
+    requires { IsSpot spot }
+{
     let bytes = ByteList::from_slice(desk.allocator(), &[byte])?;
     access(desk, number, &Op::Store { spot, bytes })
 }
@@ -252,7 +273,7 @@ fn answer(desk: &mut Desk, number: u8, body: &Body) -> Result<Told, Fail>
 
 /// A page comes, of equal bytes.
 fn page(desk: &mut Desk, number: u8, stamp: u64, byte: u8) -> Result<Told, Fail> {
-    let bytes = [byte; 1024];
+    let bytes = [byte; PAGE_BYTES];
     answer(
         desk,
         number,
@@ -298,7 +319,7 @@ fn fail(desk: &mut Desk, number: u8) -> Result<Told, Fail> {
 /// longest ago.
 fn fill_clean(desk: &mut Desk, number: u8, uid: Uid) -> Result<(), Fail> {
     for at in 0..5u8 {
-        load(desk, number, Spot::Of(uid, u32::from(at) * PAGE_BYTES))?;
+        load(desk, number, Spot::Of(named(uid), u32::from(at) * PAGE))?;
         page(desk, number, 1, at)?;
     }
     Ok(())
@@ -307,7 +328,7 @@ fn fill_clean(desk: &mut Desk, number: u8, uid: Uid) -> Result<(), Fail> {
 /// The same by stores, so that each is dirty.
 fn fill_dirty(desk: &mut Desk, number: u8, uid: Uid) -> Result<(), Fail> {
     for at in 0..5u8 {
-        store(desk, number, Spot::Of(uid, u32::from(at) * PAGE_BYTES), at)?;
+        store(desk, number, Spot::Of(named(uid), u32::from(at) * PAGE), at)?;
         page(desk, number, 1, 9)?;
     }
     Ok(())
@@ -433,15 +454,37 @@ fn ask(desk: &Desk, step: Step) -> Result<Told, Fail> {
 /// Begins a load, a store, or a call on a length or a mapping.
 fn begin(desk: &mut Desk, step: Step) -> Result<Told, Fail> {
     match step {
-        Step::Load(number, uid, offset) => load(desk, number, Spot::Of(object(uid)?, offset)),
+        Step::Load(number, uid, offset) => load(
+            desk,
+            number,
+            Spot::Of(named(object(uid)?), offset),
+        ),
         Step::LoadAt(number, address) => load(desk, number, Spot::Addr(address)),
         Step::Store(number, uid, offset, byte) => {
-            store(desk, number, Spot::Of(object(uid)?, offset), byte)
+            store(desk, number, Spot::Of(named(object(uid)?), offset), byte)
         }
         Step::StoreAt(number, address, byte) => store(desk, number, Spot::Addr(address), byte),
-        Step::Length(number, uid) => access(desk, number, &Op::Length { uid: object(uid)? }),
-        Step::Map(number, uid) => access(desk, number, &Op::Map { uid: object(uid)? }),
-        Step::Unmap(number, uid) => access(desk, number, &Op::Unmap { uid: object(uid)? }),
+        Step::Length(number, uid) => access(
+            desk,
+            number,
+            &Op::Length {
+                uid: named(object(uid)?),
+            },
+        ),
+        Step::Map(number, uid) => access(
+            desk,
+            number,
+            &Op::Map {
+                uid: named(object(uid)?),
+            },
+        ),
+        Step::Unmap(number, uid) => access(
+            desk,
+            number,
+            &Op::Unmap {
+                uid: named(object(uid)?),
+            },
+        ),
         Step::Page(number, stamp, byte) => page(desk, number, stamp, byte),
         Step::Stored(number, stamp) => stored(desk, number, stamp),
         Step::Stale(number, stamp) => stale(desk, number, stamp),

@@ -1,6 +1,7 @@
 -- An access of a process, an answer to it and a link fault leave what a desk keeps for another process.
 use Rattle.std.proofs.Common.{◌≢◌, ℕ, ◌+◌, ◌*◌, nat_lt, Bool, true, false, Option, Some, None, List, length, refl}
 use Rattle.std.specs.Prelude.{Result, Ok, Err, is_some}
+use Rattle.uid_names.specs.declared.limits.TheConstants.{PAGE_BYTES}
 use Rattle.uid_names.specs.Names.{ObjectName}
 use Rattle.dom_history.specs.declared.op.Op.{Op}
 use Rattle.dom_history.specs.declared.op.Op.TheVariants.{Load as LoadOp, Store as StoreOp, Length, Map, Unmap}
@@ -27,8 +28,8 @@ use Rattle.fault_handler.specs.Desks.{DeskState, state_of, maps_of, task_of, mov
 use Rattle.fault_handler.specs.Changes.{with_maps, with_raised, with_arrival, with_room_settled, with_dropped, with_fetch}
 use Rattle.fault_handler.specs.Accesses.{task_at, target_of, performed, room_made, room_by, frame_by, missed_by, page_by, page_access, load_by, load_at, store_by, store_at, length_by, map_by_answer, mapped, map_by, unmap_by, access_of}
 use Rattle.fault_handler.specs.PageReplies.{page_by_stamp, room_sent_again, came_by, came_to, page_came_of, failed_way, failed_by, access_failed_of}
-use Rattle.fault_handler.specs.Kept.{IsProc}
-use Rattle.lock_validate.specs.Beside.{IsUntouched}
+use Rattle.fault_handler.specs.Invariant.{IsProc}
+use Rattle.lock_validate.specs.Untouched.{IsUntouched}
 use Rattle.lock_validate.proofs.Beside.{untouched-then, maps-beside, fetch-beside, eviction-beside, ended-beside, loss-beside, settled-beside, arrival-beside, taken-beside}
 
 module _ (p q : ℕ) (proc : IsProc p) (other : IsProc q) (differs : q ≢ p) where
@@ -79,7 +80,7 @@ module _ (p q : ℕ) (proc : IsProc p) (other : IsProc q) (differs : q ≢ p) wh
     store_at-beside : (bytes : List ℕ) (o : Option (ObjectName × ℕ)) → IsUntouched d (store_at d p bytes o).desk q
     store_at-beside bytes None = record { entries = refl; maps = refl; call = refl; task = refl; moving = refl }
     store_at-beside bytes (Some (u, offset)) =
-        store_by-beside d (task_at u offset (Store bytes)) (is_held (state_of d p u)) (may_write (state_of d p u)) (nat_lt (1024 * room_of (known_of u d.known)) (offset + length bytes))
+        store_by-beside d (task_at u offset (Store bytes)) (is_held (state_of d p u)) (may_write (state_of d p u)) (nat_lt (PAGE_BYTES * room_of (known_of u d.known)) (offset + length bytes))
 
     length_by-beside : (u : ObjectName) (held : Bool) → IsUntouched d (length_by d u held).desk q
     length_by-beside u true = record { entries = refl; maps = refl; call = refl; task = refl; moving = refl }

@@ -6,22 +6,23 @@ use Rattle.fault_handler.specs.declared.access.Access.{Access as Answer}
 use Rattle.fault_handler.specs.declared.access.Access.TheVariants.{Hit, Need, Wait as WaitAnswer, Refuse}
 use Rattle.fault_handler.specs.declared.open_call.OpenCall.{OpenCall}
 use Rattle.fault_handler.specs.declared.open_call.OpenCall.TheVariants.{Access, Lock, PageOut, AttrOut, Unlock, Remove}
-use Rattle.fault_handler.specs.Desks.{DeskState, call_of}
-use Rattle.fault_handler.specs.Kept.{IsProc}
+use Rattle.fault_handler.specs.Desks.{DeskState, open_call_of}
+use Rattle.fault_handler.specs.Invariant.{IsProc}
 use Rattle.fault_handler.specs.Conditions.{IsIdle, empty_desk}
 use Rattle.fault_handler.specs.Accesses.{Accessed}
-use Rattle.fault_handler.specs.Outcomes.{AfterAccess, Gives as GivesAccess}
+use Rattle.fault_handler.specs.Outcomes.{AfterAccess}
 use Rattle.fault_handler.proofs.Fours.{by_proc}
 use Rattle.lock_validate.specs.declared.step.Step.{Step}
 use Rattle.lock_validate.specs.declared.step.Step.TheVariants.{Send, Wait, End}
-use Rattle.lock_validate.specs.Steps.{Stepped, Gives}
+use Rattle.fault_handler.specs.Answered.{Gives}
+use Rattle.lock_validate.specs.Steps.{Stepped}
 use Rattle.lock_validate.specs.Standing.{CallStands, MayStand, AllStand, AfterStep, answers}
-use Rattle.lock_validate.specs.Beside.{IsUntouched}
+use Rattle.lock_validate.specs.Untouched.{IsUntouched}
 use Rattle.lock_validate.proofs.StepBeside.{CallStands-untouched}
 
 -- on an empty desk no call is open
 pub AllStand-empty : (node nodes frames : ℕ) → AllStand (empty_desk node nodes frames)
-AllStand-empty node nodes frames = by_proc (λ q. MayStand (empty_desk node nodes frames) q (call_of (empty_desk node nodes frames) q)) tt tt tt tt
+AllStand-empty node nodes frames = by_proc (λ q. MayStand (empty_desk node nodes frames) q (open_call_of (empty_desk node nodes frames) q)) tt tt tt tt
 
 -- a call that has an answer stands
 pub answers-stand : (d : DeskState) (p : ℕ) (call : Option OpenCall) (body : Body) → answers call body ≡ true → MayStand d p call → CallStands d p call
@@ -42,15 +43,15 @@ stands-may d p (Some (AttrOut u n delete)) stands = stands
 stands-may d p (Some (Unlock u)) stands = stands
 stands-may d p (Some (Remove u)) stands = stands
 
-pub idle-may : (d : DeskState) (p : ℕ) → IsIdle d p → MayStand d p (call_of d p)
+pub idle-may : (d : DeskState) (p : ℕ) → IsIdle d p → MayStand d p (open_call_of d p)
 idle-may d p idle = subst (MayStand d p) (sym idle.no_call) tt
 
-step-may : (d : DeskState) (p : ℕ) (step : Step) → AfterStep d p step → MayStand d p (call_of d p)
-step-may d p (Send home body dropped) after = stands-may d p (call_of d p) after
+step-may : (d : DeskState) (p : ℕ) (step : Step) → AfterStep d p step → MayStand d p (open_call_of d p)
+step-may d p (Send home body dropped) after = stands-may d p (open_call_of d p) after
 step-may d p (Wait u k dropped) after = idle-may d p after
 step-may d p (End reply dropped) after = idle-may d p after
 
-access-may : (d : DeskState) (p : ℕ) (answer : Answer) → AfterAccess d p answer → MayStand d p (call_of d p)
+access-may : (d : DeskState) (p : ℕ) (answer : Answer) → AfterAccess d p answer → MayStand d p (open_call_of d p)
 access-may d p (Hit reply dropped) after = idle-may d p after
 access-may d p (Need home body dropped) after = subst (MayStand d p) (sym after) tt
 access-may d p (WaitAnswer u k dropped) after = idle-may d p after
@@ -67,17 +68,17 @@ may-untouched d e q same (Some (Remove u)) may = CallStands-untouched d e q same
 
 module _ (d e : DeskState) (p : ℕ) (all : AllStand d) (beside : (q : ℕ) → IsProc q → q ≢ p → IsUntouched d e q) where
   -- the process's own call may stand
-  pub AllStand-after : MayStand e p (call_of e p) → AllStand e
+  pub AllStand-after : MayStand e p (open_call_of e p) → AllStand e
   AllStand-after own q proc = elim (cases_eq q p) [
-    | inl same ↦ subst (λ (r : ℕ). MayStand e r (call_of e r)) (sym same) own
+    | inl same ↦ subst (λ (r : ℕ). MayStand e r (open_call_of e r)) (sym same) own
     | inr differs ↦
         let left = beside q proc differs in
-        subst (MayStand e q) (sym left.call) (may-untouched d e q left (call_of d q) (all q proc))
+        subst (MayStand e q) (sym left.call) (may-untouched d e q left (open_call_of d q) (all q proc))
   ]
 
 module _ (old new : DeskState) (p : ℕ) (all : AllStand old) where
   pub AllStand-step : (s : Stepped) (step : Step) → ((q : ℕ) → IsProc q → q ≢ p → IsUntouched old s.desk q) → Gives new s step → AfterStep new p step → AllStand new
   AllStand-step s step beside gives after = AllStand-after old new p all (λ q proc differs. subst (λ (t : Stepped). IsUntouched old t.desk q) gives (beside q proc differs)) (step-may new p step after)
 
-  pub AllStand-access : (a : Accessed) (answer : Answer) → ((q : ℕ) → IsProc q → q ≢ p → IsUntouched old a.desk q) → GivesAccess new a answer → AfterAccess new p answer → AllStand new
+  pub AllStand-access : (a : Accessed) (answer : Answer) → ((q : ℕ) → IsProc q → q ≢ p → IsUntouched old a.desk q) → Gives new a answer → AfterAccess new p answer → AllStand new
   AllStand-access a answer beside gives after = AllStand-after old new p all (λ q proc differs. subst (λ (t : Accessed). IsUntouched old t.desk q) gives (beside q proc differs)) (access-may new p answer after)

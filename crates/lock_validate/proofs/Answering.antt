@@ -3,27 +3,28 @@ use Rattle.std.proofs.Common.{◌≡◌, ◌≢◌, ℕ, ◌≤◌, Bool, true, 
 use Rattle.std.specs.Prelude.{◌==◌, not, ◌&&◌}
 use Rattle.std.proofs.lemmas.Bool.{cases_eq}
 use Rattle.std.proofs.lemmas.Bool.Decides.{nat_tests}
+use Rattle.uid_names.specs.Rooms.{IsRoom, IsLength}
 use Rattle.uid_names.specs.Names.{ObjectName, same_uid}
 use Rattle.uid_names.specs.declared.mode.Mode.{Mode}
 use Rattle.dom_history.specs.declared.op.Reply.TheVariants.{Fine, Conflict, NoObject}
 use Rattle.dom_history.specs.declared.deed.LockState.{LockState}
 use Rattle.dom_history.specs.declared.deed.LockState.TheVariants.{Free, Held, Taking, Releasing, Deleting}
-use Rattle.dom_history.specs.Locks.{is_held, mode_of}
-use Rattle.page_cache.proofs.ListLemmas.{by_cases}
+use Rattle.dom_history.specs.Locks.{is_held, mode_at_home}
+use Rattle.uid_names.proofs.ListLemmas.{by_cases}
 use Rattle.version_stamps.specs.declared.stamps.Stamp.{Stamp}
 use Rattle.version_stamps.specs.Stamps.{stamp_of, raised}
 use Rattle.version_stamps.proofs.LookUps.{stamp_of-with_stamp}
 use Rattle.ring_messages.specs.declared.body.Body.{Body}
 use Rattle.ring_messages.specs.declared.body.Body.TheVariants as bodies
-use Rattle.ring_messages.specs.Ranges.{IsBody, IsRoom, IsLength}
-use Rattle.fault_handler.specs.declared.entries.Entry.{Entry}
+use Rattle.ring_messages.specs.Ranges.{IsBody}
+use Rattle.fault_handler.specs.declared.entries.LockEntry.{LockEntry}
 use Rattle.fault_handler.specs.declared.open_call.OpenCall.{OpenCall}
 use Rattle.fault_handler.specs.declared.open_call.OpenCall.TheVariants.{Access, Lock, PageOut, AttrOut, Unlock, Remove}
 use Rattle.fault_handler.specs.Entries.{state_in, is_released, keeps}
 use Rattle.fault_handler.specs.Transits.{going}
-use Rattle.fault_handler.specs.Desks.{DeskState, entry_at, state_of, call_of, moving_of, others_keep, any_keeps}
+use Rattle.fault_handler.specs.Desks.{DeskState, entry_at, state_of, open_call_of, moving_of, others_keep, any_keeps}
 use Rattle.fault_handler.specs.Changes.{with_call, with_state, with_raised, with_seen, with_known_row, with_sent_length, with_page_done, page_done_by, page_done_of}
-use Rattle.fault_handler.specs.Kept.{IsProc, IsDesk}
+use Rattle.fault_handler.specs.Invariant.{IsProc, IsDesk}
 use Rattle.fault_handler.specs.Conditions.{IsNotAccessing}
 use Rattle.fault_handler.proofs.Fours.{at-put_same, any-at, any-of}
 use Rattle.fault_handler.proofs.PageKeeps.{IsDesk-with_no_page}
@@ -32,8 +33,8 @@ use Rattle.fault_handler.proofs.TransitKeeps.{keeps_writing-keeps, IsDesk-with_p
 use Rattle.fault_handler.proofs.LockKeeps.{IsDesk-with_state, IsDesk-with_call}
 use Rattle.lock_validate.specs.Releases.{release_of}
 use Rattle.lock_validate.specs.Answers.{after_drop, dropped_of, is_seen, is_fresh, learned, granted, gone, forgetting, removed, lock_answer_of, page_answer_of, length_answer_of, answered, answer_came_of}
-use Rattle.lock_validate.specs.Faults.{failed_by, call_failed_of}
-use Rattle.lock_validate.specs.Drops.{IsOutdated}
+use Rattle.lock_validate.specs.Faults.{call_failed_by, call_failed_of}
+use Rattle.lock_validate.specs.StepDrops.{IsOutdated}
 use Rattle.lock_validate.specs.Standing.{KeepsOthers, LockStands, WriterStands, ReleaseStands, CallStands, Stands, answers_lock, answers_write, answers}
 use Rattle.fault_handler.proofs.Nothing.{unkept-unmarked}
 use Rattle.lock_validate.proofs.Good.{IsGood, IsCalm, ended-good, free-unheld, keeping-set}
@@ -57,13 +58,13 @@ not-true true h = absurd (cc)
 not-true false h = refl
 
 -- what is not Held is not kept
-pub unheld-unkept : (o : Option Entry) → is_held (state_in o) ≡ false → keeps o ≡ false
+pub unheld-unkept : (o : Option LockEntry) → is_held (state_in o) ≡ false → keeps o ≡ false
 unheld-unkept o unheld = grind (arith, nat_tests, unheld)
 
 -- a desk on which a process may go on, once its state on one object is set, which it does not keep
 record IsReady (p : ℕ) (u : ObjectName) (d : DeskState) : Type 0 where
   desk : IsDesk d
-  no_call : call_of d p ≡ None
+  no_call : open_call_of d p ≡ None
   no_page : moving_of d p ≡ None
   given_up : keeps (entry_at d.entries p u) ≡ false
   others : KeepsOthers d p u
@@ -182,7 +183,7 @@ record IsLearned (p : ℕ) (u : ObjectName) (d : DeskState) : Type 0 where
 IsLearned-learned : (b : Bool) (p : ℕ) (u : ObjectName) (d : DeskState) (stamp room n : ℕ) → IsReady p u d → (b ≡ false → IsSome (stamp_of u d.seen)) → 1 ≤ stamp → IsRoom room → IsLength n → IsLearned p u (learned b d u stamp room n)
 IsLearned-learned true p u d stamp room n ready known least is_room is_length = record {
   ready = record {
-    desk = IsDesk-learned d (record { uid = u; room = room; length = n; changed = false }) stamp ready.desk least (record { room_low = is_room.0; room_high = is_room.1; length = is_length });
+    desk = IsDesk-learned d (record { uid = u; room = room; length = n; changed = false }) stamp ready.desk least (record { room = is_room; length = is_length });
     no_call = ready.no_call;
     no_page = ready.no_page;
     given_up = ready.given_up;
@@ -251,7 +252,7 @@ removed-good d p u keeping is calm =
     (IsCalm-forgetting drop p u (after_drop drop d u) (λ h. ap (λ e. any_keeps e u) (entries-after_drop drop u d) ∙ none h) (IsCalm-after_drop drop p u d none calm))
 
 -- what is not Held, or is released, is not kept
-pub released-unkept : (o : Option Entry) → (is_held (state_in o) ≡ true → is_released o ≡ true) → keeps o ≡ false
+pub released-unkept : (o : Option LockEntry) → (is_held (state_in o) ≡ true → is_released o ≡ true) → keeps o ≡ false
 released-unkept o noted =
     by_cases
     (is_held (state_in o))
@@ -270,7 +271,7 @@ stands-other d p (Some (Unlock u)) stands same = cc
 stands-other d p (Some (Remove u)) stands same = cc
 
 -- a desk on which no call of the process is open
-module _ (d : DeskState) (p : ℕ) (is : IsDesk d) (proc : IsProc p) (no_call : call_of d p ≡ None) where
+module _ (d : DeskState) (p : ℕ) (is : IsDesk d) (proc : IsProc p) (no_call : open_call_of d p ≡ None) where
   other : IsNotAccessing d p
   other same = let e : None ≡ Some Access = sym no_call ∙ same in cc
 
@@ -342,19 +343,19 @@ module _ (d : DeskState) (p : ℕ) (is : IsDesk d) (proc : IsProc p) (no_call : 
   answered-good (Some (Unlock u)) to body stands fits range = ended-good (with_state d p u Free 0) p Fine [] (released-calm u stands Free refl)
   answered-good (Some (Remove u)) to body stands fits range = removed-good (with_state d p u Free 0) p u (any_keeps (with_state d p u Free 0).entries u) refl (released-calm u stands.0 Free refl)
 
-  failed_by-calm : (call : Option OpenCall) → CallStands d p call → IsCalm p (failed_by d p call).desk
-  failed_by-calm None stands = absurd stands
-  failed_by-calm (Some Access) stands = absurd stands
-  failed_by-calm (Some (Lock u m)) stands = given_up-calm d p u proc (lock-ready u stands) (Taking m) refl
-  failed_by-calm (Some (PageOut u k delete)) stands =
+  call_failed_by-calm : (call : Option OpenCall) → CallStands d p call → IsCalm p (call_failed_by d p call).desk
+  call_failed_by-calm None stands = absurd stands
+  call_failed_by-calm (Some Access) stands = absurd stands
+  call_failed_by-calm (Some (Lock u m)) stands = given_up-calm d p u proc (lock-ready u stands) (Taking m) refl
+  call_failed_by-calm (Some (PageOut u k delete)) stands =
       subst (IsCalm p) (sym (ap (page_done_by d p false) stands.1))
       (record {
         desk = IsDesk-with_page_done d p is proc u k false stands.1 other;
         idle = record { no_call = no_call; no_page = at-put_same d.moving p None None is.four.moving proc; keeping = stands.0.others };
       })
-  failed_by-calm (Some (AttrOut u n delete)) stands = record { desk = is; idle = record { no_call = no_call; no_page = stands.1; keeping = stands.0.others } }
-  failed_by-calm (Some (Unlock u)) stands = released-calm u stands (Releasing (mode_of (state_of d p u))) refl
-  failed_by-calm (Some (Remove u)) stands = released-calm u stands.0 Deleting refl
+  call_failed_by-calm (Some (AttrOut u n delete)) stands = record { desk = is; idle = record { no_call = no_call; no_page = stands.1; keeping = stands.0.others } }
+  call_failed_by-calm (Some (Unlock u)) stands = released-calm u stands (Releasing (mode_at_home (state_of d p u))) refl
+  call_failed_by-calm (Some (Remove u)) stands = released-calm u stands.0 Deleting refl
 
 -- a call stands on the desk on which it is open no more
 pub closed-stands : (d : DeskState) (p : ℕ) (call : Option OpenCall) → CallStands d p call → CallStands (with_call d p None) p call
@@ -368,13 +369,13 @@ closed-stands d p (Some (Remove u)) stands = (record { there = stands.0.there; n
 
 module _ (d : DeskState) (p : ℕ) (is : IsDesk d) (proc : IsProc p) (stands : Stands d p) where
   pub closed-desk : IsDesk (with_call d p None)
-  closed-desk = IsDesk-with_call d p None is proc (stands-other d p (call_of d p) stands) (λ e. cc)
+  closed-desk = IsDesk-with_call d p None is proc (stands-other d p (open_call_of d p) stands) (λ e. cc)
 
-  closed-call : call_of (with_call d p None) p ≡ None
+  closed-call : open_call_of (with_call d p None) p ≡ None
   closed-call = at-put_same d.calls p None None is.four.calls proc
 
-  pub answer_came_of-good : (to : ℕ) (body : Body) → answers (call_of d p) body ≡ true → IsBody to body → IsGood p (answer_came_of d p body)
-  answer_came_of-good to body fits range = answered-good (with_call d p None) p closed-desk proc closed-call (call_of d p) to body (closed-stands d p (call_of d p) stands) fits range
+  pub answer_came_of-good : (to : ℕ) (body : Body) → answers (open_call_of d p) body ≡ true → IsBody to body → IsGood p (answer_came_of d p body)
+  answer_came_of-good to body fits range = answered-good (with_call d p None) p closed-desk proc closed-call (open_call_of d p) to body (closed-stands d p (open_call_of d p) stands) fits range
 
   pub call_failed_of-calm : IsCalm p (call_failed_of d p).desk
-  call_failed_of-calm = failed_by-calm (with_call d p None) p closed-desk proc closed-call (call_of d p) (closed-stands d p (call_of d p) stands)
+  call_failed_of-calm = call_failed_by-calm (with_call d p None) p closed-desk proc closed-call (open_call_of d p) (closed-stands d p (open_call_of d p) stands)

@@ -12,9 +12,9 @@ use Rattle.fault_handler.specs.Transits.{coming, going}
 use Rattle.fault_handler.specs.Entries.{entries_after, entries_noted}
 use Rattle.fault_handler.specs.Desks.{DeskState, entries_of, moving_of}
 use Rattle.fault_handler.specs.Changes.{with_call, with_maps, with_state, with_note, with_fetch, with_sent_page, with_eviction, with_task_ended, with_loss, with_room_settled, with_arrival, with_raised, page_done_by, page_done_of}
-use Rattle.fault_handler.specs.Kept.{IsProc}
+use Rattle.fault_handler.specs.Invariant.{IsProc}
 use Rattle.fault_handler.proofs.Fours.{at-put_other}
-use Rattle.lock_validate.specs.Beside.{IsUntouched}
+use Rattle.lock_validate.specs.Untouched.{IsUntouched}
 
 -- nothing that a process has changed
 pub untouched : (d : DeskState) (q : ℕ) → IsUntouched d d q

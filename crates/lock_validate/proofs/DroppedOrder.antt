@@ -12,18 +12,18 @@ use Rattle.dom_history.specs.Events.{page_lt, ArePagesRising}
 use Rattle.dom_history.specs.declared.deed.LockState.TheVariants.{Free}
 use Rattle.page_cache.specs.Caches.{Resident, is_of, is_page}
 use Rattle.page_cache.specs.Numbers.{numbers, placed, rising}
-use Rattle.page_cache.proofs.ListLemmas.{by_cases, count_by-cons, count_by-cons_passes}
+use Rattle.uid_names.proofs.ListLemmas.{by_cases, count_by-cons, count_by-cons_passes}
 use Rattle.version_stamps.specs.Stamps.{stamp_of}
 use Rattle.ring_messages.specs.declared.body.Body.{Body}
 use Rattle.ring_messages.specs.declared.body.Body.TheVariants as bodies
 use Rattle.fault_handler.specs.declared.open_call.OpenCall.{OpenCall}
 use Rattle.fault_handler.specs.declared.open_call.OpenCall.TheVariants.{Lock, PageOut, AttrOut, Remove}
-use Rattle.fault_handler.specs.Desks.{DeskState, call_of, any_keeps, others_keep}
+use Rattle.fault_handler.specs.Desks.{DeskState, open_call_of, any_keeps, others_keep}
 use Rattle.fault_handler.specs.Changes.{with_call, with_state, with_raised, with_sent_length, page_done_of}
-use Rattle.fault_handler.specs.Kept.{IsDesk}
+use Rattle.fault_handler.specs.Invariant.{IsDesk}
 use Rattle.fault_handler.specs.Drops.{MayDrop}
 use Rattle.lock_validate.specs.Answers.{is_seen, dropped_of, lock_answer_of, page_answer_of, length_answer_of, answered, answer_came_of}
-use Rattle.lock_validate.specs.Drops.{dropped_in}
+use Rattle.lock_validate.specs.StepDrops.{step_dropped}
 use Rattle.lock_validate.proofs.Dropping.{release_of-drops}
 
 -- a number goes to its place as any element does
@@ -99,30 +99,30 @@ none-rise : (names : List (ObjectName × ℕ)) → names ≡ [] → ArePagesRisi
 none-rise names none = subst ArePagesRising (sym none) (AllPairs-nil (λ a b. IsTrue (page_lt a b)))
 
 module _ (d : DeskState) (p : ℕ) (once : (u : ObjectName) (k : ℕ) → count_by (is_page u k) d.cache.pages ≤ 1) where
-  lock-rise : (u : ObjectName) (m : Mode) (body : Body) → ArePagesRising (dropped_in (lock_answer_of d p u m body).step)
+  lock-rise : (u : ObjectName) (m : Mode) (body : Body) → ArePagesRising (step_dropped (lock_answer_of d p u m body).answer)
   lock-rise u m (bodies.Granted grant stamp kind room n) = dropped_of-rise u (not (others_keep d.entries p u) && not (is_seen stamp (stamp_of u d.seen))) d (once u)
   lock-rise u m (bodies.Conflict q n) = none-rise [] refl
   lock-rise u m body = dropped_of-rise u (not (any_keeps d.entries u)) d (once u)
 
-  page-rise : (u : ObjectName) (delete : Bool) (body : Body) → ArePagesRising (dropped_in (page_answer_of d p u delete body).step)
+  page-rise : (u : ObjectName) (delete : Bool) (body : Body) → ArePagesRising (step_dropped (page_answer_of d p u delete body).answer)
   page-rise u delete (bodies.Stored stamp) = none-rise _ (release_of-drops (with_raised (page_done_of d p true) u stamp) p u delete)
   page-rise u delete (bodies.Stale stamp) = none-rise _ (release_of-drops (with_raised (page_done_of d p false) u stamp) p u delete)
   page-rise u delete body = none-rise _ (release_of-drops d p u delete)
 
-  length-rise : (u : ObjectName) (n : ℕ) (delete : Bool) (body : Body) → ArePagesRising (dropped_in (length_answer_of d p u n delete body).step)
+  length-rise : (u : ObjectName) (n : ℕ) (delete : Bool) (body : Body) → ArePagesRising (step_dropped (length_answer_of d p u n delete body).answer)
   length-rise u n delete (bodies.Stored stamp) = none-rise _ (release_of-drops (with_raised (with_sent_length d u n) u stamp) p u delete)
   length-rise u n delete (bodies.Stale stamp) = none-rise _ (release_of-drops (with_raised d u stamp) p u delete)
   length-rise u n delete body = none-rise _ (release_of-drops d p u delete)
 
-  answered-rise : (call : Option OpenCall) (body : Body) → ArePagesRising (dropped_in (answered d p call body).step)
+  answered-rise : (call : Option OpenCall) (body : Body) → ArePagesRising (step_dropped (answered d p call body).answer)
   answered-rise (Some (Lock u m)) body = lock-rise u m body
   answered-rise (Some (PageOut u k delete)) body = page-rise u delete body
   answered-rise (Some (AttrOut u n delete)) body = length-rise u n delete body
   answered-rise (Some (Remove u)) body = let e = with_state d p u Free 0 in dropped_of-rise u (not (any_keeps e.entries u)) e (once u)
   answered-rise call body = none-rise [] refl
 
-pub answer_came_of-rise : (d : DeskState) (p : ℕ) (body : Body) → IsDesk d → ArePagesRising (dropped_in (answer_came_of d p body).step)
-answer_came_of-rise d p body is = answered-rise (with_call d p None) p is.pages.once (call_of d p) body
+pub answer_came_of-rise : (d : DeskState) (p : ℕ) (body : Body) → IsDesk d → ArePagesRising (step_dropped (answer_came_of d p body).answer)
+answer_came_of-rise d p body is = answered-rise (with_call d p None) p is.pages.once (open_call_of d p) body
 
 -- one page at most
 pub few-rise : (d : DeskState) (names : List (ObjectName × ℕ)) → MayDrop d names → ArePagesRising names

@@ -21,13 +21,13 @@ use Rattle.lock_validate.specs.Steps.{Stepped}
 use Rattle.lock_validate.specs.Locking.{lock_by}
 use Rattle.lock_validate.specs.Releases.{length_first, page_first, transit_first, release_of, unlock_by, delete_by}
 use Rattle.lock_validate.specs.Answers.{after_drop, learned, forgetting, removed, lock_answer_of, page_answer_of, length_answer_of, answered}
-use Rattle.lock_validate.specs.Faults.{failed_by}
+use Rattle.lock_validate.specs.Faults.{call_failed_by}
 use Rattle.lock_validate.specs.Fitting.{release_op, operation_of, FitsStep}
 
 -- what comes of an operation of a process of a node
 pub record IsPlain (n : ℕ) (op : Op) (s : Stepped) : Type 0 where
   pub node : s.desk.node ≡ n
-  pub fits : FitsStep op s.step
+  pub fits : FitsStep op s.answer
 
 module _ (d : DeskState) (p : ℕ) (u : ObjectName) where
   pub lock_by-plain : (m : Mode) (held unsettled full is_node : Bool) → IsPlain d.node (ops.Lock u m) (lock_by d p u m held unsettled full is_node)
@@ -128,20 +128,20 @@ release-kept true u = tt
 release-kept false u = tt
 
 -- what a link fault leaves
-pub failed_by-fits : (d : DeskState) (p : ℕ) (call : Option OpenCall) → IfSome (operation_of call) (λ op. Fits op (failed_by d p call).reply)
-failed_by-fits d p None = tt
-failed_by-fits d p (Some Access) = tt
-failed_by-fits d p (Some (Lock u m)) = tt
-failed_by-fits d p (Some (PageOut u k delete)) = release-kept delete u
-failed_by-fits d p (Some (AttrOut u n delete)) = release-kept delete u
-failed_by-fits d p (Some (Unlock u)) = tt
-failed_by-fits d p (Some (Remove u)) = tt
+pub call_failed_by-fits : (d : DeskState) (p : ℕ) (call : Option OpenCall) → IfSome (operation_of call) (λ op. Fits op (call_failed_by d p call).answer)
+call_failed_by-fits d p None = tt
+call_failed_by-fits d p (Some Access) = tt
+call_failed_by-fits d p (Some (Lock u m)) = tt
+call_failed_by-fits d p (Some (PageOut u k delete)) = release-kept delete u
+call_failed_by-fits d p (Some (AttrOut u n delete)) = release-kept delete u
+call_failed_by-fits d p (Some (Unlock u)) = tt
+call_failed_by-fits d p (Some (Remove u)) = tt
 
-pub failed_by-node : (d : DeskState) (p : ℕ) (call : Option OpenCall) → (failed_by d p call).desk.node ≡ d.node
-failed_by-node d p None = refl
-failed_by-node d p (Some Access) = refl
-failed_by-node d p (Some (Lock u m)) = refl
-failed_by-node d p (Some (PageOut u k delete)) = page_done_by-node d p false (moving_of d p)
-failed_by-node d p (Some (AttrOut u n delete)) = refl
-failed_by-node d p (Some (Unlock u)) = refl
-failed_by-node d p (Some (Remove u)) = refl
+pub call_failed_by-node : (d : DeskState) (p : ℕ) (call : Option OpenCall) → (call_failed_by d p call).desk.node ≡ d.node
+call_failed_by-node d p None = refl
+call_failed_by-node d p (Some Access) = refl
+call_failed_by-node d p (Some (Lock u m)) = refl
+call_failed_by-node d p (Some (PageOut u k delete)) = page_done_by-node d p false (moving_of d p)
+call_failed_by-node d p (Some (AttrOut u n delete)) = refl
+call_failed_by-node d p (Some (Unlock u)) = refl
+call_failed_by-node d p (Some (Remove u)) = refl

@@ -3,29 +3,30 @@ use Rattle.std.proofs.Common.{◌≡◌, ℕ, Result, Ok, Err, IfOk, OnOk, Optio
 use Rattle.fault_handler.specs.Desks.{DeskState}
 use Rattle.dom_history.specs.declared.op.Op.{Op}
 use Rattle.lock_validate.specs.declared.step.Step.{Step}
-use Rattle.lock_validate.specs.Steps.{Stepped, Gives}
+use Rattle.fault_handler.specs.Answered.{Gives}
+use Rattle.lock_validate.specs.Steps.{Stepped}
 use Rattle.lock_validate.specs.Fitting.{FitsStep}
-use Rattle.lock_validate.specs.Standing.{AfterStep, IsAsked}
+use Rattle.lock_validate.specs.Standing.{AfterStep, StepAsks}
 use Rattle.lock_validate.proofs.Good.{IsGood}
 use Rattle.lock_validate.proofs.Nodes.{IsPlain}
 
 module _ (s : Stepped) (new : DeskState) where
   pub next-given : (p : ℕ) (step : Step) → IsGood p s → Gives new s step → AfterStep new p step
-  next-given p step good gives = subst (λ (t : Stepped). AfterStep t.desk p t.step) gives good.next
+  next-given p step good gives = subst (λ (t : Stepped). AfterStep t.desk p t.answer) gives good.next
 
   pub node-given : (step : Step) (n : ℕ) → s.desk.node ≡ n → Gives new s step → new.node ≡ n
   node-given step n same gives = ap (λ (t : Stepped). t.desk.node) (sym gives) ∙ same
 
-  asks-given : (p : ℕ) (step : Step) → IsGood p s → Gives new s step → IsAsked step
-  asks-given p step good gives = subst (λ (t : Stepped). IsAsked t.step) gives good.asks
+  asks-given : (p : ℕ) (step : Step) → IsGood p s → Gives new s step → StepAsks step
+  asks-given p step good gives = subst (λ (t : Stepped). StepAsks t.answer) gives good.asks
 
-  fits-given : (step : Step) (op : Op) → FitsStep op s.step → Gives new s step → FitsStep op step
-  fits-given step op fits gives = subst (λ (t : Stepped). FitsStep op t.step) gives fits
+  fits-given : (step : Step) (op : Op) → FitsStep op s.answer → Gives new s step → FitsStep op step
+  fits-given step op fits gives = subst (λ (t : Stepped). FitsStep op t.answer) gives fits
 
 -- what the contract of a call says beside the outcome, of a process of a node and its operation
 pub record IsTold {E : Type 0} (new : DeskState) (p n : ℕ) (op : Option Op) (r : Result Step E) : Type 0 where
   pub fits : IfSome op (λ o. IfOk r (FitsStep o))
-  pub asks : IfOk r IsAsked
+  pub asks : IfOk r StepAsks
   pub next : IfOk r (AfterStep new p)
   pub node : OnOk r (new.node ≡ n)
 

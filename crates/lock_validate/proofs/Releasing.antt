@@ -3,6 +3,7 @@ use Rattle.std.proofs.Common.{◌≡◌, ◌≢◌, ℕ, ◌<◌, ◌≤◌, nat
 use Rattle.std.specs.Prelude.{◌==◌, not, ◌&&◌}
 use Rattle.std.proofs.lemmas.Bool.Decides.{nat_tests}
 use Rattle.uid_names.specs.Names.{ObjectName}
+use Rattle.uid_names.specs.declared.limits.TheConstants.{MAX_LENGTH, MAX_ROOM, PAGE_BYTES, PROCESS_LOCKS}
 use Rattle.uid_names.specs.declared.mode.Mode.{Mode}
 use Rattle.dom_history.specs.declared.op.Op.{Op}
 use Rattle.dom_history.specs.declared.op.Op.TheVariants as ops
@@ -21,7 +22,7 @@ use Rattle.fault_handler.specs.Transits.{going}
 use Rattle.fault_handler.specs.Desks.{DeskState, entry_at, entries_of, state_of, others_write, other_transit, base_of}
 use Rattle.fault_handler.specs.Changes.{with_note, with_sent_page}
 use Rattle.fault_handler.specs.Accesses.{own_page_out}
-use Rattle.fault_handler.specs.Kept.{IsProc, is_dirty, IsKnown, IsDesk}
+use Rattle.fault_handler.specs.Invariant.{IsProc, is_dirty, IsKnown, IsDesk}
 use Rattle.fault_handler.specs.Conditions.{IsIdle}
 use Rattle.fault_handler.proofs.Fours.{at-put_same, any-at, any-of}
 use Rattle.fault_handler.proofs.PageLists.{found-page}
@@ -39,7 +40,7 @@ module _ (d : DeskState) (p : ℕ) (u : ObjectName) (is : IsDesk d) (proc : IsPr
   calm = record { desk = is; idle = idle }
 
   -- a lock begins
-  lock_by-good : (m : Mode) (held unsettled full is_node : Bool) → is_held (state_of d p u) ≡ held → is_unsettled (state_of d p u) ≡ unsettled → nat_le 8 (length (entries_of d p)) ≡ full
+  lock_by-good : (m : Mode) (held unsettled full is_node : Bool) → is_held (state_of d p u) ≡ held → is_unsettled (state_of d p u) ≡ unsettled → nat_le PROCESS_LOCKS (length (entries_of d p)) ≡ full
       → IsGood p (lock_by d p u m held unsettled full is_node)
   lock_by-good m true unsettled full is_node a b c = ended-good d p AlreadyHeld [] calm
   lock_by-good m false true full is_node a b c = ended-good d p Unsettled [] calm
@@ -49,11 +50,11 @@ module _ (d : DeskState) (p : ℕ) (u : ObjectName) (is : IsDesk d) (proc : IsPr
       sent-good d p (LockCall u m) u.home (Lock u m) is proc (idle-other d p idle) (λ e. cc) refl
       (record { free = neither-free (state_of d p u) a b; room = room-left; still = idle.no_page; others = idle.keeping })
     where
-      room-left : length (entries_of d p) < 8
+      room-left : length (entries_of d p) < PROCESS_LOCKS
       room-left = grind (arith, nat_tests, c)
 
   pub begin_lock_of-good : (m : Mode) → IsGood p (begin_lock_of d p u m)
-  begin_lock_of-good m = lock_by-good m (is_held (state_of d p u)) (is_unsettled (state_of d p u)) (nat_le 8 (length (entries_of d p))) (nat_le u.home d.nodes) refl refl refl
+  begin_lock_of-good m = lock_by-good m (is_held (state_of d p u)) (is_unsettled (state_of d p u)) (nat_le PROCESS_LOCKS (length (entries_of d p))) (nat_le u.home d.nodes) refl refl refl
 
   -- what is sent home before a release or a removal
   module _ (delete : Bool) (writes : keeps_writing (entry_at d.entries p u) ≡ true) (may : delete ≡ true → may_delete (state_of d p u) ≡ true) where
@@ -82,12 +83,12 @@ module _ (d : DeskState) (p : ℕ) (u : ObjectName) (is : IsDesk d) (proc : IsPr
         (release-stands d p u is proc (Some (release_call false u)) held idle)
 
     -- a changed length is one that a frame can carry
-    changed-within : (o : Option Known) (n : ℕ) → IfSome o IsKnown → changed_length o ≡ Some n → n ≤ 1048576
+    changed-within : (o : Option Known) (n : ℕ) → IfSome o IsKnown → changed_length o ≡ Some n → n ≤ MAX_LENGTH
     changed-within None n known found = absurd (cc)
     changed-within (Some k) n known found = by_changed k.changed found
       where
-        by_changed : (b : Bool) → changed_in b k.length ≡ Some n → n ≤ 1048576
-        by_changed true found = let same : k.length ≡ n = cc in subst (λ (i : ℕ). i ≤ 1048576) same known.length
+        by_changed : (b : Bool) → changed_in b k.length ≡ Some n → n ≤ MAX_LENGTH
+        by_changed true found = let same : k.length ≡ n = cc in subst (λ (i : ℕ). i ≤ MAX_LENGTH) same known.length
         by_changed false found = absurd (cc)
 
     length_first-good : (o : Option ℕ) → changed_length (known_of u d.known) ≡ o → ((j : ℕ) → is_dirty (page_at d.cache.pages u j) ≡ false) → IsGood p (length_first d p u delete o)
@@ -101,7 +102,7 @@ module _ (d : DeskState) (p : ℕ) (u : ObjectName) (is : IsDesk d) (proc : IsPr
     page_first-good None found alone = length_first-good (changed_length (known_of u d.known)) refl (none-dirty d.cache.pages u found)
     page_first-good (Some k) found alone =
         sent-good (with_sent_page d p u k) p (PageOutCall u k delete) u.home (own_page_out d p u k (bytes_in (page_at d.cache.pages u k))) sent-desk proc (idle-other d p idle) (λ e. cc)
-        (refl, within, grant, base)
+        (refl, within, grant, base, whole)
         (record { writes = writes; may = may; others = idle.keeping }, at-put_same d.moving p (going u k) None is.four.moving proc)
       where
         there : IsSome (page_at d.cache.pages u k)
@@ -110,11 +111,17 @@ module _ (d : DeskState) (p : ℕ) (u : ObjectName) (is : IsDesk d) (proc : IsPr
         sent-desk : IsDesk (with_sent_page d p u k)
         sent-desk = IsDesk-with_sent_page d p is proc u k kept (idle-other d p idle) (inl idle.no_page) there (λ none. none-marked d p u is idle.no_page alone k)
 
-        within : k < 1024
+        within : k < MAX_ROOM
         within =
             let r = there_is (page_at d.cache.pages u k) there in
             let shown = rw r.1 at (is.pages.each u k) in
-            subst (λ (n : ℕ). n < 1024) (found-page d.cache.pages u k r.0 r.1) shown.page
+            subst (λ (n : ℕ). n < MAX_ROOM) (found-page d.cache.pages u k r.0 r.1) shown.page
+
+        whole : length (bytes_in (page_at d.cache.pages u k)) ≡ PAGE_BYTES
+        whole =
+            let r = there_is (page_at d.cache.pages u k) there in
+            let shown = rw r.1 at (is.pages.each u k) in
+            rw r.1 shown.bytes
 
     transit_first-good : (o : Option ℕ) → other_transit d.moving p u ≡ o → IsGood p (transit_first d p u delete o)
     transit_first-good None found = page_first-good (dirty_page d.cache.pages u) refl found

@@ -12,9 +12,9 @@ use Rattle.ring_messages.specs.declared.body.Body.TheVariants as bodies
 use Rattle.fault_handler.specs.declared.open_call.OpenCall.{OpenCall}
 use Rattle.fault_handler.specs.declared.open_call.OpenCall.TheVariants.{Access, Lock, PageOut, AttrOut, Unlock, Remove}
 use Rattle.fault_handler.specs.Lengths.{known_of, changed_length}
-use Rattle.fault_handler.specs.Desks.{DeskState, state_of, call_of, other_transit}
+use Rattle.fault_handler.specs.Desks.{DeskState, state_of, open_call_of, other_transit}
 use Rattle.fault_handler.specs.Changes.{with_call, with_raised, with_sent_length, page_done_of}
-use Rattle.fault_handler.specs.Kept.{IsProc, IsDesk}
+use Rattle.fault_handler.specs.Invariant.{IsProc, IsDesk}
 use Rattle.lock_validate.specs.Steps.{Stepped}
 use Rattle.lock_validate.specs.Releases.{length_first, page_first, transit_first, release_of, unlock_by, begin_unlock_of, delete_by, begin_delete_of, go_on_of}
 use Rattle.lock_validate.specs.Answers.{lock_answer_of, page_answer_of, length_answer_of, answered, answer_came_of}
@@ -24,7 +24,7 @@ use Rattle.lock_validate.proofs.Good.{writes-held, state-noted}
 
 -- a step of a process that gives up settled
 abbrev pub Settles : ℕ → Stepped → Type 0
-Settles p s = GivesUpSettled s.desk p s.step
+Settles p s = GivesUpSettled s.desk p s.answer
 
 module _ (d : DeskState) (p : ℕ) (u : ObjectName) where
   module _ (delete : Bool) where
@@ -97,4 +97,4 @@ answered-settles d p (Some (Remove u)) body = tt
 
 -- whatever a home answers
 pub answer_came_of-settles : (d : DeskState) (p : ℕ) (body : Body) → Settles p (answer_came_of d p body)
-answer_came_of-settles d p body = answered-settles (with_call d p None) p (call_of d p) body
+answer_came_of-settles d p body = answered-settles (with_call d p None) p (open_call_of d p) body

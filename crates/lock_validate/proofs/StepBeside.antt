@@ -6,26 +6,27 @@ use Rattle.uid_names.specs.declared.mode.Mode.{Mode}
 use Rattle.dom_history.specs.declared.op.Op.{Op}
 use Rattle.dom_history.specs.declared.op.Op.TheVariants as ops
 use Rattle.dom_history.specs.declared.deed.LockState.TheVariants.{Free, Held, Taking, Releasing, Deleting}
-use Rattle.dom_history.specs.Locks.{is_free, is_held, mode_of}
+use Rattle.dom_history.specs.Locks.{is_free, is_held, mode_at_home}
 use Rattle.dom_history.specs.Replies.{may_delete}
+use Rattle.uid_names.specs.declared.limits.TheConstants.{PROCESS_LOCKS}
 use Rattle.page_cache.specs.Numbers.{dirty_page}
 use Rattle.ring_messages.specs.declared.body.Body.{Body}
 use Rattle.ring_messages.specs.declared.body.Body.TheVariants as bodies
-use Rattle.fault_handler.specs.declared.entries.Entry.{Entry}
+use Rattle.fault_handler.specs.declared.entries.LockEntry.{LockEntry}
 use Rattle.fault_handler.specs.declared.open_call.OpenCall.{OpenCall}
 use Rattle.fault_handler.specs.declared.open_call.OpenCall.TheVariants.{Access, Lock as LockCall, PageOut as PageOutCall, AttrOut as AttrOutCall, Unlock as UnlockCall, Remove as RemoveCall}
 use Rattle.fault_handler.specs.Entries.{entry_of, state_in, is_released, keeps, keeps_writing}
 use Rattle.fault_handler.specs.Lengths.{known_of, changed_length}
-use Rattle.fault_handler.specs.Desks.{DeskState, entries_of, state_of, any_keeps, call_of, other_transit}
+use Rattle.fault_handler.specs.Desks.{DeskState, entries_of, state_of, any_keeps, open_call_of, other_transit}
 use Rattle.fault_handler.specs.Changes.{with_call, with_state, with_note, with_sent_page, with_sent_length, with_raised, page_done_of}
-use Rattle.fault_handler.specs.Kept.{IsProc}
+use Rattle.fault_handler.specs.Invariant.{IsProc}
 use Rattle.fault_handler.specs.Conditions.{IsIdle}
 use Rattle.lock_validate.specs.Locking.{lock_by, begin_lock_of}
 use Rattle.lock_validate.specs.Releases.{release_call, length_first, page_first, transit_first, release_of, unlock_by, begin_unlock_of, delete_by, begin_delete_of, go_on_of}
 use Rattle.lock_validate.specs.Answers.{after_drop, learned, forgetting, lock_answer_of, page_answer_of, length_answer_of, removed, answered, answer_came_of}
-use Rattle.lock_validate.specs.Faults.{failed_by, call_failed_of}
+use Rattle.lock_validate.specs.Faults.{call_failed_by, call_failed_of}
 use Rattle.lock_validate.specs.Standing.{LockStands, WriterStands, ReleaseStands, CallStands, Stands}
-use Rattle.lock_validate.specs.Beside.{IsUntouched}
+use Rattle.lock_validate.specs.Untouched.{IsUntouched}
 use Rattle.lock_validate.proofs.Beside.{untouched, untouched-then, call-beside, state-beside, note-beside, sent-beside, done-beside}
 
 module _ (p q : ℕ) (proc : IsProc p) (other : IsProc q) (differs : q ≢ p) where
@@ -143,27 +144,27 @@ module _ (p q : ℕ) (proc : IsProc p) (other : IsProc q) (differs : q ≢ p) wh
       let e = with_state d p u Free 0 in
       untouched-then d e (removed e u (any_keeps e.entries u)).desk q (state-beside d p q proc other differs u Free 0) (removed-beside (any_keeps e.entries u) e u)
 
-  failed_by-beside : (d : DeskState) (call : Option OpenCall) → IsUntouched d (failed_by d p call).desk q
-  failed_by-beside d None = untouched d q
-  failed_by-beside d (Some Access) = untouched d q
-  failed_by-beside d (Some (LockCall u m)) = state-beside d p q proc other differs u (Taking m) 0
-  failed_by-beside d (Some (PageOutCall u k delete)) = done-beside d p q proc other differs false
-  failed_by-beside d (Some (AttrOutCall u n delete)) = untouched d q
-  failed_by-beside d (Some (UnlockCall u)) = state-beside d p q proc other differs u (Releasing (mode_of (state_of d p u))) 0
-  failed_by-beside d (Some (RemoveCall u)) = state-beside d p q proc other differs u Deleting 0
+  call_failed_by-beside : (d : DeskState) (call : Option OpenCall) → IsUntouched d (call_failed_by d p call).desk q
+  call_failed_by-beside d None = untouched d q
+  call_failed_by-beside d (Some Access) = untouched d q
+  call_failed_by-beside d (Some (LockCall u m)) = state-beside d p q proc other differs u (Taking m) 0
+  call_failed_by-beside d (Some (PageOutCall u k delete)) = done-beside d p q proc other differs false
+  call_failed_by-beside d (Some (AttrOutCall u n delete)) = untouched d q
+  call_failed_by-beside d (Some (UnlockCall u)) = state-beside d p q proc other differs u (Releasing (mode_at_home (state_of d p u))) 0
+  call_failed_by-beside d (Some (RemoveCall u)) = state-beside d p q proc other differs u Deleting 0
 
   pub answer_came_of-beside : (d : DeskState) (body : Body) → IsUntouched d (answer_came_of d p body).desk q
   answer_came_of-beside d body =
-      untouched-then d (with_call d p None) (answer_came_of d p body).desk q (call-beside d p q proc other differs None) (answered-beside (with_call d p None) (call_of d p) body)
+      untouched-then d (with_call d p None) (answer_came_of d p body).desk q (call-beside d p q proc other differs None) (answered-beside (with_call d p None) (open_call_of d p) body)
 
   pub call_failed_of-beside : (d : DeskState) → IsUntouched d (call_failed_of d p).desk q
   call_failed_of-beside d =
-      untouched-then d (with_call d p None) (call_failed_of d p).desk q (call-beside d p q proc other differs None) (failed_by-beside (with_call d p None) (call_of d p))
+      untouched-then d (with_call d p None) (call_failed_of d p).desk q (call-beside d p q proc other differs None) (call_failed_by-beside (with_call d p None) (open_call_of d p))
 
 -- what holds of a process's call, or of its rest, is told by what the desk keeps for it
 module _ (d e : DeskState) (q : ℕ) (same : IsUntouched d e q) where
   -- a process's entries
-  with_entries : (P : List Entry → Type 0) → P (entries_of d q) → P (entries_of e q)
+  with_entries : (P : List LockEntry → Type 0) → P (entries_of d q) → P (entries_of e q)
   with_entries P = subst P (sym same.entries)
 
   pub IsIdle-untouched : IsIdle d q → IsIdle e q
@@ -176,7 +177,7 @@ module _ (d e : DeskState) (q : ℕ) (same : IsUntouched d e q) where
   LockStands-untouched : (u : ObjectName) → LockStands d q u → LockStands e q u
   LockStands-untouched u stands = record {
     free = ap (λ es. is_free (state_in (entry_of u es))) same.entries ∙ stands.free;
-    room = subst (λ (es : List Entry). length es < 8) (sym same.entries) stands.room;
+    room = subst (λ (es : List LockEntry). length es < PROCESS_LOCKS) (sym same.entries) stands.room;
     still = same.moving ∙ stands.still;
     others = with_entries (λ es. (v : ObjectName) → is_held (state_in (entry_of v es)) ≡ true → keeps (entry_of v es) ≡ true) stands.others;
   }
@@ -206,4 +207,4 @@ module _ (d e : DeskState) (q : ℕ) (same : IsUntouched d e q) where
   CallStands-untouched (Some (RemoveCall u)) stands = (ReleaseStands-untouched u stands.0, ap (λ es. is_held (state_in (entry_of u es))) same.entries ∙ stands.1)
 
   pub Stands-untouched : Stands d q → Stands e q
-  Stands-untouched stands = subst (CallStands e q) (sym same.call) (CallStands-untouched (call_of d q) stands)
+  Stands-untouched stands = subst (CallStands e q) (sym same.call) (CallStands-untouched (open_call_of d q) stands)

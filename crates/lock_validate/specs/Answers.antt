@@ -10,7 +10,7 @@ use Rattle.ring_messages.specs.declared.body.Body.{Body}
 use Rattle.ring_messages.specs.declared.body.Body.TheVariants.{Granted, Conflict as ConflictAnswer, Stored, Stale}
 use Rattle.fault_handler.specs.declared.open_call.OpenCall.{OpenCall}
 use Rattle.fault_handler.specs.declared.open_call.OpenCall.TheVariants.{Lock, PageOut, AttrOut, Unlock, Remove}
-use Rattle.fault_handler.specs.Desks.{DeskState, call_of, others_keep, any_keeps}
+use Rattle.fault_handler.specs.Desks.{DeskState, open_call_of, others_keep, any_keeps}
 use Rattle.fault_handler.specs.Changes.{with_call, with_state, with_raised, with_forgotten, page_done_of, with_sent_length, with_known_row, with_seen, with_no_page}
 use Rattle.lock_validate.specs.Steps.{Stepped, ended}
 use Rattle.lock_validate.specs.Releases.{release_of}
@@ -87,4 +87,4 @@ answered d p _ body = ended d Fine []
 
 -- the reply to the open call of a process's lock, unlock or removal, which is open no more
 abbrev pub answer_came_of : DeskState → ℕ → Body → Stepped
-answer_came_of d p body = answered (with_call d p None) p (call_of d p) body
+answer_came_of d p body = answered (with_call d p None) p (open_call_of d p) body

@@ -6,5 +6,5 @@ pub mod Faults
 pub mod Fitting
 pub mod Standing
 pub mod Settled
-pub mod Beside
-pub mod Drops
+pub mod Untouched
+pub mod StepDrops

@@ -17,7 +17,7 @@ use Rattle.fault_handler.specs.Lengths.{known_of, changed_length}
 use Rattle.fault_handler.specs.Desks.{DeskState, entry_at, state_of, other_transit, base_of}
 use Rattle.fault_handler.specs.Changes.{with_note, with_sent_page}
 use Rattle.fault_handler.specs.Accesses.{own_page_out}
-use Rattle.lock_validate.specs.Steps.{Stepped, ended, sent, waiting}
+use Rattle.lock_validate.specs.Steps.{Stepped, ended, sent, step_waits}
 
 -- what gives the lock up: a removal deletes the object too
 abbrev pub release_call : Bool → ObjectName → OpenCall
@@ -47,7 +47,7 @@ page_first d p u delete None = length_first d p u delete (changed_length (known_
 
 -- the lowest page that another process has in transit is waited for before that
 abbrev pub transit_first : DeskState → ℕ → ObjectName → Bool → Option ℕ → Stepped
-transit_first d p u delete (Some k) = waiting d u k
+transit_first d p u delete (Some k) = step_waits d u k
 transit_first d p u delete None = page_first d p u delete (dirty_page d.cache.pages u)
 
 -- the release of a lock that is held in a mode that writes, or the removal of its object

@@ -7,7 +7,7 @@ use Rattle.ring_messages.specs.declared.body.Body.TheVariants.{Unlock, Remove}
 use Rattle.fault_handler.specs.Lengths.{known_of, is_changed}
 use Rattle.fault_handler.specs.Transits.{is_moving}
 use Rattle.fault_handler.specs.Desks.{DeskState, at, state_of}
-use Rattle.fault_handler.specs.Kept.{IsProc, is_dirty}
+use Rattle.fault_handler.specs.Invariant.{IsProc, is_dirty}
 use Rattle.lock_validate.specs.declared.step.Step.{Step}
 use Rattle.lock_validate.specs.declared.step.Step.TheVariants.{Send}
 

@@ -5,6 +5,7 @@ use Rattle.dom_history.specs.declared.op.Op.{Op}
 use Rattle.dom_history.specs.declared.op.Op.TheVariants.{Unlock as UnlockOp, Delete as DeleteOp}
 use Rattle.dom_history.specs.Locks.{is_free, is_held}
 use Rattle.dom_history.specs.Replies.{may_delete}
+use Rattle.uid_names.specs.declared.limits.TheConstants.{PROCESS_LOCKS}
 use Rattle.ring_messages.specs.declared.body.Body.{Body}
 use Rattle.ring_messages.specs.declared.body.Body.TheVariants as bodies
 use Rattle.ring_messages.specs.Ranges.{IsBody}
@@ -12,8 +13,8 @@ use Rattle.fault_handler.specs.declared.open_call.OpenCall.{OpenCall}
 use Rattle.fault_handler.specs.declared.open_call.OpenCall.TheVariants.{Access, Lock, PageOut, AttrOut, Unlock, Remove}
 use Rattle.fault_handler.specs.Entries.{is_released, keeps, keeps_writing}
 use Rattle.fault_handler.specs.Transits.{going}
-use Rattle.fault_handler.specs.Desks.{DeskState, entries_of, entry_at, state_of, call_of, moving_of}
-use Rattle.fault_handler.specs.Kept.{IsProc, KeepsAll}
+use Rattle.fault_handler.specs.Desks.{DeskState, entries_of, entry_at, state_of, open_call_of, moving_of}
+use Rattle.fault_handler.specs.Invariant.{IsProc, KeepsAll}
 use Rattle.fault_handler.specs.Conditions.{IsIdle}
 use Rattle.lock_validate.specs.declared.step.Step.{Step}
 use Rattle.lock_validate.specs.declared.step.Step.TheVariants.{Send, Wait, End}
@@ -25,7 +26,7 @@ KeepsOthers d p u = (v : ObjectName) → v ≢ u → is_held (state_of d p v) �
 -- a lock: the process is Free on the object, and there is room for one more
 pub record LockStands (d : DeskState) (p : ℕ) (u : ObjectName) : Type 0 where
   pub free : is_free (state_of d p u) ≡ true
-  pub room : length (entries_of d p) < 8
+  pub room : length (entries_of d p) < PROCESS_LOCKS
   pub still : moving_of d p ≡ None
   pub others : KeepsAll d.entries p
 
@@ -53,7 +54,7 @@ CallStands d p (Some (Remove u)) = ReleaseStands d p u × (is_held (state_of d p
 CallStands d p _ = ⊥
 
 abbrev pub Stands : DeskState → ℕ → Type 0
-Stands d p = CallStands d p (call_of d p)
+Stands d p = CallStands d p (open_call_of d p)
 
 abbrev pub answers_lock : Body → Bool
 answers_lock (bodies.Granted grant stamp kind room n) = true
@@ -86,10 +87,10 @@ AfterStep d p (Wait u k dropped) = IsIdle d p
 AfterStep d p (End reply dropped) = IsIdle d p
 
 -- a request is one that a frame to that home can carry
-abbrev pub IsAsked : Step → Type 0
-IsAsked (Send home body dropped) = IsBody home body
-IsAsked (Wait u k dropped) = Unit {0}
-IsAsked (End reply dropped) = Unit {0}
+abbrev pub StepAsks : Step → Type 0
+StepAsks (Send home body dropped) = IsBody home body
+StepAsks (Wait u k dropped) = Unit {0}
+StepAsks (End reply dropped) = Unit {0}
 
 -- an unlock or a removal that passes the tests on the process's state
 abbrev pub MayGoOn : DeskState → ℕ → Op → Type 0
@@ -104,4 +105,4 @@ MayStand d p (Some Access) = Unit {0}
 MayStand d p call = CallStands d p call
 
 abbrev pub AllStand : DeskState → Type 0
-AllStand d = (p : ℕ) → IsProc p → MayStand d p (call_of d p)
+AllStand d = (p : ℕ) → IsProc p → MayStand d p (open_call_of d p)

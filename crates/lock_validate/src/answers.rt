@@ -2,18 +2,19 @@
 ghost use Rattle.std.specs.Prelude.{◌≡◌, ℕ, ◌≤◌, ◌++◌, true, false, not, ◌&&◌, IsOk, IfOk, IfSome, OnOk, OnErr, IsSome, is_some, Some, None, map};
 ghost use Rattle.version_stamps.specs.Stamps.{stamp_of};
 ghost use Rattle.page_cache.specs.Caches.{page_at};
-ghost use Rattle.ring_messages.specs.Ranges.{IsBody, IsRoom, IsLength};
+ghost use Rattle.uid_names.specs.Rooms.{IsRoom, IsLength};
+ghost use Rattle.ring_messages.specs.Ranges.{IsBody};
 ghost use Rattle.fault_handler.specs.Entries.{keeps, keeps_writing};
-ghost use Rattle.fault_handler.specs.Desks.{entry_at, call_of, moving_of, any_keeps, others_keep};
+ghost use Rattle.fault_handler.specs.Desks.{entry_at, open_call_of, moving_of, any_keeps, others_keep};
 ghost use Rattle.fault_handler.specs.Changes.{with_raised};
-ghost use Rattle.fault_handler.specs.Kept.{IsDesk, is_dirty, is_marked};
+ghost use Rattle.fault_handler.specs.Invariant.{IsDesk, is_dirty, is_marked};
 ghost use Rattle.fault_handler.specs.Conditions.{IsOf, IsIdle};
-ghost use Rattle.lock_validate.specs.Steps.{Gives};
+ghost use Rattle.fault_handler.specs.Answered.{Gives};
 ghost use Rattle.lock_validate.specs.Releases.{release_of};
 ghost use Rattle.lock_validate.specs.Answers.{is_seen, is_fresh, after_drop, dropped_of, learned, granted, gone, forgetting, removed, lock_answer_of, page_answer_of, length_answer_of, answered, answer_came_of};
 ghost use Rattle.lock_validate.specs.Fitting.{operation_of, FitsStep};
-ghost use Rattle.lock_validate.specs.Standing.{AfterStep, IsAsked, Stands, CallStands, LockStands, WriterStands, answers_lock, answers_write, answers};
-ghost use Rattle.lock_validate.specs.Drops.{IsOutdated, MayDropAt};
+ghost use Rattle.lock_validate.specs.Standing.{AfterStep, StepAsks, Stands, CallStands, LockStands, WriterStands, answers_lock, answers_write, answers};
+ghost use Rattle.lock_validate.specs.StepDrops.{IsOutdated, MayDropAt};
 
 use crate::releases::release;
 use crate::sends::end;
@@ -28,12 +29,12 @@ use uid_names::{Mode, NoMemory, ProcId, Uid};
 pub fn answer_came(desk: &mut Desk, proc: ProcId, body: &Body) -> Result<Step, NoMemory>
     requires own { IsOf desk.old proc }
     requires stands { Stands desk.old proc.number }
-    requires fits { answers (call_of desk.old proc.number) body.now ≡ true }
+    requires fits { answers (open_call_of desk.old proc.number) body.now ≡ true }
     requires range { IsBody proc.node body.now }
     ensures outcome { IfOk result (Gives desk.new (answer_came_of desk.old proc.number body.now)) }
-    ensures memory { OnErr result (MayDropAt desk.old (call_of desk.old proc.number) body.now) }
-    ensures fits { IfSome (operation_of (call_of desk.old proc.number)) (λ op. IfOk result (FitsStep op)) }
-    ensures asks { IfOk result IsAsked }
+    ensures memory { OnErr result (MayDropAt desk.old (open_call_of desk.old proc.number) body.now) }
+    ensures fits { IfSome (operation_of (open_call_of desk.old proc.number)) (λ op. IfOk result (FitsStep op)) }
+    ensures asks { IfOk result StepAsks }
     ensures next { IfOk result (AfterStep desk.new proc.number) }
     ensures node { OnOk result (desk.new.node ≡ desk.old.node) }
 {
@@ -49,7 +50,7 @@ pub fn answer_came(desk: &mut Desk, proc: ProcId, body: &Body) -> Result<Step, N
 fn answered(desk: &mut Desk, proc: ProcId, call: OpenCall, body: &Body) -> Result<Step, NoMemory>
     requires own { IsOf desk.old proc }
     requires kept { IsDesk desk.old }
-    requires closed { call_of desk.old proc.number ≡ None }
+    requires closed { open_call_of desk.old proc.number ≡ None }
     requires stands { CallStands desk.old proc.number (Some call) }
     requires fits { answers (Some call) body.now ≡ true }
     requires range { IsBody proc.node body.now }
@@ -267,7 +268,7 @@ fn page_answered(
 ) -> Result<Step, NoMemory>
     requires own { IsOf desk.old proc }
     requires kept { IsDesk desk.old }
-    requires closed { call_of desk.old proc.number ≡ None }
+    requires closed { open_call_of desk.old proc.number ≡ None }
     requires writer { WriterStands desk.old proc.number uid delete }
     requires fits { answers_write body.now ≡ true }
     requires range { IsBody proc.node body.now }
@@ -297,7 +298,7 @@ fn length_answered(
     body: &Body,
 ) -> Result<Step, NoMemory>
     requires own { IsOf desk.old proc }
-    requires closed { call_of desk.old proc.number ≡ None }
+    requires closed { open_call_of desk.old proc.number ≡ None }
     requires still { moving_of desk.old proc.number ≡ None }
     requires seen { IsSome (stamp_of uid desk.old.seen) }
     requires writer { WriterStands desk.old proc.number uid delete }

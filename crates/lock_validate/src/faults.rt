@@ -1,9 +1,10 @@
 //! A link fault ends the call of a lock, an unlock or a removal.
 ghost use Rattle.std.specs.Prelude.{◌≡◌, Some, None, IfSome};
 ghost use Rattle.dom_history.specs.Fitting.{Fits};
-ghost use Rattle.fault_handler.specs.Desks.{call_of};
+ghost use Rattle.fault_handler.specs.Desks.{open_call_of};
+ghost use Rattle.fault_handler.specs.Answered.{Gives};
 ghost use Rattle.fault_handler.specs.Conditions.{IsOf, IsIdle};
-ghost use Rattle.lock_validate.specs.Faults.{failed, failed_by, call_failed_of};
+ghost use Rattle.lock_validate.specs.Faults.{call_failed_by, call_failed_of};
 ghost use Rattle.lock_validate.specs.Fitting.{operation_of};
 ghost use Rattle.lock_validate.specs.Standing.{Stands, CallStands};
 
@@ -16,25 +17,25 @@ use uid_names::{Mode, ProcId};
 pub fn call_failed(desk: &mut Desk, proc: ProcId) -> Reply
     requires own { IsOf desk.old proc }
     requires stands { Stands desk.old proc.number }
-    ensures outcome { failed desk.new result ≡ call_failed_of desk.old proc.number }
-    ensures fits { IfSome (operation_of (call_of desk.old proc.number)) (λ op. Fits op result) }
+    ensures outcome { Gives desk.new (call_failed_of desk.old proc.number) result }
+    ensures fits { IfSome (operation_of (open_call_of desk.old proc.number)) (λ op. Fits op result) }
     ensures next { IsIdle desk.new proc.number }
     ensures node { desk.new.node ≡ desk.old.node }
 {
     let call = desk.open_call(proc);
     desk.set_open_call(proc, None);
     match call {
-        Some(call) => failed_by(desk, proc, call),
+        Some(call) => call_failed_by(desk, proc, call),
         None => unreachable!(),
     }
 }
 
 /// The same, with the call that was open.
-fn failed_by(desk: &mut Desk, proc: ProcId, call: OpenCall) -> Reply
+fn call_failed_by(desk: &mut Desk, proc: ProcId, call: OpenCall) -> Reply
     requires own { IsOf desk.old proc }
-    requires closed { call_of desk.old proc.number ≡ None }
+    requires closed { open_call_of desk.old proc.number ≡ None }
     requires stands { CallStands desk.old proc.number (Some call) }
-    ensures { failed desk.new result ≡ failed_by desk.old proc.number (Some call) }
+    ensures { Gives desk.new (call_failed_by desk.old proc.number (Some call)) result }
 {
     match call {
         OpenCall::Lock(uid, mode) => {

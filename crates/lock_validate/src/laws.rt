@@ -7,32 +7,32 @@ ghost use Rattle.dom_history.specs.declared.op.Op.{Op};
 ghost use Rattle.dom_history.specs.Events.{ArePagesRising};
 ghost use Rattle.ring_messages.specs.declared.body.Body.{Body};
 ghost use Rattle.ring_messages.specs.Ranges.{IsBody};
-ghost use Rattle.fault_handler.specs.Desks.{DeskState, call_of, moving_of};
-ghost use Rattle.fault_handler.specs.Kept.{IsProc, IsDesk};
+ghost use Rattle.fault_handler.specs.Desks.{DeskState, open_call_of, moving_of};
+ghost use Rattle.fault_handler.specs.Invariant.{IsProc, IsDesk};
 ghost use Rattle.fault_handler.specs.Conditions.{IsIdle, IsAccessing, fits_move};
-ghost use Rattle.fault_handler.specs.Drops.{dropped_in as dropped_by};
+ghost use Rattle.fault_handler.specs.Drops.{dropped_in};
 ghost use Rattle.lock_validate.specs.Locking.{begin_lock_of};
 ghost use Rattle.lock_validate.specs.Releases.{begin_unlock_of, begin_delete_of, go_on_of};
 ghost use Rattle.lock_validate.specs.Answers.{answer_came_of};
 ghost use Rattle.lock_validate.specs.Faults.{call_failed_of};
-ghost use Rattle.lock_validate.specs.Standing.{Stands, AllStand, answers, AfterStep, IsAsked};
+ghost use Rattle.lock_validate.specs.Standing.{Stands, AllStand, answers, AfterStep, StepAsks};
 ghost use Rattle.fault_handler.specs.Accesses.{access_of};
 ghost use Rattle.fault_handler.specs.PageReplies.{page_came_of, access_failed_of};
-ghost use Rattle.lock_validate.specs.Beside.{IsUntouched};
-ghost use Rattle.lock_validate.specs.Drops.{dropped_in, MayDrop};
+ghost use Rattle.lock_validate.specs.Untouched.{IsUntouched};
+ghost use Rattle.lock_validate.specs.StepDrops.{step_dropped, StepMayDrop};
 ghost use Rattle.lock_validate.specs.Settled.{GivesUpSettled};
 
 /// A lock that is held in a mode that writes is given up, and an object is removed, only where no page of
 /// the object is dirty or moved by another process and its length is unchanged, whatever a home answered.
 pub fn what_is_given_up_is_settled()
     ensures unlocked { (d : DeskState) (p : ℕ) (u : ObjectName) → IsDesk d → IsProc p →
-        GivesUpSettled (begin_unlock_of d p u).desk p (begin_unlock_of d p u).step }
+        GivesUpSettled (begin_unlock_of d p u).desk p (begin_unlock_of d p u).answer }
     ensures deleted { (d : DeskState) (p : ℕ) (u : ObjectName) → IsDesk d → IsProc p →
-        GivesUpSettled (begin_delete_of d p u).desk p (begin_delete_of d p u).step }
+        GivesUpSettled (begin_delete_of d p u).desk p (begin_delete_of d p u).answer }
     ensures went_on { (d : DeskState) (p : ℕ) (op : Op) → IsDesk d → IsProc p →
-        GivesUpSettled (go_on_of d p op).desk p (go_on_of d p op).step }
+        GivesUpSettled (go_on_of d p op).desk p (go_on_of d p op).answer }
     ensures answered { (d : DeskState) (p : ℕ) (body : Body) →
-        GivesUpSettled (answer_came_of d p body).desk p (answer_came_of d p body).step }
+        GivesUpSettled (answer_came_of d p body).desk p (answer_came_of d p body).answer }
 {}
 
 /// An operation that begins, or goes on, leaves what each desk keeps.
@@ -50,12 +50,12 @@ pub fn a_step_leaves_a_desk()
 /// So does each answer that has a rule at the open call, and a link fault.
 pub fn an_answer_leaves_a_desk()
     ensures desk { (d : DeskState) (p to : ℕ) (body : Body) → IsDesk d → IsProc p → Stands d p →
-        answers (call_of d p) body ≡ true → IsBody to body → IsDesk (answer_came_of d p body).desk }
+        answers (open_call_of d p) body ≡ true → IsBody to body → IsDesk (answer_came_of d p body).desk }
     ensures asks { (d : DeskState) (p to : ℕ) (body : Body) → IsDesk d → IsProc p → Stands d p →
-        answers (call_of d p) body ≡ true → IsBody to body → IsAsked (answer_came_of d p body).step }
+        answers (open_call_of d p) body ≡ true → IsBody to body → StepAsks (answer_came_of d p body).answer }
     ensures next { (d : DeskState) (p to : ℕ) (body : Body) → IsDesk d → IsProc p → Stands d p →
-        answers (call_of d p) body ≡ true → IsBody to body →
-        AfterStep (answer_came_of d p body).desk p (answer_came_of d p body).step }
+        answers (open_call_of d p) body ≡ true → IsBody to body →
+        AfterStep (answer_came_of d p body).desk p (answer_came_of d p body).answer }
     ensures fault { (d : DeskState) (p : ℕ) → IsDesk d → IsProc p → Stands d p → IsDesk (call_failed_of d p).desk }
     ensures idle { (d : DeskState) (p : ℕ) → IsDesk d → IsProc p → Stands d p → IsIdle (call_failed_of d p).desk p }
 {}
@@ -92,24 +92,24 @@ pub fn what_is_untouched_stands()
 /// Pages are dropped only at an answer: at a grant whose stamp is not the seen one, or where the object is known
 /// to be gone, and in either case only where no process of the node keeps the object.
 pub fn pages_are_dropped_where_no_process_keeps_the_object()
-    ensures locks { (d : DeskState) (p : ℕ) (u : ObjectName) (m : Mode) → dropped_in (begin_lock_of d p u m).step ≡ [] }
-    ensures unlocks { (d : DeskState) (p : ℕ) (u : ObjectName) → dropped_in (begin_unlock_of d p u).step ≡ [] }
-    ensures deletes { (d : DeskState) (p : ℕ) (u : ObjectName) → dropped_in (begin_delete_of d p u).step ≡ [] }
-    ensures goes_on { (d : DeskState) (p : ℕ) (op : Op) → dropped_in (go_on_of d p op).step ≡ [] }
+    ensures locks { (d : DeskState) (p : ℕ) (u : ObjectName) (m : Mode) → step_dropped (begin_lock_of d p u m).answer ≡ [] }
+    ensures unlocks { (d : DeskState) (p : ℕ) (u : ObjectName) → step_dropped (begin_unlock_of d p u).answer ≡ [] }
+    ensures deletes { (d : DeskState) (p : ℕ) (u : ObjectName) → step_dropped (begin_delete_of d p u).answer ≡ [] }
+    ensures goes_on { (d : DeskState) (p : ℕ) (op : Op) → step_dropped (go_on_of d p op).answer ≡ [] }
     ensures answered { (d : DeskState) (p : ℕ) (body : Body) → IsDesk d → IsProc p → Stands d p →
-        answers (call_of d p) body ≡ true → MayDrop d (call_of d p) body (dropped_in (answer_came_of d p body).step) }
+        answers (open_call_of d p) body ≡ true → StepMayDrop d (open_call_of d p) body (step_dropped (answer_came_of d p body).answer) }
 {}
 
 /// The pages that an answer drops rise strictly, by object and then by number, as those of an event do; so
 /// does what a load or store drops.
 pub fn dropped_pages_rise()
     ensures answered { (d : DeskState) (p : ℕ) (body : Body) → IsDesk d →
-        ArePagesRising (dropped_in (answer_came_of d p body).step) }
+        ArePagesRising (step_dropped (answer_came_of d p body).answer) }
     ensures accesses { (d : DeskState) (p : ℕ) (op : Op) → IsDesk d → IsProc p → moving_of d p ≡ None →
-        ArePagesRising (dropped_by (access_of d p op).answer) }
+        ArePagesRising (dropped_in (access_of d p op).answer) }
     ensures page_came { (d : DeskState) (p to : ℕ) (body : Body) → IsDesk d → IsProc p → IsAccessing d p →
         fits_move (moving_of d p) body ≡ true → IsBody to body →
-        ArePagesRising (dropped_by (page_came_of d p body).answer) }
+        ArePagesRising (dropped_in (page_came_of d p body).answer) }
 {}
 
 /// Each process's open call stands again after a call of one, unless it is that of a load or store.
@@ -119,7 +119,7 @@ pub fn each_open_call_stands_again()
     ensures goes_on { (d : DeskState) (p : ℕ) (op : Op) → IsDesk d → IsProc p → IsIdle d p →
         AllStand d → AllStand (go_on_of d p op).desk }
     ensures answered { (d : DeskState) (p to : ℕ) (body : Body) → IsDesk d → IsProc p →
-        answers (call_of d p) body ≡ true → IsBody to body → AllStand d → AllStand (answer_came_of d p body).desk }
+        answers (open_call_of d p) body ≡ true → IsBody to body → AllStand d → AllStand (answer_came_of d p body).desk }
     ensures failed { (d : DeskState) (p : ℕ) → IsDesk d → IsProc p → Stands d p →
         AllStand d → AllStand (call_failed_of d p).desk }
 {}

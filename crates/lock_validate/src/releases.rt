@@ -9,19 +9,20 @@ ghost use Rattle.page_cache.specs.Numbers.{dirty_page};
 ghost use Rattle.fault_handler.specs.Desks.{entry_at, state_of, other_transit};
 ghost use Rattle.fault_handler.specs.Entries.{keeps_writing};
 ghost use Rattle.fault_handler.specs.Lengths.{known_of, changed_length};
-ghost use Rattle.fault_handler.specs.Kept.{IsDesk};
+ghost use Rattle.fault_handler.specs.Invariant.{IsDesk};
 ghost use Rattle.fault_handler.specs.Conditions.{IsOf, IsIdle, IsNotAccessing};
-ghost use Rattle.lock_validate.specs.Steps.{Gives, sent};
+ghost use Rattle.fault_handler.specs.Answered.{Gives};
+ghost use Rattle.lock_validate.specs.Steps.{sent};
 ghost use Rattle.lock_validate.specs.Releases.{release_call, release_body, length_first, page_first, release_of, unlock_by, begin_unlock_of, delete_by, begin_delete_of, go_on_of};
 ghost use Rattle.lock_validate.specs.Fitting.{FitsStep};
-ghost use Rattle.lock_validate.specs.Standing.{AfterStep, IsAsked, MayGoOn};
+ghost use Rattle.lock_validate.specs.Standing.{AfterStep, StepAsks, MayGoOn};
 
 use crate::sends::{end, send};
 use crate::step::Step;
 use dom_history::{Dropped, Op, Reply};
 use fault_handler::{Desk, LockState, OpenCall};
 use ring_messages::Body;
-use uid_names::{Mode, NoMemory, ProcId, Uid};
+use uid_names::{NoMemory, ProcId, Uid};
 
 /// Begins an unlock. Takes no memory.
 pub fn begin_unlock(desk: &mut Desk, proc: ProcId, uid: Uid) -> Result<Step, NoMemory>
@@ -30,7 +31,7 @@ pub fn begin_unlock(desk: &mut Desk, proc: ProcId, uid: Uid) -> Result<Step, NoM
     ensures done { IsOk result }
     ensures outcome { IfOk result (Gives desk.new (begin_unlock_of desk.old proc.number uid)) }
     ensures fits { IfOk result (FitsStep (Op.Unlock uid)) }
-    ensures asks { IfOk result IsAsked }
+    ensures asks { IfOk result StepAsks }
     ensures next { IfOk result (AfterStep desk.new proc.number) }
     ensures node { OnOk result (desk.new.node ≡ desk.old.node) }
 {
@@ -67,7 +68,7 @@ pub fn begin_delete(desk: &mut Desk, proc: ProcId, uid: Uid) -> Result<Step, NoM
     ensures done { IsOk result }
     ensures outcome { IfOk result (Gives desk.new (begin_delete_of desk.old proc.number uid)) }
     ensures fits { IfOk result (FitsStep (Op.Delete uid)) }
-    ensures asks { IfOk result IsAsked }
+    ensures asks { IfOk result StepAsks }
     ensures next { IfOk result (AfterStep desk.new proc.number) }
     ensures node { OnOk result (desk.new.node ≡ desk.old.node) }
 {
@@ -85,8 +86,8 @@ fn delete_by(desk: &mut Desk, proc: ProcId, uid: Uid, state: LockState) -> Resul
     ensures outcome { IfOk result (Gives desk.new (delete_by desk.old proc.number uid (is_held state) (may_delete state))) }
 {
     match state {
-        LockState::Held(Mode::Write) => release(desk, proc, uid, true),
-        LockState::Held(Mode::Read) => Ok(end(desk, Reply::WrongMode)),
+        LockState::Held(mode) if mode.removes() => release(desk, proc, uid, true),
+        LockState::Held(_) => Ok(end(desk, Reply::WrongMode)),
         LockState::Free | LockState::Taking(_) | LockState::Releasing(_) | LockState::Deleting =>
             Ok(end(desk, Reply::NoLock)),
     }
@@ -100,7 +101,7 @@ pub fn go_on(desk: &mut Desk, proc: ProcId, op: &Op) -> Result<Step, NoMemory>
     ensures done { IsOk result }
     ensures outcome { IfOk result (Gives desk.new (go_on_of desk.old proc.number op.now)) }
     ensures fits { IfOk result (FitsStep op.now) }
-    ensures asks { IfOk result IsAsked }
+    ensures asks { IfOk result StepAsks }
     ensures next { IfOk result (AfterStep desk.new proc.number) }
     ensures node { OnOk result (desk.new.node ≡ desk.old.node) }
 {

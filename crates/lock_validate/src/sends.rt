@@ -1,7 +1,8 @@
 //! How a step ends or asks a home.
 ghost use Rattle.std.specs.Prelude.{◌≡◌, Some, []};
 ghost use Rattle.fault_handler.specs.Conditions.{IsOf, IsNotAccessing, IsOther};
-ghost use Rattle.lock_validate.specs.Steps.{Gives, sent};
+ghost use Rattle.fault_handler.specs.Answered.{Gives};
+ghost use Rattle.lock_validate.specs.Steps.{sent};
 
 use crate::step::Step;
 use dom_history::{Dropped, Reply};

@@ -2,6 +2,7 @@
 //! object; and a random walk of four.
 ghost use Rattle.std.specs.Prelude.{◌≡◌, ◌≤◌, ℕ, Some, IfOk, OnOk};
 ghost use Rattle.std.specs.Bool.{OnTrue};
+ghost use Rattle.uid_names.specs.Names.{IsName};
 ghost use Rattle.dom_history.specs.Ranges.{IsOp};
 ghost use Rattle.ring_messages.specs.Ranges.{IsBody};
 ghost use Rattle.fault_handler.specs.Desks.{DeskState};
@@ -14,7 +15,7 @@ use fault_handler::{Access, Desk, LockState, OpenCall};
 use ring_messages::Body;
 use std::process::Abort;
 use std::test::Fail;
-use uid_names::{ByteList, Mode, NodeId, ObjKind, ProcId, Uid};
+use uid_names::{ByteList, Mode, NodeId, ObjKind, PAGE_BYTES, ProcId, Uid};
 
 mod beside;
 mod faults;
@@ -22,9 +23,6 @@ mod locks;
 mod plain_home;
 mod unlocks;
 mod walk;
-
-/// How many bytes a page has.
-const PAGE_BYTES: u32 = 1024;
 
 /// What a call came to. Of bytes the first is told.
 #[derive(Clone, Copy, Debug, PartialEq, Eq)]
@@ -198,6 +196,15 @@ fn object(number: u8) -> Result<Uid, Fail> {
     Ok(Uid::from_parts(u64::from(number) + 1, home))
 }
 
+/// An object, which is a name.
+fn named(uid: Uid) -> Uid
+    ensures same { result ≡ uid }
+    ensures name { IsName result }
+{
+    let _number = uid.number();
+    uid
+}
+
 /// The desk of the first of some nodes, with five frames.
 fn desk(rt: &impl AllocGlobal, nodes: u8) -> Result<Desk, Fail>
     requires low { 1 ≤ nodes }
@@ -352,7 +359,7 @@ fn load(desk: &mut Desk, number: u8, uid: Uid, offset: u32) -> Result<Access, Fa
     requires { AllStand desk.old }
     ensures { OnOk result (AllStand desk.new) }
 {
-    let spot = Spot::Of(uid, offset);
+    let spot = Spot::Of(named(uid), offset);
     access(desk, number, &Op::Load { spot, count: 1 })
 }
 
@@ -361,7 +368,7 @@ fn store(desk: &mut Desk, number: u8, uid: Uid, offset: u32, byte: u8) -> Result
     requires { AllStand desk.old }
     ensures { OnOk result (AllStand desk.new) }
 {
-    let spot = Spot::Of(uid, offset);
+    let spot = Spot::Of(named(uid), offset);
     let bytes = ByteList::from_slice(desk.allocator(), &[byte])?;
     access(desk, number, &Op::Store { spot, bytes })
 }
@@ -385,7 +392,7 @@ fn page(desk: &mut Desk, number: u8, stamp: u64, byte: u8) -> Result<Access, Fai
     ensures { OnOk result (AllStand desk.new) }
 {
     let stamp = stamp.max(1);
-    let bytes = [byte; 1024];
+    let bytes = [byte; PAGE_BYTES];
     access_answer(desk, number, &Body::Page { stamp, bytes })
 }
 
@@ -408,7 +415,7 @@ fn granted(desk: &mut Desk, number: u8, grant: u64, stamp: u64, length: u32) -> 
         stamp: stamp.max(1),
         kind: ObjKind::File,
         room: 10,
-        length: length.min(10 * PAGE_BYTES),
+        length: length.min(10 * PAGE_BYTES as u32),
     };
     answer(desk, number, &body)
 }
@@ -446,7 +453,7 @@ fn hold(desk: &mut Desk, number: u8, uid: Uid, mode: Mode, grant: u64) -> Result
     ensures { OnOk result (AllStand desk.new) }
 {
     lock(desk, number, uid, mode)?;
-    granted(desk, number, grant, 1, 10 * PAGE_BYTES)
+    granted(desk, number, grant, 1, 10 * PAGE_BYTES as u32)
 }
 
 /// A page of zeros comes to a store of a byte at its start.
@@ -460,7 +467,13 @@ fn store_new(
     requires { AllStand desk.old }
     ensures { OnOk result (AllStand desk.new) }
 {
-    store(desk, number, uid, u32::from(page_number) * PAGE_BYTES, byte)?;
+    store(
+        desk,
+        number,
+        uid,
+        u32::from(page_number) * PAGE_BYTES as u32,
+        byte,
+    )?;
     page(desk, number, 1, 0)
 }
 

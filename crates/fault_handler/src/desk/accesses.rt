@@ -1,27 +1,30 @@
 //! Loads, stores, lengths and mappings.
 ghost use Rattle.std.specs.Prelude.{◌≡◌, ◌+◌, ◌/◌, ◌%◌, ◌≤◌, ◌<◌, true, false, is_some, length, Some, None, IfOk, IfSome, OnErr, []};
 ghost use Rattle.std.specs.Option.{option_map};
+ghost use Rattle.uid_names.specs.Rooms.{IsPageNumber};
 ghost use Rattle.dom_history.specs.Locks.{is_held};
 ghost use Rattle.page_cache.specs.Victims.{victim_of};
 ghost use Rattle.address_map.specs.Mappings.{mapping_of};
 ghost use Rattle.page_cache.specs.Caches.{IsResident, page_at, free_count};
 ghost use Rattle.dom_history.specs.Ranges.{IsOp};
-ghost use Rattle.fault_handler.specs.Tasks.{page_of, start_of, loaded_from};
+ghost use Rattle.fault_handler.specs.Tasks.{page_of, start_of};
+ghost use Rattle.fault_handler.specs.Unseen.{loaded_from};
 ghost use Rattle.fault_handler.specs.Entries.{keeps_writing};
-ghost use Rattle.fault_handler.specs.Desks.{entry_at, state_of, maps_of, call_of, moving_of, others_fetch};
-ghost use Rattle.fault_handler.specs.Kept.{IsAllowed, is_marked, is_dirty};
+ghost use Rattle.fault_handler.specs.Desks.{entry_at, state_of, maps_of, open_call_of, moving_of, others_fetch};
+ghost use Rattle.fault_handler.specs.Invariant.{IsAllowed, is_marked, is_dirty};
 ghost use Rattle.fault_handler.specs.Accesses.{task_at, page_by, frame_by, page_access, load_at, store_at, length_by, map_by, unmap_by, access_of, target_of, page_out, fetched, room_made};
 ghost use Rattle.fault_handler.specs.Conditions.{IsOf, IsIdle, IsAccess, MayWant};
-ghost use Rattle.fault_handler.specs.Outcomes.{Gives, FitsAnswer, IsAsked, AfterAccess};
+ghost use Rattle.fault_handler.specs.Answered.{Gives};
+ghost use Rattle.fault_handler.specs.Outcomes.{FitsAnswer, IsAsked, AfterAccess};
 
 use super::Desk;
 use crate::access::Access;
 use crate::four::{index_of, others_fetch, writing_grant};
-use crate::tasks::{PAGE_BYTES, Task, Work};
+use crate::tasks::{Task, Work};
 use address_map::{MapRefusal, NotMapped};
 use dom_history::{Dropped, Op, Reply, Spot};
 use ring_messages::Body;
-use uid_names::{ByteList, NoMemory, ProcId, Uid};
+use uid_names::{ByteList, NoMemory, PAGE_BYTES, ProcId, Uid};
 
 impl Desk {
     /// Begins a load, a store, or a call on a length or a mapping, or goes on with one that waited. Only
@@ -102,7 +105,7 @@ impl Desk {
     fn load(&mut self, proc: ProcId, uid: Uid, offset: u32, count: u32) -> Result<Access, NoMemory>
         requires idle { IsIdle self.old proc.number }
         requires some { 1 ≤ count }
-        requires within { offset % 1024 + count ≤ 1024 }
+        requires within { offset % PAGE_BYTES + count ≤ PAGE_BYTES }
         ensures outcome { IfOk result (Gives self.new (load_at self.old proc.number count (Some (uid, offset)))) }
         ensures unchanged { OnErr result (self.new ≡ self.old) }
     {
@@ -125,7 +128,7 @@ impl Desk {
     ) -> Result<Access, NoMemory>
         requires idle { IsIdle self.old proc.number }
         requires some { 1 ≤ length bytes.now }
-        requires within { offset % 1024 + length bytes.now ≤ 1024 }
+        requires within { offset % PAGE_BYTES + length bytes.now ≤ PAGE_BYTES }
         ensures outcome { IfOk result (Gives self.new (store_at self.old proc.number bytes.now (Some (uid, offset)))) }
         ensures unchanged { OnErr result (self.new ≡ self.old) }
     {
@@ -137,11 +140,11 @@ impl Desk {
             return Ok(self.refuse(Reply::WrongMode));
         }
         let end = u64::from(offset) + bytes.bytes().len() as u64;
-        if u64::from(PAGE_BYTES) * u64::from(self.room_of(uid)) < end {
+        if PAGE_BYTES as u64 * u64::from(self.room_of(uid)) < end {
             return Ok(self.refuse(Reply::PastRoom));
         }
         // A store in a resident page takes no memory.
-        if self.is_resident(uid, offset / PAGE_BYTES) {
+        if self.is_resident(uid, offset / PAGE_BYTES as u32) {
             return Ok(self.store_resident(proc, uid, offset, bytes.bytes()));
         }
         let work = Work::Store(bytes.copy(self.alloc)?);
@@ -205,30 +208,30 @@ impl Desk {
         offset: u32,
         count: u32,
     ) -> Result<Access, NoMemory>
-        requires resident { IsResident self.old.cache.pages uid (offset / 1024) }
-        requires within { offset % 1024 + count ≤ 1024 }
+        requires resident { IsResident self.old.cache.pages uid (offset / PAGE_BYTES) }
+        requires within { offset % PAGE_BYTES + count ≤ PAGE_BYTES }
         ensures outcome { IfOk result (Gives self.new (page_access self.old proc.number (task_at uid offset (Work.Load count)))) }
         ensures unchanged { OnErr result (self.new ≡ self.old) }
     {
         self.kept(proc);
-        let page = offset / PAGE_BYTES;
+        let page = offset / PAGE_BYTES as u32;
         let bytes = self
             .pages
-            .load(self.alloc, uid, page, offset % PAGE_BYTES, count)?;
+            .load(self.alloc, uid, page, offset % PAGE_BYTES as u32, count)?;
         self.use_page(uid, page);
         Ok(self.done(Reply::Bytes(bytes)))
     }
 
     /// A store in a resident page.
     fn store_resident(&mut self, proc: ProcId, uid: Uid, offset: u32, bytes: &[u8]) -> Access
-        requires resident { IsResident self.old.cache.pages uid (offset / 1024) }
-        requires within { offset % 1024 + length bytes.now ≤ 1024 }
-        requires page { offset / 1024 < 1024 }
+        requires resident { IsResident self.old.cache.pages uid (offset / PAGE_BYTES) }
+        requires within { offset % PAGE_BYTES + length bytes.now ≤ PAGE_BYTES }
+        requires page { IsPageNumber (offset / PAGE_BYTES) }
         requires writes { keeps_writing (entry_at self.old.entries proc.number uid) ≡ true }
         ensures outcome { Gives self.new (page_access self.old proc.number (task_at uid offset (Work.Store bytes.now))) result }
     {
-        let page = offset / PAGE_BYTES;
-        self.store_page(proc, uid, page, offset % PAGE_BYTES, bytes);
+        let page = offset / PAGE_BYTES as u32;
+        self.store_page(proc, uid, page, offset % PAGE_BYTES as u32, bytes);
         self.grow(uid, offset + bytes.len() as u32);
         self.done(Reply::Fine)
     }

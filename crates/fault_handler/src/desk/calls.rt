@@ -1,7 +1,7 @@
 //! The further calls by which locking and unlocking read and change a desk.
 ghost use Rattle.std.specs.Prelude.{◌≡◌, ◌⊎◌, ◌≤◌, ◌<◌, ◌*◌, ℕ, true, false, length, Some, None, IsSome, IsOk, is_some, IfOk, IfSome, OnOk, OnErr};
 ghost use Rattle.std.specs.Global.{Global};
-ghost use Rattle.uid_names.specs.declared.mode.TheConstants.{MAX_ROOM};
+ghost use Rattle.uid_names.specs.Rooms.{IsRoom, IsLength};
 ghost use Rattle.dom_history.specs.Locks.{is_free, is_held};
 ghost use Rattle.page_cache.specs.Caches.{IsResident, page_at};
 ghost use Rattle.page_cache.specs.Numbers.{resident_pages};
@@ -9,7 +9,7 @@ ghost use Rattle.version_stamps.specs.Stamps.{stamp_of};
 ghost use Rattle.fault_handler.specs.Entries.{keeps};
 ghost use Rattle.fault_handler.specs.Transits.{going};
 ghost use Rattle.fault_handler.specs.Desks.{entries_of, entry_at, state_of, moving_of, any_keeps, others_write};
-ghost use Rattle.fault_handler.specs.Kept.{is_marked, is_dirty};
+ghost use Rattle.fault_handler.specs.Invariant.{is_marked, is_dirty};
 ghost use Rattle.fault_handler.specs.Changes.{with_state, with_note, with_raised, with_forgotten, page_done_of, with_sent_length, with_call, with_sent_page, with_known_row, with_seen, with_no_page};
 ghost use Rattle.fault_handler.specs.Accesses.{own_page_out};
 ghost use Rattle.fault_handler.specs.Conditions.{IsOf, IsNotAccessing, IsOther};
@@ -23,7 +23,7 @@ use dom_history::LockState;
 use page_cache::PageList;
 use ring_messages::Body;
 use std::alloc::Global;
-use uid_names::{NoMemory, ProcId, Uid};
+use uid_names::{NoMemory, PROCESS_LOCKS, ProcId, Uid};
 
 impl Desk {
     /// The allocator that the desk was made with: the one that there is. Takes no memory.
@@ -37,7 +37,7 @@ impl Desk {
     pub fn set_state(&mut self, proc: ProcId, uid: Uid, state: LockState, grant: u64)
         requires own { IsOf self.old proc }
         requires room { (is_free state ≡ true) ⊎ IsSome (entry_at self.old.entries proc.number uid)
-            ⊎ (length (entries_of self.old proc.number) < 8) }
+            ⊎ (length (entries_of self.old proc.number) < PROCESS_LOCKS) }
         // A process that is Held has noted its release or removal before.
         requires given_up { keeps (entry_at self.old.entries proc.number uid) ≡ false }
         requires seen { is_held state ≡ true → IsSome (stamp_of uid self.old.seen) }
@@ -149,9 +149,8 @@ impl Desk {
     /// Wants memory only where no stamp of the object was seen, and without it nothing changes.
     pub fn know(&mut self, uid: Uid, stamp: u64, room: u32, length: u32) -> Result<(), NoMemory>
         requires stamp { 1 ≤ stamp }
-        requires room_low { 1 ≤ room }
-        requires room_high { room ≤ MAX_ROOM }
-        requires length { length ≤ 1024 * MAX_ROOM }
+        requires room { IsRoom room }
+        requires length { IsLength length }
         ensures known { OnOk result (self.new ≡ with_seen (with_known_row self.old (record { uid = uid; room = room; length = length; changed = false })) uid stamp) }
         ensures unchanged { OnErr result (self.new ≡ self.old) }
         ensures memory { OnErr result (is_some (stamp_of uid self.old.seen) ≡ false) }

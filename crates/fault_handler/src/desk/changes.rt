@@ -1,22 +1,23 @@
 //! What changes in a desk. Each change leaves a desk that keeps what each desk keeps.
 ghost use Rattle.std.specs.Prelude.{◌≡◌, ◌+◌, ◌<◌, ◌≤◌, true, false, length, Some, None, IsSome, IfOk, OnOk, OnErr, slice_index_or, slice_set};
+ghost use Rattle.uid_names.specs.Rooms.{IsLength};
 ghost use Rattle.page_cache.specs.Caches.{IsResident, page_at, free_count};
 ghost use Rattle.version_stamps.specs.Stamps.{stamp_of};
 ghost use Rattle.fault_handler.specs.Entries.{keeps_writing};
 ghost use Rattle.fault_handler.specs.Tasks.{page_of};
 ghost use Rattle.fault_handler.specs.Transits.{coming, going};
-ghost use Rattle.fault_handler.specs.Desks.{entry_at, call_of, task_of, moving_of, others_fetch};
-ghost use Rattle.fault_handler.specs.Kept.{IsAllowed, is_marked, is_dirty};
+ghost use Rattle.fault_handler.specs.Desks.{entry_at, open_call_of, task_of, moving_of, others_fetch};
+ghost use Rattle.fault_handler.specs.Invariant.{IsAllowed, is_marked, is_dirty};
 ghost use Rattle.fault_handler.specs.Conditions.{IsIdle};
 ghost use Rattle.fault_handler.specs.Changes.{with_used, with_stored, with_dropped, with_end, with_raised, with_fetch, with_eviction, with_sent_again, with_arrival, with_loss, with_room_settled};
 
 use super::Desk;
-use crate::four::{PROCESSES, index_of};
+use crate::four::index_of;
 use crate::open_call::OpenCall;
 use crate::tasks::Task;
 use crate::transits::Transit;
 use std::mem;
-use uid_names::{NoMemory, ProcId, Uid};
+use uid_names::{NODE_PROCESSES, NoMemory, PAGE_BYTES, ProcId, Uid};
 
 impl Desk {
     /// A resident page was used.
@@ -30,7 +31,7 @@ impl Desk {
     /// Stores bytes in a resident page.
     pub(super) fn store_page(&mut self, proc: ProcId, uid: Uid, page: u32, start: u32, bytes: &[u8])
         requires resident { IsResident self.old.cache.pages uid page }
-        requires within { start + length bytes.now ≤ 1024 }
+        requires within { start + length bytes.now ≤ PAGE_BYTES }
         requires writes { keeps_writing (entry_at self.old.entries proc.number uid) ≡ true }
         ensures { self.new ≡ with_stored self.old uid page start bytes.now }
     {
@@ -40,7 +41,7 @@ impl Desk {
 
     /// A store ended there: the object's known length is that at least.
     pub(super) fn grow(&mut self, uid: Uid, end: u32)
-        requires { end ≤ 1048576 }
+        requires { IsLength end }
         ensures { self.new ≡ with_end self.old uid end }
     {
         if let Some(known) = self.known.of(uid) {
@@ -120,7 +121,7 @@ impl Desk {
         proc: ProcId,
         uid: Uid,
         page: u32,
-        bytes: &[u8; 1024],
+        bytes: &[u8; PAGE_BYTES],
     ) -> Result<Task, NoMemory>
         requires { moving_of self.old proc.number ≡ coming uid page }
         ensures arrived { OnOk result (self.new ≡ with_arrival self.old proc.number uid page bytes.now) }
@@ -139,7 +140,7 @@ impl Desk {
     /// The page that makes room for the load or store of a process is on its way no more; gives the
     /// load or store back, which is open no more.
     pub(super) fn settle_room(&mut self, proc: ProcId, uid: Uid, page: u32, taken: bool) -> Task
-        requires access { call_of self.old proc.number ≡ Some OpenCall.Access }
+        requires access { open_call_of self.old proc.number ≡ Some OpenCall.Access }
         requires sent { moving_of self.old proc.number ≡ going uid page }
         ensures settled { self.new ≡ with_room_settled self.old proc.number uid page taken }
         ensures task { task_of self.old proc.number ≡ Some result }
@@ -169,8 +170,8 @@ impl Desk {
 }
 
 /// Takes the load or store at a place.
-fn ended(tasks: &mut [Option<Task>; PROCESSES], at: usize) -> Task
-    requires bound { at < 4 }
+fn ended(tasks: &mut [Option<Task>; NODE_PROCESSES], at: usize) -> Task
+    requires bound { at < NODE_PROCESSES }
     requires there { IsSome (slice_index_or tasks.old at None) }
     ensures task { slice_index_or tasks.old at None ≡ Some result }
     ensures others { tasks.new ≡ slice_set tasks.old at None }

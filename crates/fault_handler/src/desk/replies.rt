@@ -1,14 +1,16 @@
 //! How a load or store goes on where a home answers, or where a link fault ends its call.
 ghost use Rattle.std.specs.Prelude.{◌≡◌, ◌≤◌, true, false, length, nat_lt, IfOk, IfSome, OnErr};
 ghost use Rattle.ring_messages.specs.Ranges.{IsBody};
-ghost use Rattle.fault_handler.specs.Tasks.{start_of, loaded_from};
+ghost use Rattle.fault_handler.specs.Tasks.{start_of};
+ghost use Rattle.fault_handler.specs.Unseen.{loaded_from};
 ghost use Rattle.fault_handler.specs.Transits.{coming, going};
 ghost use Rattle.fault_handler.specs.Desks.{task_of, moving_of, base_of};
 ghost use Rattle.fault_handler.specs.Changes.{with_raised, with_room_settled};
 ghost use Rattle.fault_handler.specs.Drops.{anew_of};
 ghost use Rattle.fault_handler.specs.PageReplies.{page_came_of, page_by_stamp, room_taken, room_stale, access_failed_of};
-ghost use Rattle.fault_handler.specs.Conditions.{IsOf, IsIdle, IsAccessing, IsWhole, MayWantAt, fits_move};
-ghost use Rattle.fault_handler.specs.Outcomes.{Gives, FitsWork, IsAsked, AfterAccess};
+ghost use Rattle.fault_handler.specs.Conditions.{IsOf, IsIdle, IsAccessing, MayWantAt, fits_move};
+ghost use Rattle.fault_handler.specs.Answered.{Gives};
+ghost use Rattle.fault_handler.specs.Outcomes.{FitsWork, IsAsked, AfterAccess};
 
 use super::Desk;
 use crate::access::Access;
@@ -16,7 +18,7 @@ use crate::four::{index_of, transit_of};
 use crate::transits::Transit;
 use dom_history::{Dropped, Reply};
 use ring_messages::Body;
-use uid_names::{ByteList, NoMemory, ProcId, Uid};
+use uid_names::{ByteList, NoMemory, PAGE_BYTES, ProcId, Uid};
 
 impl Desk {
     /// Whether a body is an answer to the request that the load or store of a process sent. Takes no
@@ -56,13 +58,12 @@ impl Desk {
         self.answered(proc, body)
     }
 
-    /// The same; and a page that comes is whole.
+    /// The same, as the definition has it.
     fn answered(&mut self, proc: ProcId, body: &Body) -> Result<Access, NoMemory>
         requires access { IsAccessing self.old proc.number }
         requires fits { fits_move (moving_of self.old proc.number) body.now ≡ true }
         requires range { IsBody proc.node body.now }
         ensures outcome { IfOk result (Gives self.new (page_came_of self.old proc.number body.now)) }
-        ensures whole { IsWhole body.now }
         ensures memory { OnErr result (MayWantAt self.old (moving_of self.old proc.number) body.now) }
         ensures left { OnErr result (self.new ≡ anew_of self.old proc.number body.now) }
         ensures node { self.new.node ≡ self.old.node }
@@ -81,7 +82,7 @@ impl Desk {
     }
 
     /// The bytes that the open load of a process takes from this page; None of a store.
-    fn loaded(&self, proc: ProcId, page: &[u8; 1024]) -> Result<Option<ByteList>, NoMemory>
+    fn loaded(&self, proc: ProcId, page: &[u8; PAGE_BYTES]) -> Result<Option<ByteList>, NoMemory>
         requires { IsAccessing self.now proc.number }
         ensures { IfOk result (λ loaded. IfSome (task_of self.now proc.number) (λ task. loaded ≡ loaded_from page.now (start_of task) task.work)) }
     {
@@ -99,14 +100,13 @@ impl Desk {
         uid: Uid,
         page: u32,
         stamp: u64,
-        bytes: &[u8; 1024],
+        bytes: &[u8; PAGE_BYTES],
     ) -> Result<Access, NoMemory>
         requires access { IsAccessing self.old proc.number }
         requires coming { moving_of self.old proc.number ≡ coming uid page }
         requires stamp { 1 ≤ stamp }
         ensures outcome { IfOk result (λ answer. IfSome (task_of self.old proc.number) (λ task.
             Gives self.new (page_by_stamp self.old proc.number task stamp bytes.now (nat_lt stamp (base_of self.old.seen task.uid))) answer)) }
-        ensures whole { length bytes.now ≡ 1024 }
         ensures memory { OnErr result (nat_lt stamp (base_of self.old.seen uid) ≡ false) }
         ensures unchanged { OnErr result (self.new ≡ self.old) }
         ensures node { self.new.node ≡ self.old.node }

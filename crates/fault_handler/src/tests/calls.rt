@@ -171,3 +171,12 @@ fn a_process_has_its_own_open_call(rt: HostRuntime) -> Result<(), Fail> {
     assert!(rt; desk.open_call(proc(&desk, 2)?).is_none());
     Ok(())
 }
+
+/// Takes what may be moved to another thread.
+fn moved<T: Send + Drop>(_value: T) {}
+
+#[test]
+fn a_desk_may_be_moved_to_another_thread(rt: HostRuntime) -> Result<(), Fail> {
+    moved(desk(&rt)?);
+    Ok(())
+}

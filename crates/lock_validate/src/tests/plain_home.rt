@@ -1,6 +1,6 @@
 //! A plain home of an object: what it keeps is what was sent there, and it decides each request at once.
 use ring_messages::Body;
-use uid_names::{Mode, ObjKind, ProcId, Uid};
+use uid_names::{Mode, ObjKind, PAGE_BYTES, ProcId, Uid};
 
 /// How many pages an object has room for.
 pub(super) const PAGES: usize = 4;
@@ -17,7 +17,7 @@ pub(super) struct Object {
     pub uid: Uid,
     stamp: u64,
     length: u32,
-    pages: [[u8; 1024]; PAGES],
+    pages: [[u8; PAGE_BYTES]; PAGES],
     rows: [Option<Row>; 4],
     /// The byte that was stored last in each page, and the length that the stores gave.
     pub last: [u8; PAGES],
@@ -26,7 +26,8 @@ pub(super) struct Object {
 
 /// The offset of the byte of a page.
 pub(super) fn place_of(page: u32) -> u32 {
-    page.saturating_mul(1024).saturating_add(AT as u32)
+    page.saturating_mul(PAGE_BYTES as u32)
+        .saturating_add(AT as u32)
 }
 
 impl Object {
@@ -35,7 +36,7 @@ impl Object {
             uid,
             stamp: 1,
             length: 0,
-            pages: [[0; 1024]; PAGES],
+            pages: [[0; PAGE_BYTES]; PAGES],
             rows: [None; 4],
             last: [0; PAGES],
             end: 0,
@@ -81,7 +82,7 @@ impl Object {
         Body::Stored { stamp: self.stamp }
     }
 
-    fn take_page(&mut self, page: u32, bytes: &[u8; 1024]) -> Body {
+    fn take_page(&mut self, page: u32, bytes: &[u8; PAGE_BYTES]) -> Body {
         match self.pages.get_mut(page as usize) {
             Some(old) => *old = *bytes,
             None => return Body::NoObject,

@@ -4,13 +4,13 @@
 //! was stored last, and each length is the one that the stores gave.
 ghost use Rattle.std.specs.Prelude.{◌≡◌, ℕ, ◌<◌, ◌≤◌, OnOk};
 ghost use Rattle.std.specs.Bool.{OnTrue};
-ghost use Rattle.ring_messages.specs.Ranges.{IsBody};
+ghost use Rattle.ring_messages.specs.Ranges.{IsBody, IsWhole};
 ghost use Rattle.lock_validate.specs.Standing.{AllStand};
 
 use super::plain_home::{Object, PAGES, place_of};
 use super::*;
 use std::alloc::Global;
-use uid_names::MAX_ROOM;
+use uid_names::{MAX_LENGTH, MAX_ROOM};
 
 /// Numbers that look random, the same in each run.
 #[derive(Drop)]
@@ -125,8 +125,16 @@ fn begin(desk: &mut Desk, number: u8, uid: Uid, deed: Deed) -> Result<Came, Fail
         Deed::Unlock => Ok(from_step(unlock(desk, number, uid)?)),
         Deed::Load(page) => Ok(from_access(load(desk, number, uid, place_of(page))?)),
         Deed::Store(page, byte) => Ok(from_access(store(desk, number, uid, place_of(page), byte)?)),
-        Deed::Length => Ok(from_access(access(desk, number, &Op::Length { uid })?)),
+        Deed::Length => Ok(from_access(access(desk, number, &Op::Length { uid: named(uid) })?)),
     }
+}
+
+/// Whether a home can have sent a page, which has its bytes.
+fn is_sent_page(stamp: u64, bytes: &[u8; PAGE_BYTES]) -> bool
+    ensures { OnTrue result ((1 ≤ stamp) × IsWhole bytes.now) }
+{
+    let _bytes = bytes;
+    stamp >= 1
 }
 
 /// Whether a home can have sent a body as an answer.
@@ -134,7 +142,8 @@ fn is_sent(body: &Body) -> bool
     ensures { OnTrue result ((node : ℕ) → IsBody node body.now) }
 {
     match body {
-        Body::Page { stamp, .. } | Body::Stored { stamp } | Body::Stale { stamp } => *stamp >= 1,
+        Body::Page { stamp, bytes } => is_sent_page(*stamp, bytes),
+        Body::Stored { stamp } | Body::Stale { stamp } => *stamp >= 1,
         Body::Granted {
             grant,
             stamp,
@@ -142,7 +151,7 @@ fn is_sent(body: &Body) -> bool
             length,
             ..
         } => {
-            *grant >= 1 && *stamp >= 1 && *room >= 1 && *room <= MAX_ROOM && *length <= 1_048_576
+            *grant >= 1 && *stamp >= 1 && *room >= 1 && *room <= MAX_ROOM && *length <= MAX_LENGTH
         }
         Body::Conflict { .. } | Body::NoObject | Body::Done => true,
         _ => false,

@@ -13,12 +13,12 @@ pub removed-requires-clause-kept : goal.removed-requires-clause-kept
 removed-requires-clause-kept c =
     let stands = rw c.in-Remove.is at c.requires.stands in
     rw c.set_state-in-Remove.ensures
-    (released-calm c.args.desk.now c.args.proc.number c.requires.kept (record { least = omega arith; most = omega arith }) c.requires.closed c.in-Remove.uid stands.0 Free refl).desk
+    (released-calm c.args.desk.now c.args.proc.number c.requires.kept (omega arith, omega arith) c.requires.closed c.in-Remove.uid stands.0 Free refl).desk
 
 pub removed-requires-clause-given_up : goal.removed-requires-clause-given_up
 removed-requires-clause-given_up c =
     rw c.set_state-in-Remove.ensures
-    (ap keeps (entry-set_same c.args.desk.now c.args.proc.number c.in-Remove.uid c.requires.kept (record { least = omega arith; most = omega arith }) Free 0))
+    (ap keeps (entry-set_same c.args.desk.now c.args.proc.number c.in-Remove.uid c.requires.kept (omega arith, omega arith) Free 0))
 
 -- Without memory no process kept the object that was removed.
 pub returns-in-Remove-clause-memory : goal.returns-in-Remove-clause-memory
@@ -28,6 +28,6 @@ returns-in-Remove-clause-memory c =
     (λ none.
     let stands = rw c.in-Remove.is at c.requires.stands in
     let fits = rw c.in-Remove.is at c.requires.fits in
-    removed-may c.args.desk.now c.args.proc.number c.requires.kept (record { least = omega arith; most = omega arith }) c.in-Remove.uid c.args.body.now stands.0 fits
+    removed-may c.args.desk.now c.args.proc.number c.requires.kept (omega arith, omega arith) c.in-Remove.uid c.args.body.now stands.0 fits
     (subst (λ (e : DeskState). any_keeps e.entries c.in-Remove.uid ≡ false) c.set_state-in-Remove.ensures none))
     c.removed.ensures.memory)

@@ -10,4 +10,4 @@ note_release-requires-clause-dirty c =
     let d = c.args.desk.now in
     let p = c.args.proc.number in
     let reads : may_write (state_of d p c.args.uid) ≡ false = ap may_write (sym c.requires.state) ∙ rw c.in-Held.is (sym c.writes.ensures ∙ c.if-writes.false) in
-    another-writes d p c.args.uid c.requires.kept (record { least = omega arith; most = omega arith }) c.requires.idle reads
+    another-writes d p c.args.uid c.requires.kept (omega arith, omega arith) c.requires.idle reads

@@ -12,5 +12,5 @@ returns-in_ok-page_came-in-Some-Access c =
     let d = c.args.desk.now in
     let p = c.in_ok-proc.proc.number in
     AllStand-access d c.page_came.new.self p c.requires.kept (page_came_of d p c.args.body.now) c.in_ok-page_came-in-Some-Access.field-0
-    (λ q proc differs. page_came_of-beside p q (record { least = omega arith; most = omega arith }) proc differs d c.args.body.now)
+    (λ q proc differs. page_came_of-beside p q (omega arith, omega arith) proc differs d c.args.body.now)
     c.in_ok-page_came-in-Some-Access.ensures.outcome c.in_ok-page_came-in-Some-Access.ensures.next

@@ -9,5 +9,5 @@ returns c =
     let d = c.args.desk.now in
     let p = c.in_ok-proc.proc.number in
     AllStand-step d c.begin_unlock.new.desk p c.requires (begin_unlock_of d p c.args.uid) c.in_ok-begin_unlock.field-0
-    (λ q proc differs. begin_unlock_of-beside p q (record { least = omega arith; most = omega arith }) proc differs d c.args.uid)
+    (λ q proc differs. begin_unlock_of-beside p q (omega arith, omega arith) proc differs d c.args.uid)
     c.in_ok-begin_unlock.ensures.outcome c.in_ok-begin_unlock.ensures.next

@@ -10,5 +10,5 @@ returns-in_ok-go_on-in-Held c =
     let d = c.args.desk.now in
     let p = c.in_ok-proc.proc.number in
     AllStand-step d c.go_on.new.desk p c.requires (go_on_of d p (ops.Unlock c.args.uid)) c.in_ok-go_on-in-Held.field-0
-    (λ q proc differs. go_on_of-beside p q (record { least = omega arith; most = omega arith }) proc differs d (ops.Unlock c.args.uid))
+    (λ q proc differs. go_on_of-beside p q (omega arith, omega arith) proc differs d (ops.Unlock c.args.uid))
     c.in_ok-go_on-in-Held.ensures.outcome c.in_ok-go_on-in-Held.ensures.next

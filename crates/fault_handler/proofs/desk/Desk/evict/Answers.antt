@@ -8,4 +8,4 @@ invariant_of-self c =
     let at : c.index_of-at.result ≡ c.args.proc.number - 1 = omega arith in
     let asked = rw (← c.self.view_is) at c.requires in
     rw (at, c.send.ensures)
-    (IsDesk-with_eviction (desk_of c.self.inside) c.args.proc.number c.self.invariant (record { least = omega arith; most = omega arith }) c.args.task c.args.uid c.args.page asked.idle asked.dirty asked.still asked.allowed)
+    (IsDesk-with_eviction (desk_of c.self.inside) c.args.proc.number c.self.invariant (omega arith, omega arith) c.args.task c.args.uid c.args.page asked.idle asked.dirty asked.still asked.allowed)

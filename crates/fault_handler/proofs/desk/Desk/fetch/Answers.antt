@@ -8,4 +8,4 @@ invariant_of-self c =
     let at : c.index_of-at.result ≡ c.args.proc.number - 1 = omega arith in
     let asked = rw (← c.self.view_is) at c.requires in
     rw (at, c.reserve.ensures, c.page-page.ensures)
-    (IsDesk-with_fetch (desk_of c.self.inside) c.args.proc.number c.self.invariant (record { least = omega arith; most = omega arith }) c.args.task asked.idle asked.absent asked.alone asked.allowed)
+    (IsDesk-with_fetch (desk_of c.self.inside) c.args.proc.number c.self.invariant (omega arith, omega arith) c.args.task asked.idle asked.absent asked.alone asked.allowed)

@@ -12,7 +12,7 @@ pub invariant_of-self-in-Ok : goal.invariant_of-self-in-Ok
 invariant_of-self-in-Ok c =
     let row : Known = record { uid = c.args.uid; room = c.args.room; length = c.args.length; changed = false } in
     rw (c.in_ok-set.ensures.set, c.in-Ok.ensures.set)
-    (IsDesk-learned (desk_of c.self.inside) row c.args.stamp c.self.invariant c.requires.stamp (record { room_low = c.requires.room_low; room_high = c.requires.room_high; length = c.requires.length }))
+    (IsDesk-learned (desk_of c.self.inside) row c.args.stamp c.self.invariant c.requires.stamp (record { room = c.requires.room; length = c.requires.length }))
 
 -- the stamp was forgotten without a trace
 unchanged : (c : After-forget) → c.forget.new.self ≡ c.self.inside.seen

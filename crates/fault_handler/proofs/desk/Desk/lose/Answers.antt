@@ -7,4 +7,4 @@ pub invariant_of-self : goal.invariant_of-self
 invariant_of-self c =
     let at : c.index_of-at.result ≡ c.args.proc.number - 1 = omega arith in
     rw (at, c.unreserve.ensures)
-    (IsDesk-with_loss (desk_of c.self.inside) c.args.proc.number c.self.invariant (record { least = omega arith; most = omega arith }) c.args.uid c.args.page (rw (← c.self.view_is) at c.requires))
+    (IsDesk-with_loss (desk_of c.self.inside) c.args.proc.number c.self.invariant (omega arith, omega arith) c.args.uid c.args.page (rw (← c.self.view_is) at c.requires))

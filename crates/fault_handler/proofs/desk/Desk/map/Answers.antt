@@ -9,7 +9,7 @@ use Rattle.address_map.specs.Maps.{is_full, mappings_after}
 use Rattle.address_map.proofs.Changes.{IsLayout-mappings_after}
 use Rattle.fault_handler.specs.Entries.{entry_of, state_in}
 use Rattle.fault_handler.specs.Desks.{maps_of, state_of}
-use Rattle.fault_handler.specs.Kept.{IsProc}
+use Rattle.fault_handler.specs.Invariant.{IsProc}
 use Rattle.fault_handler.specs.Insides.{desk_of}
 use Rattle.fault_handler.proofs.Beginning.{segments-least}
 use Rattle.fault_handler.proofs.LockKeeps.{IsDesk-with_maps}
@@ -18,7 +18,7 @@ use Rattle.fault_handler.proofs.desk.Desk.map.Goals as goal
 pub invariant_of-self : goal.invariant_of-self
 invariant_of-self c =
     let at : c.index_of-at.result ≡ c.args.proc.number - 1 = omega arith in
-    let proc : IsProc c.args.proc.number = record { least = omega arith; most = omega arith } in
+    let proc : IsProc c.args.proc.number = (omega arith, omega arith) in
     let mapped_below : c.index_of-at.result < length c.self.inside.maps = omega (arith, c.self.invariant.four.maps) in
     let below : c.index_of-at.result < length c.self.inside.entries = omega (arith, c.self.invariant.four.entries) in
     let state : c.state.result ≡ state_of (desk_of c.self.inside) c.args.proc.number c.args.uid =

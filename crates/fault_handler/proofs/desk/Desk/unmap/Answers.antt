@@ -3,7 +3,7 @@ use Rattle.std.proofs.lemmas.List.{get_or_default}
 use Rattle.address_map.specs.Mappings.{without_mapping}
 use Rattle.address_map.proofs.Keeps.{IsLayout-without_mapping}
 use Rattle.fault_handler.specs.Desks.{maps_of}
-use Rattle.fault_handler.specs.Kept.{IsProc}
+use Rattle.fault_handler.specs.Invariant.{IsProc}
 use Rattle.fault_handler.specs.Insides.{desk_of}
 use Rattle.fault_handler.proofs.LockKeeps.{IsDesk-with_maps}
 use Rattle.fault_handler.proofs.desk.Desk.unmap.Goals as goal
@@ -11,7 +11,7 @@ use Rattle.fault_handler.proofs.desk.Desk.unmap.Goals as goal
 pub invariant_of-self : goal.invariant_of-self
 invariant_of-self c =
     let at : c.index_of.result ≡ c.args.proc.number - 1 = omega arith in
-    let proc : IsProc c.args.proc.number = record { least = omega arith; most = omega arith } in
+    let proc : IsProc c.args.proc.number = (omega arith, omega arith) in
     let below : c.index_of.result < length c.self.inside.maps = omega (arith, c.self.invariant.four.maps) in
     let unmapped = c.unmap.ensures.unmapped ∙ ap (without_mapping c.args.uid) (get_or_default c.self.inside.maps c.index_of.result _ [] below) in
     let mappings = maps_of (desk_of c.self.inside) c.args.proc.number in

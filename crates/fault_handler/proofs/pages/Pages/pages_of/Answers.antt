@@ -1,5 +1,0 @@
-use Rattle.fault_handler.proofs.Shown.{resident_pages-shown}
-use Rattle.fault_handler.proofs.pages.Pages.pages_of.Goals as goal
-
-pub returns : goal.returns
-returns c = rw (← c.self.view_is, resident_pages-shown c.self.inside.cache.pages c.args.uid) c.pages_of.ensures
