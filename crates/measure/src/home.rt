@@ -1,0 +1,108 @@
+//! Requests that a home serves: locks and unlocks in turn, and page-outs of one page.
+ghost use Rattle.std.specs.Prelude.{◌≤◌, IsTrue};
+ghost use Rattle.ring_messages.specs.Bodies.{is_request};
+ghost use Rattle.ring_messages.specs.Ranges.{IsBody};
+
+use crate::{object, process};
+use anyhow::Result;
+use object_store::Home;
+use page_server::PageServer;
+use page_store::BlockPages;
+use ring_messages::{Body, Frame};
+use std::alloc::Global;
+use uid_names::{Mode, ObjKind, Opening, Uid};
+
+/// What a process asks.
+#[derive(Clone, Copy)]
+enum Asked {
+    Lock,
+    Unlock,
+    PageOut,
+}
+
+/// A home at node 2 with one object, the tick of its last event, and the last grant and stamp that it told.
+#[derive(Drop)]
+struct Side {
+    server: PageServer<BlockPages>,
+    uid: Uid,
+    tick: u64,
+    grant: u64,
+    stamp: u64,
+    ghost in_step: { server.tick ≤ tick },
+    ghost granted: { 1 ≤ grant },
+    ghost stamped: { 1 ≤ stamp },
+}
+
+impl Side {
+    fn new(alloc: Global) -> Result<Side> {
+        let (uid, tick, grant, stamp) = (object()?, 0, 1, 1);
+        let mut opening = Opening::new(alloc, 2, 1024);
+        opening.add(uid, ObjKind::File, 1)?;
+        let home = Home::new(alloc, uid.home(), BlockPages::new(alloc), &opening)?;
+        let server = PageServer::new(alloc, home)?;
+        Ok(Side {
+            server,
+            uid,
+            tick,
+            grant,
+            stamp,
+        })
+    }
+
+    fn request(&self, asked: Asked) -> Body
+        ensures request { IsTrue (is_request result) }
+        ensures range { IsBody self.now.uid.home result }
+    {
+        let (uid, mode, page, grant, base) = (self.uid, Mode::Write, 0, self.grant, self.stamp);
+        match asked {
+            Asked::Lock => Body::Lock { uid, mode },
+            Asked::Unlock => Body::Unlock { uid },
+            Asked::PageOut => {
+                let bytes = [(base % 251) as u8; 1024];
+                Body::PageOut {
+                    uid,
+                    page,
+                    grant,
+                    base,
+                    bytes,
+                }
+            }
+        }
+    }
+
+    /// Asks the home; 1 where it does what it is asked for, else 0.
+    fn ask(&mut self, alloc: Global, asked: Asked) -> Result<u32> {
+        let (caller, to) = (process(2, 1)?, self.uid.home());
+        if self.tick >= 1_000_000_000_000 || to != self.server.node() {
+            return Ok(0);
+        }
+        self.tick += 1;
+        let (number, tick, body) = (caller.number(), self.tick, self.request(asked));
+        let frame = Frame::new(caller.node(), to, number, tick, tick, body);
+        let Some(reply) = self.server.serve(alloc, &frame, tick)? else {
+            return Ok(0);
+        };
+        match reply.body() {
+            Body::Granted { grant, .. } => self.grant = (*grant).max(1),
+            Body::Stored { stamp } => self.stamp = (*stamp).max(1),
+            Body::Done => {}
+            _ => return Ok(0),
+        }
+        Ok(1)
+    }
+}
+
+pub fn lock_and_unlock(rt: &HostRuntime, count: u32) -> Result<(u64, u64)> {
+    let mut side = Side::new(rt.alloc())?;
+    timed!(rt, count, i => match i % 2 {
+        0 => side.ask(rt.alloc(), Asked::Lock)?,
+        _ => side.ask(rt.alloc(), Asked::Unlock)?,
+    })
+}
+
+/// The object is locked before.
+pub fn page_out(rt: &HostRuntime, count: u32) -> Result<(u64, u64)> {
+    let mut side = Side::new(rt.alloc())?;
+    side.ask(rt.alloc(), Asked::Lock)?;
+    timed!(rt, count, _i => side.ask(rt.alloc(), Asked::PageOut)?)
+}

@@ -1,0 +1,107 @@
+//! The program `measure`: how fast the parts of the store are. `measure NAME COUNT` does a measure so often and prints its
+//! rate; `measure all` does each five times and prints nothing that varies; `measure` prints the names.
+#![tactic(auto)]
+
+ghost use Rattle.std.specs.Prelude.{◌≡◌, IfOk};
+
+/// Does something `$count` times, with `$i` from 0; each time it says how much was done. The answer is how much was done as a
+/// whole, and in how many microseconds of processor time.
+macro_rules! timed {
+    ($rt:ident, $count:ident, $i:ident => $once:expr) => {{
+        let (mut done, start) = (0u64, crate::micros($rt)?);
+        for $i in 0..$count {
+            let more: u32 = $once;
+            done = done.wrapping_add(u64::from(more));
+        }
+        Ok((done, crate::micros($rt)?.saturating_sub(start)))
+    }};
+}
+
+mod desk;
+mod home;
+mod ring;
+mod scripts;
+
+use anyhow::{Context, Result};
+use dom_text::decimal;
+use std::env;
+use std::time::CpuClock;
+use uid_names::{NodeId, ProcId, Uid};
+
+/// The names of all measures, one space apart.
+const NAMES: &str =
+    "lock-frames-written lock-frames-read page-outs-written page-outs-read journals-written \
+    journals-read home-locks home-page-outs desk-loads desk-stores desk-evictions cache-touches-64 cache-touches-256 \
+    cache-evictions-64 cache-evictions-256 scripts-read shells-made store-operations";
+
+/// Does a measure so often; how much was done, and in how many microseconds.
+fn take(rt: &HostRuntime, name: &str, count: u32) -> Result<(u64, u64)> {
+    match name {
+        "lock-frames-written" => ring::write_frames(rt, ring::Sample::Lock, count),
+        "lock-frames-read" => ring::read_frames(rt, ring::Sample::Lock, count),
+        "page-outs-written" => ring::write_frames(rt, ring::Sample::PageOut, count),
+        "page-outs-read" => ring::read_frames(rt, ring::Sample::PageOut, count),
+        "journals-written" => ring::write_journals(rt, count),
+        "journals-read" => ring::read_journals(rt, count),
+        "home-locks" => home::lock_and_unlock(rt, count),
+        "home-page-outs" => home::page_out(rt, count),
+        "desk-loads" => desk::load(rt, 32, count),
+        "desk-stores" => desk::store(rt, 32, count),
+        "desk-evictions" => desk::load(rt, 128, count),
+        "cache-touches-64" => desk::touch(rt, 64, count),
+        "cache-touches-256" => desk::touch(rt, 256, count),
+        "cache-evictions-64" => desk::evict(rt, 64, count),
+        "cache-evictions-256" => desk::evict(rt, 256, count),
+        "scripts-read" => scripts::read(rt, count),
+        "shells-made" => scripts::make_shells(rt, count),
+        "store-operations" => scripts::operate(rt, count),
+        _ => anyhow::bail!("no such measure"),
+    }
+}
+
+/// The processor time that this process has used.
+fn micros(rt: &HostRuntime) -> Result<u64> {
+    Ok(u64::try_from(rt.process_cpu_time()?.as_micros())?)
+}
+
+/// A process of a node.
+fn process(node: u8, number: u8) -> Result<ProcId>
+    ensures { IfOk result (λ p. p ≡ record { node = node; number = number }) }
+{
+    let node = NodeId::new(node).context("no node")?;
+    Ok(ProcId::new(node, number).context("no process")?)
+}
+
+/// The first object of node 2 behind its entry directory.
+fn object() -> Result<Uid>
+    ensures { IfOk result (λ u. u ≡ record { counter = 2; home = 2 }) }
+{
+    Ok(Uid::from_parts(2, process(2, 1)?.node()))
+}
+
+fn run_one(rt: &HostRuntime, name: &str, count: &str) -> Result<()> {
+    let count = u32::try_from(decimal(count.as_bytes())?)?;
+    let (done, micros) = take(rt, name, count)?;
+    let millions = done.saturating_mul(1_000_000);
+    let rate = millions.checked_div(micros).unwrap_or(0);
+    println!(rt; "{name}: {done} in {micros} microseconds of processor time, {rate} a second")?;
+    Ok(())
+}
+
+fn main(rt: HostRuntime) -> Result<()> {
+    let mut words = Vec::new(rt.alloc());
+    for word in env::args(&rt)?.skip(1) {
+        words.push(word)?;
+    }
+    match words.as_slice() {
+        [name, count] => run_one(&rt, name.as_str(), count.as_str())?,
+        [all] if all.as_str() == "all" => {
+            for name in NAMES.split(' ') {
+                let (done, _) = take(&rt, name, 5)?;
+                println!(rt; "{name}: {done}")?;
+            }
+        }
+        _ => println!(rt; "usage: measure all | measure NAME COUNT, NAME one of {NAMES}")?,
+    }
+    Ok(())
+}
