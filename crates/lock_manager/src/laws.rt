@@ -9,6 +9,7 @@ ghost use Rattle.lock_manager.specs.Grants.{grant_of, conflict_of};
 ghost use Rattle.lock_manager.specs.Tables.{Table, IsTable, with_grant, without_grant, without_grants_on};
 
 use crate::locks::Locks;
+use uid_names::laws::may_cross_threads;
 
 /// Grants stay in order, their numbers apart and their locks without conflict, whatever is granted and
 /// ended.
@@ -42,6 +43,3 @@ pub fn holders_do_not_conflict()
 pub fn lock_tables_may_cross_threads() {
     may_cross_threads::<Locks>();
 }
-
-/// Threads may hand each other values of this type.
-fn may_cross_threads<T: Send>() {}

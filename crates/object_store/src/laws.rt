@@ -10,6 +10,7 @@ ghost use Rattle.object_store.specs.Kept.{IsAttr, IsHome};
 
 use crate::homes::Home;
 use page_store::Pages;
+use uid_names::laws::may_cross_threads;
 
 /// A change of a home changes the attributes of the object that it names, and of no other.
 pub fn changes_are_local()
@@ -35,6 +36,3 @@ pub fn attributes_are_in_range()
 pub fn homes_may_cross_threads<P: Pages + Send>() {
     may_cross_threads::<Home<P>>();
 }
-
-/// Threads may hand each other values of this type.
-fn may_cross_threads<T: Send>() {}

@@ -8,13 +8,15 @@ ghost use Rattle.page_cache.specs.Changes.{without_page, without_object, used, i
 ghost use Rattle.page_cache.specs.Victims.{victim_of, name_of, oldest, is_choice};
 ghost use Rattle.page_cache.specs.Numbers.{dirty_page, resident_pages};
 
-use crate::page_list::PageList;
 use crate::slots::{Index, Order, PageName, enter, leave, names_of, numbers_of};
 use page_frames::{FEWEST_FRAMES, Flags, FrameNo, Frames, MOST_FRAMES};
 use std::alloc::Global;
 use std::marker::Model;
 use std::num::NonZeroUsize;
-use uid_names::{NoMemory, PAGE_BYTES, Uid};
+use uid_names::{ItemList, NoMemory, PAGE_BYTES, Uid};
+
+/// The numbers of pages.
+pub type PageList = ItemList<u32>;
 
 // Fills a reserved frame.
 fn fill_reserved(pool: &mut Frames, reserved: &mut u16, bytes: &[u8; PAGE_BYTES]) -> FrameNo
@@ -211,7 +213,7 @@ impl Cache {
         ensures { IfOk result (λ pages. pages ≡ resident_pages self.now.pages uid) }
     {
         let items = numbers_of(alloc, &self.index, uid)?;
-        Ok(PageList::from_items(items))
+        Ok(ItemList::from_vec(items))
     }
 
     /// The bytes in a resident page's frame. Takes no memory.

@@ -2,10 +2,8 @@
 #![tactic(auto)]
 
 pub mod cache;
-pub mod page_list;
 mod slots;
 #[cfg(test)]
 mod tests;
 
-pub use cache::Cache;
-pub use page_list::PageList;
+pub use cache::{Cache, PageList};

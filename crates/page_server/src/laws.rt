@@ -22,6 +22,7 @@ ghost use Rattle.page_server.specs.ServerStates.{IsSide};
 
 use crate::server::PageServer;
 use page_store::Pages;
+use uid_names::laws::may_cross_threads;
 
 /// A number is decided once: asked again, it gets the same answer and leaves the home side as it was.
 pub fn a_number_is_decided_once()
@@ -116,6 +117,3 @@ pub fn a_write_is_taken_on_its_base()
 pub fn page_servers_may_cross_threads<P: Pages + Send>() {
     may_cross_threads::<PageServer<P>>();
 }
-
-/// Threads may hand each other values of this type.
-fn may_cross_threads<T: Send>() {}

@@ -72,7 +72,7 @@ after-takes true n node number after small e =
 pub listed-again : (rows : List LockRow) (more : Bool) → IsBody 0 (Listed rows more) → All IsRow rows → listed_at (body_bytes (Listed rows more)) ≡ Some (Listed rows more)
 unfolding listed_at byte_at
 listed-again rows more is typed =
-    let count : nat_le (length rows) 64 ≡ true = grind (arith, nat_tests, is.0) in
+    let count : nat_le (length rows) LISTED_ROWS ≡ true = grind (arith, nat_tests, is.0) in
     let read : rows_at (length rows) (flat_map row_bytes rows) ≡ Some (rows, []) = ap (rows_at (length rows)) (sym (append-nil (flat_map row_bytes rows))) ∙ rows-again rows [] (recursion_from_All IsRow rows typed) in
     rw (field-flag.again more (flat_map row_bytes rows) tt) (rw read (rw nil-end (rw (count, in_order-rising rows is.1) refl)))
 
@@ -86,11 +86,11 @@ pub record IsRead (k : FrameKind) (to : ℕ) (bytes : List ℕ) (b : Body) : Typ
 pub listed-takes : (to : ℕ) (bytes : List ℕ) (b : Body) → IsBytes bytes → listed_at bytes ≡ Some b → IsRead kinds.Listed to bytes b
 unfolding listed_at
 listed-takes to bytes b small e =
-    let count = bind_some (byte_at bytes) (λ count. flag_at count.1 >>= λ more. whole (rows_at count.0) (λ (rows : List LockRow). rows) more.1 >>= λ rows. if nat_le count.0 64 && is_rising rows then Some (Listed rows more.0) else None) b e in
-    let more = bind_some (flag_at count.0.1) (λ more. whole (rows_at count.0.0) (λ (rows : List LockRow). rows) more.1 >>= λ rows. if nat_le count.0.0 64 && is_rising rows then Some (Listed rows more.0) else None) b count.2 in
-    let rows = bind_some (whole (rows_at count.0.0) (λ (rows : List LockRow). rows) more.0.1) (λ rows. if nat_le count.0.0 64 && is_rising rows then Some (Listed rows more.0.0) else None) b more.2 in
-    let g = if_some (nat_le count.0.0 64 && is_rising rows.0) (Listed rows.0 more.0.0) b rows.2 in
-    let tests = and-true (nat_le count.0.0 64) (is_rising rows.0) g.0 in
+    let count = bind_some (byte_at bytes) (λ count. flag_at count.1 >>= λ more. whole (rows_at count.0) (λ (rows : List LockRow). rows) more.1 >>= λ rows. if nat_le count.0 LISTED_ROWS && is_rising rows then Some (Listed rows more.0) else None) b e in
+    let more = bind_some (flag_at count.0.1) (λ more. whole (rows_at count.0.0) (λ (rows : List LockRow). rows) more.1 >>= λ rows. if nat_le count.0.0 LISTED_ROWS && is_rising rows then Some (Listed rows more.0) else None) b count.2 in
+    let rows = bind_some (whole (rows_at count.0.0) (λ (rows : List LockRow). rows) more.0.1) (λ rows. if nat_le count.0.0 LISTED_ROWS && is_rising rows then Some (Listed rows more.0.0) else None) b more.2 in
+    let g = if_some (nat_le count.0.0 LISTED_ROWS && is_rising rows.0) (Listed rows.0 more.0.0) b rows.2 in
+    let tests = and-true (nat_le count.0.0 LISTED_ROWS) (is_rising rows.0) g.0 in
     let first = field-byte.takes bytes count.0 small count.1 in
     let small1 = IsBytes-rest (count.0.0 ∷ []) count.0.1 (subst IsBytes first.0 small) in
     let second = field-flag.takes count.0.1 more.0 small1 more.1 in

@@ -1,6 +1,7 @@
 //! A frame, and what a node reads first of one.
 ghost use Rattle.std.specs.Prelude.{◌≡◌, ◌≤◌, ℕ};
 ghost use Rattle.uid_names.specs.Names.{ProcName};
+ghost use Rattle.uid_names.specs.declared.limits.TheConstants.{MAX_NODES};
 
 use crate::body::Body;
 use std::alloc::{AllocError, AllocFailed};
@@ -84,7 +85,7 @@ impl Frame {
     pub fn from(&self) -> NodeId
         ensures value { result ≡ self.now.from }
         ensures least { 1 ≤ result }
-        ensures greatest { result ≤ 8 }
+        ensures greatest { result ≤ MAX_NODES }
     {
         let node = self.from;
         let _number = node.number();
@@ -95,7 +96,7 @@ impl Frame {
     pub fn to(&self) -> NodeId
         ensures value { result ≡ self.now.to }
         ensures least { 1 ≤ result }
-        ensures greatest { result ≤ 8 }
+        ensures greatest { result ≤ MAX_NODES }
     {
         let node = self.to;
         let _number = node.number();

@@ -10,6 +10,7 @@ ghost use Rattle.ring_messages.specs.Spelling.{header, head_of, spelling};
 
 use crate::body::Body;
 use crate::frame::Frame;
+use uid_names::laws::may_cross_threads;
 
 /// Each frame has one spelling, no two frames have one, and none is the beginning of another.
 pub fn frames_have_one_spelling()
@@ -38,6 +39,3 @@ pub fn frames_may_cross_threads() {
     may_cross_threads::<Frame>();
     may_cross_threads::<Body>();
 }
-
-/// Threads may hand each other values of this type.
-fn may_cross_threads<T: Send>() {}

@@ -22,7 +22,7 @@ use crate::frame::{Frame, FrameFault, Head};
 use byteorder::{BigEndian, ByteOrder};
 use fields::end;
 use std::alloc::Global;
-use uid_names::{FrameKind, NodeId};
+use uid_names::{FrameKind, NODE_PROCESSES, NodeId};
 
 /// The number in the eight bytes from a place on.
 fn number_at(bytes: &[u8], at: usize) -> u64
@@ -45,7 +45,7 @@ pub fn head(bytes: &[u8]) -> Option<Head>
     let proc = bytes[4];
     let number = number_at(bytes, 8);
     let tick = number_at(bytes, 16);
-    if proc < 1 || 4 < proc || number < 1 || tick < 1 {
+    if proc < 1 || NODE_PROCESSES < usize::from(proc) || number < 1 || tick < 1 {
         return None;
     }
     let kind = FrameKind::from_number(bytes[1])?;

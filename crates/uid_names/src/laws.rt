@@ -65,3 +65,6 @@ pub fn the_lowest_run_is_the_lowest()
     ensures none { (count : ℕ) (taken : List Stretch) → lowest_run count taken ≡ None →
         (first : ℕ) → first < SEGMENTS → is_free_run count first taken ≡ false }
 {}
+
+/// Threads may hand each other values of this type.
+pub fn may_cross_threads<T: Send>() {}
