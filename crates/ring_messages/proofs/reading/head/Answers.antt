@@ -2,7 +2,7 @@ use Rattle.std.proofs.Common.{arith, sym, refl}
 use Rattle.ring_messages.proofs.Heads.{shows, shown}
 use Rattle.ring_messages.proofs.reading.head.Goals as goal
 use Rattle.ring_messages.proofs.reading.head.Goals.{then-bytes-lt24-via-then-bytes-lt24, then-bytes-lt24-via-else-bytes-lt24+then-bytes-ne1, then-bytes-lt24-via-else-bytes-lt24+else-bytes-ne1+then-bytes-ne0, then-bytes-lt24-via-else-bytes-lt24+else-bytes-ne1+else-bytes-ne0+then-bytes-ne0-2, then-bytes-lt24-via-else-bytes-lt24+else-bytes-ne1+else-bytes-ne0+else-bytes-ne0-2+then-bytes-ne0-3}
-use Rattle.ring_messages.proofs.reading.head.Goals.{then-proc-lt1-via-then-proc-lt1, then-proc-lt1-via-else-proc-lt1+then-proc-gt4, then-proc-lt1-via-else-proc-lt1+else-proc-gt4+then-number-lt1, then-proc-lt1-via-else-proc-lt1+else-proc-gt4+else-number-lt1+then-tick-lt1}
+use Rattle.ring_messages.proofs.reading.head.Goals.{then-proc-lt1-via-then-proc-lt1, then-proc-lt1-via-else-proc-lt1+then-from-gt-NODE_PROCESSES, then-proc-lt1-via-else-proc-lt1+else-from-gt-NODE_PROCESSES+then-number-lt1, then-proc-lt1-via-else-proc-lt1+else-from-gt-NODE_PROCESSES+else-number-lt1+then-tick-lt1}
 
 pub returns-then-bytes-lt24-clause-none : goal.returns-then-bytes-lt24-clause-none
 returns-then-bytes-lt24-clause-none c = λ h is e.
@@ -20,9 +20,9 @@ returns-then-proc-lt1-clause-none c = λ h is e.
     let s = shows h c.args.bytes.now is e in
     elim c.then-proc-lt1.branch [
       | then-proc-lt1-via-then-proc-lt1 w ↦ omega (arith, s.proc, is.proc_low)
-      | then-proc-lt1-via-else-proc-lt1+then-proc-gt4 w ↦ omega (arith, s.proc, is.proc_high)
-      | then-proc-lt1-via-else-proc-lt1+else-proc-gt4+then-number-lt1 w ↦ omega (arith, s.number, is.number_low, c.number_at-number.ensures)
-      | then-proc-lt1-via-else-proc-lt1+else-proc-gt4+else-number-lt1+then-tick-lt1 w ↦ omega (arith, s.tick, is.tick_low, c.number_at-tick.ensures)
+      | then-proc-lt1-via-else-proc-lt1+then-from-gt-NODE_PROCESSES w ↦ omega (arith, s.proc, is.proc_high)
+      | then-proc-lt1-via-else-proc-lt1+else-from-gt-NODE_PROCESSES+then-number-lt1 w ↦ omega (arith, s.number, is.number_low, c.number_at-number.ensures)
+      | then-proc-lt1-via-else-proc-lt1+else-from-gt-NODE_PROCESSES+else-number-lt1+then-tick-lt1 w ↦ omega (arith, s.tick, is.tick_low, c.number_at-tick.ensures)
     ]
 
 pub returns-clause-found : goal.returns-clause-found

@@ -11,6 +11,6 @@ returns c =
     let index = c.self.inside.index.entries in
     let slots = c.self.inside.order.entries in
     rw (← c.self.view_is)
-    (c.from_items.ensures ∙ c.in_ok-items.ensures.pages
+    (c.from_vec.ensures ∙ c.in_ok-items.ensures.pages
     ∙ rising-same (numbers (is_of c.args.uid) (map (seen c.self.inside.pool) slots)) (map page_of (part_of c.args.uid index)) (IsFrom-part_of c.args.uid index c.in_ok-items.ensures.ordered)
     (copies-part_of c.self.inside.pool index slots c.self.invariant.indexed c.self.invariant.numbered c.args.uid))
