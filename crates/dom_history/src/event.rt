@@ -95,6 +95,13 @@ impl Dropped {
         }
     }
 
+    /// The list of a vector's pages. Takes no memory.
+    pub fn from_vec(items: Vec<(Uid, u32)>) -> Dropped
+        ensures { result ≡ items.items }
+    {
+        Dropped { items }
+    }
+
     /// Puts a page last; without memory the list stays as it was.
     pub fn push(&mut self, page: (Uid, u32)) -> Result<(), NoMemory>
         ensures ok { OnOk result (self.new ≡ self.old ++ page ∷ []) }
