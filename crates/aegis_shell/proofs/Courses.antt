@@ -13,8 +13,9 @@ use Rattle.dom_history.specs.declared.op.Want.TheVariants.{Done}
 use Rattle.dom_history.specs.Follows.{Heard}
 use Rattle.script_reader.specs.declared.command.Command.{Command}
 use Rattle.script_reader.specs.Scripts.{Content, IsContent}
+use Rattle.script_reader.specs.Variables.{declared_object}
 use Rattle.aegis_shell.specs.declared.work.Job.{Job}
-use Rattle.aegis_shell.specs.Bound.{Bound, unbound, declare}
+use Rattle.aegis_shell.specs.Bound.{Bound, unbound}
 use Rattle.aegis_shell.specs.Work.{Part, part_of, jobs_of, object_of}
 use Rattle.aegis_shell.specs.Ranges.{IsJob, AreJobs}
 use Rattle.aegis_shell.specs.Operations.{ops_of}
@@ -152,7 +153,7 @@ reach-done part phase bound (job ∷ jobs) told ranged enough =
 pub ask_done : (s : Content) (p : ProcName) (heard : Heard) → IsContent s → 1000 + 2 * length (jobs_of s p) ≤ length heard → ask s p heard ≡ Done
 ask_done s p heard content enough =
     let all = length-reverse heard in
-    reach-done (part_of s p) 1 unbound (jobs_of s p) (reverse heard) (jobs_ranged s (declare s.objects unbound) p content) (omega arith)
+    reach-done (part_of s p) 1 unbound (jobs_of s p) (reverse heard) (jobs_ranged s (declared_object s.objects) p content) (omega arith)
 
 -- a process that is done has an answer to each of its commands
 module _ (names : List (List ℕ)) (c : Command) (bound : Bound) (further : Bound → Told → Reached) (count : ℕ) (counted : (b : Bound) (t : Told) → (further b t).want ≡ Done → length (further b t).answers ≡ count) where

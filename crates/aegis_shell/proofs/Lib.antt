@@ -3,7 +3,7 @@ pub mod Counts
 pub mod Steps
 pub mod Parts
 pub mod Onwards
-pub mod Turning
+pub mod Turns
 pub mod Ranged
 pub mod Courses
 pub mod Shells

@@ -23,20 +23,16 @@ use Rattle.script_reader.specs.declared.command.Command.TheVariants.{New, Lock, 
 use Rattle.script_reader.specs.declared.script.VarRow.{VarRow}
 use Rattle.script_reader.specs.declared.script.CommandRow.{CommandRow}
 use Rattle.script_reader.specs.Scripts.{Content, IsContent, IsObject}
-use Rattle.script_reader.specs.Commands.{IsHome, IsCommand, IsCommandRow}
+use Rattle.script_reader.specs.Variables.{declared_object}
+use Rattle.script_reader.specs.Commands.{IsHome, IsCommandRow}
 use Rattle.aegis_shell.specs.declared.work.Job.{Job}
-use Rattle.aegis_shell.specs.Bound.{Bound, unbound, bind, declare}
+use Rattle.aegis_shell.specs.Bound.{Bound, unbound, bind}
 use Rattle.aegis_shell.specs.Work.{Part, part_of, variable, object_in, or_else, object_of, job_of}
 use Rattle.aegis_shell.specs.Ranges.{IsRanged, IsJob, AreJobs}
 use Rattle.aegis_shell.specs.Operations.{page_rest, behind, loads, loads_if, stores, stores_if, on_object, ops_of}
 use Rattle.aegis_shell.specs.AnswerTexts.{is_done, together}
 use Rattle.aegis_shell.specs.Asking.{Told, Reached, behind_phases, Course, Asks, Ends, on_reply, carry_out, on_course, on_operations, on_phases, bound_after, reach, ask}
 use Rattle.aegis_shell.proofs.Parts.{jobs_ranged}
-
--- the node that a command names, if it names one
-abbrev pub IsAtNode : Command → Type 0
-IsAtNode (New var room home) = IfSome home IsNodeNumber
-IsAtNode _ = Unit {0}
 
 -- what variables stand for has a name
 abbrev pub AreNames : Bound → Type 0
@@ -94,23 +90,23 @@ given_on make None named ranged = tt
 given_on make (Some u) named ranged = ranged u named
 
 -- the node of a command, or else that of its process
-at_node : (node : ℕ) (home : Option ℕ) → IsNodeNumber node → IfSome home IsNodeNumber → IsNodeNumber (unwrap_or home node)
+at_node : (node : ℕ) (home : Option ℕ) → IsNodeNumber node → IsHome MAX_NODES home → IsNodeNumber (unwrap_or home node)
 at_node node None own named = own
 at_node node (Some home) own named = named
 
 -- the operations of a command in its ranges
-pub ops_ranged : (node : ℕ) (c : Command) (uid : Option ObjectName) → IsNodeNumber node → IsAtNode c → IfSome uid IsName → IsRanged c → AreGiven (ops_of node c uid)
-ops_ranged node (New var room home) uid own at named h = ((at_node node home own at, h), tt)
-ops_ranged node (Lock var mode) uid own at named h = given_on (λ u. ops.Lock u mode ∷ []) uid named (λ u is. (is, tt))
-ops_ranged node (Unlock var) uid own at named h = given_on (λ u. ops.Unlock u ∷ []) uid named (λ u is. (is, tt))
-ops_ranged node (Delete var) uid own at named h = given_on (λ u. ops.Delete u ∷ []) uid named (λ u is. (is, tt))
-ops_ranged node (Load var offset count) uid own at named h = given_on (λ u. loads (Of u offset) count) uid named (λ u is. loads_ranged _ (Of u offset) count refl is h.1.0 h.1.1)
-ops_ranged node (Store var offset text) uid own at named h = given_on (λ u. stores (Of u offset) text) uid named (λ u is. stores_ranged _ (Of u offset) text refl is h.1.0 h.1.1)
-ops_ranged node (Length var) uid own at named h = given_on (λ u. ops.Length u ∷ []) uid named (λ u is. (is, tt))
-ops_ranged node (Map var) uid own at named h = given_on (λ u. ops.Map u ∷ []) uid named (λ u is. (is, tt))
-ops_ranged node (Unmap var) uid own at named h = given_on (λ u. ops.Unmap u ∷ []) uid named (λ u is. (is, tt))
-ops_ranged node (Loadat address count) uid own at named h = loads_ranged _ (Addr address) count refl tt h.1.0 h.1.1
-ops_ranged node (Storeat address text) uid own at named h = stores_ranged _ (Addr address) text refl tt h.1.0 h.1.1
+pub ops_ranged : (node : ℕ) (c : Command) (uid : Option ObjectName) → IsNodeNumber node → IfSome uid IsName → IsRanged c → AreGiven (ops_of node c uid)
+ops_ranged node (New var room home) uid own named h = ((at_node node home own h.1.1.0, h.1.0), tt)
+ops_ranged node (Lock var mode) uid own named h = given_on (λ u. ops.Lock u mode ∷ []) uid named (λ u is. (is, tt))
+ops_ranged node (Unlock var) uid own named h = given_on (λ u. ops.Unlock u ∷ []) uid named (λ u is. (is, tt))
+ops_ranged node (Delete var) uid own named h = given_on (λ u. ops.Delete u ∷ []) uid named (λ u is. (is, tt))
+ops_ranged node (Load var offset count) uid own named h = given_on (λ u. loads (Of u offset) count) uid named (λ u is. loads_ranged _ (Of u offset) count refl is h.1.1.0.0 h.1.1.0.1)
+ops_ranged node (Store var offset text) uid own named h = given_on (λ u. stores (Of u offset) text) uid named (λ u is. stores_ranged _ (Of u offset) text refl is h.1.1.0.0 h.1.1.0.1)
+ops_ranged node (Length var) uid own named h = given_on (λ u. ops.Length u ∷ []) uid named (λ u is. (is, tt))
+ops_ranged node (Map var) uid own named h = given_on (λ u. ops.Map u ∷ []) uid named (λ u is. (is, tt))
+ops_ranged node (Unmap var) uid own named h = given_on (λ u. ops.Unmap u ∷ []) uid named (λ u is. (is, tt))
+ops_ranged node (Loadat address count) uid own named h = loads_ranged _ (Addr address) count refl tt h.1.0.0 h.1.0.1
+ops_ranged node (Storeat address text) uid own named h = stores_ranged _ (Addr address) text refl tt h.1.0.0 h.1.0.1
 
 -- replies that count together name what the later one names
 together-named : (earlier later : Reply) → IsNamedReply later → IsNamedReply (together earlier later)
@@ -179,10 +175,9 @@ object-named job bound declared named = by_declared job.declared declared where
   by_declared None h = by_variable (variable job.command)
   by_declared (Some u) h = h
 
--- a job names a node and an object
-pub record IsNamedJob (job : Job) : Type 0 where
-  pub node : IsAtNode job.command
-  pub declared : IfSome job.declared IsName
+-- a job names an object
+abbrev pub IsNamedJob : Job → Type 0
+IsNamedJob job = IfSome job.declared IsName
 
 pub reach_ranged : (part : Part) (phase : ℕ) (bound : Bound) (jobs : List Job) (told : Told)
     → IsNodeNumber part.node → AreNames bound → All IsNamedJob jobs → AreNamedReplies told → AreJobs jobs → IsWant (reach part phase bound jobs told).want
@@ -194,15 +189,18 @@ reach_ranged part phase bound (job ∷ jobs) told own named jobs_named others ra
     phases_ranged (on_operations part.names job.command bound further list)
     (λ t t_named. given_ranged part.names job.command bound named further
     (λ b u b_named u_named. reach_ranged part (max phase job.phase) b jobs u own b_named (All-tail IsNamedJob job jobs jobs_named) u_named (All-tail IsJob job jobs ranged)) list t t_named
-    (ops_ranged part.node job.command (object_of job bound) own here.node (object-named job bound here.declared named) (All-head IsJob job jobs ranged).command))
+    (ops_ranged part.node job.command (object_of job bound) own (object-named job bound here named) (All-head IsJob job jobs ranged).command))
     (behind_phases (job.phase - phase) told) (passed-named (job.phase - phase) told others)
 
 -- declared objects have names
-declare-named : (rows : List VarRow) (bound : Bound) → All (λ row. IsName row.uid) rows → AreNames bound → AreNames (declare rows bound)
-declare-named [] bound rows_named named = named
-declare-named (row ∷ rows) bound rows_named named =
-    declare-named rows (bind row.var row.uid bound) (All-tail (λ r. IsName r.uid) row rows rows_named)
-    (bind-named row.var row.uid bound (All-head (λ r. IsName r.uid) row rows rows_named) named)
+declared-named : (rows : List VarRow) → All (λ row. IsName row.uid) rows → AreNames (declared_object rows)
+declared-named [] named var = tt
+declared-named (row ∷ rows) named var =
+    by_test (bytes_eq row.var var) (All-head (λ r. IsName r.uid) row rows named) (declared-named rows (All-tail (λ r. IsName r.uid) row rows named) var)
+  where
+    by_test : (same : Bool) → IsName row.uid → IfSome (declared_object rows var) IsName → IfSome (cond same (Some row.uid) (declared_object rows var)) IsName
+    by_test true here later = here
+    by_test false here later = later
 
 variable-named : (bound : Bound) (var : Option (List ℕ)) → AreNames bound → IfSome (object_in bound var) IsName
 variable-named bound None named = tt
@@ -217,33 +215,16 @@ objects_named s content k d below =
     let at = get_or-map (λ (row : VarRow). row.uid) s.objects k d d.uid below in
     subst IsName at (rows k d.uid (omega (arith, below, length-map s.objects (λ (row : VarRow). row.uid))))
 
-home_at_node : (nodes : ℕ) (home : Option ℕ) → nodes ≤ MAX_NODES → IsHome nodes home → IfSome home IsNodeNumber
-home_at_node nodes None few h = tt
-home_at_node nodes (Some node) few h = (h.0, omega (arith, few, h.1))
-
-command_at_node : (nodes : ℕ) (c : Command) → nodes ≤ MAX_NODES → IsCommand nodes c → IsAtNode c
-command_at_node nodes (New var room home) few h = home_at_node nodes home few h.2
-command_at_node nodes (Lock var mode) few h = tt
-command_at_node nodes (Unlock var) few h = tt
-command_at_node nodes (Delete var) few h = tt
-command_at_node nodes (Load var offset count) few h = tt
-command_at_node nodes (Store var offset text) few h = tt
-command_at_node nodes (Length var) few h = tt
-command_at_node nodes (Map var) few h = tt
-command_at_node nodes (Unmap var) few h = tt
-command_at_node nodes (Loadat address count) few h = tt
-command_at_node nodes (Storeat address text) few h = tt
-
--- the jobs of a process of a script name nodes and objects
-jobs_named : (s : Content) (p : ProcName) → IsContent s → All IsNamedJob (map (job_of (declare s.objects unbound)) (filter (λ row. same_proc row.proc p) s.commands))
+-- the jobs of a process of a script name objects
+jobs_named : (s : Content) (p : ProcName) → IsContent s → All IsNamedJob (map (job_of (declared_object s.objects)) (filter (λ row. same_proc row.proc p) s.commands))
 jobs_named s p content =
-    let declared = declare s.objects unbound in
+    let declared = declared_object s.objects in
     let own = λ (row : CommandRow). same_proc row.proc p in
-    let objects : AreNames declared = declare-named s.objects unbound (objects_named s content) (λ var. tt) in
+    let objects : AreNames declared = declared-named s.objects (objects_named s content) in
     All-map IsNamedJob (job_of declared) (filter own s.commands)
     (All-filter own (λ row. IsNamedJob (job_of declared row)) s.commands
     (All-weaker (IsCommandRow (length s.nodes) s.phases) (λ row. IsNamedJob (job_of declared row))
-    (λ row h. record { node = command_at_node (length s.nodes) row.command content.draft.few_nodes h.command; declared = variable-named declared (variable row.command) objects }) s.commands content.draft.commands))
+    (λ row h. variable-named declared (variable row.command) objects) s.commands content.draft.commands))
 
 -- what names in one order names in the other
 reversed-named : (told : Told) → AreNamedReplies told → AreNamedReplies (reverse told)
@@ -257,4 +238,4 @@ reversed-named (t ∷ told) named =
 pub ask_ranged : (s : Content) (p : ProcName) (heard : Heard) → IsContent s → IsNodeNumber p.node → AreNamedReplies heard → IsWant (ask s p heard)
 ask_ranged s p heard content own named =
     reach_ranged (part_of s p) 1 unbound (part_of s p).jobs (reverse heard) own (λ var. tt) (jobs_named s p content) (reversed-named heard named)
-    (jobs_ranged s (declare s.objects unbound) p content)
+    (jobs_ranged s (declared_object s.objects) p content)

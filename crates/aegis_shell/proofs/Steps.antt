@@ -1,5 +1,5 @@
 -- One step of a process: what it reaches from where it stands.
-use Rattle.std.proofs.Common.{◌≡◌, ℕ, suc, ◌+◌, ◌-◌, ◌≤◌, ◌<◌, Bool, true, false, Option, Some, None, List, [], ◌∷◌, ◌++◌, refl, ap, ◌∙◌, sym, arith}
+use Rattle.std.proofs.Common.{◌≡◌, ℕ, suc, ◌+◌, ◌-◌, ◌≤◌, ◌<◌, Bool, true, false, Option, Some, None, List, [], ◌∷◌, refl, ap, ◌∙◌, sym, arith}
 use Rattle.std.specs.Prelude.{max, IsSome, nat_lt}
 use Rattle.std.proofs.Math.Nat.{max-eq_left, max-eq_right}
 use Rattle.std.proofs.lemmas.Bool.Decides.{nat_tests}
@@ -7,17 +7,30 @@ use Rattle.dom_history.specs.declared.op.Op.{Op}
 use Rattle.dom_history.specs.declared.op.Reply.{Reply}
 use Rattle.dom_history.specs.declared.op.Reply.TheVariants.{Fine, Bytes}
 use Rattle.dom_history.specs.declared.op.Want.{Want}
-use Rattle.dom_history.specs.declared.op.Want.TheVariants.{Do, Phase}
+use Rattle.dom_history.specs.declared.op.Want.TheVariants.{Do, Phase, Done}
 use Rattle.script_reader.specs.declared.command.Command.{Command}
-use Rattle.script_reader.specs.declared.command.Command.TheVariants.{New}
 use Rattle.aegis_shell.specs.declared.work.Job.{Job}
 use Rattle.aegis_shell.specs.Bound.{Bound}
 use Rattle.aegis_shell.specs.Work.{Part, object_of}
 use Rattle.aegis_shell.specs.Operations.{ops_of, first_of, second_of, rest_of, head_of}
 use Rattle.aegis_shell.specs.AnswerTexts.{is_done, together, so_far, answer_text, not_bound}
 use Rattle.aegis_shell.specs.Asking.{Told, Reached, waits, answered, behind_phases, Ends, on_reply, carry_out, bound_after, on_course, on_operations, on_phases, reach}
-use Rattle.aegis_shell.specs.Playing.{resume_from, IsOpen, goes_on, want_in, want_at}
+use Rattle.aegis_shell.specs.States.{goes_on, want_in, outcome, is_granted}
 use Rattle.aegis_shell.proofs.Counts.{IsShort, AreShort, ops_short}
+
+-- how far the jobs that are left come, from where they stand: before the first of them,
+-- or within it, its first operation having come to this
+abbrev pub resume_from : Part → ℕ → Bound → Option Reply → List Job → Told → Reached
+resume_from part phase bound None jobs told = reach part phase bound jobs told
+resume_from part phase bound (Some reply) [] told = waits Done
+resume_from part phase bound (Some reply) (job ∷ jobs) told =
+    on_course part.names job.command bound (λ bound told. reach part phase bound jobs told)
+    (carry_out reply (rest_of (ops_of part.node job.command (object_of job bound))) told)
+
+-- a job's command waits for the reply to its first operation, or to the one behind its first
+abbrev pub IsOpen : Option Reply → ℕ → Job → Option (List Op) → Type 0
+IsOpen None phase job list = (job.phase ≤ phase) × IsSome (first_of list)
+IsOpen (Some reply) phase job list = IsSome (second_of list)
 
 -- what is behind a job, in the phase that is reached by then
 abbrev pub further_from : Part → ℕ → Job → List Job → Bound → Told → Reached
@@ -81,30 +94,24 @@ refused_alone : (earlier reply : Reply) → is_done reply ≡ false → together
 refused_alone (Bytes first) (Bytes second) refused = cc
 refused_alone earlier reply refused = refl
 
--- the variables behind a command are those that its last reply binds
-bound_together : (c : Command) (earlier reply : Reply) (bound : Bound) → bound_after c (together earlier reply) bound ≡ bound_after c reply bound
-bound_together c (Bytes first) (Bytes second) bound = by_command c where
-  by_command : (c : Command) → bound_after c (Bytes (first ++ second)) bound ≡ bound_after c (Bytes second) bound
-  by_command (New var room home) = refl
-  by_command _ = refl
-bound_together c earlier reply bound = refl
-
 -- what the end of a command reaches that came to this
 abbrev ended : List (List ℕ) → Command → Bound → (Bound → Told → Reached) → Told → Reply → Reached
 ended names c bound further future outcome = answered (answer_text names outcome) (further (bound_after c outcome bound) future)
 
 -- a command behind its last operation
-last_done : (names : List (List ℕ)) (c : Command) (bound : Bound) (further : Bound → Told → Reached) (earlier reply : Reply) (op : Op) (future : Told)
-    → on_course names c bound further (carry_out earlier (op ∷ []) (Some reply ∷ future)) ≡ ended names c bound further future (together earlier reply)
-last_done names c bound further earlier reply op future = by_reply (is_done reply) refl where
-  by_reply : (done : Bool) → is_done reply ≡ done → on_course names c bound further (on_reply done reply future (Ends (together earlier reply) future)) ≡ ended names c bound further future (together earlier reply)
+last_done : (names : List (List ℕ)) (c : Command) (bound : Bound) (further : Bound → Told → Reached) (first told : Option Reply) (op : Op) (future : Told)
+    → on_course names c bound further (carry_out (so_far first) (op ∷ []) (told ∷ future)) ≡ ended names c bound further future (outcome first told)
+last_done names c bound further first None op future = refl
+last_done names c bound further first (Some reply) op future = by_reply (is_done reply) refl where
+  by_reply : (done : Bool) → is_done reply ≡ done → on_course names c bound further (on_reply done reply future (Ends (together (so_far first) reply) future)) ≡ ended names c bound further future (together (so_far first) reply)
   by_reply true is = refl
-  by_reply false is = ap (ended names c bound further future) (sym (refused_alone earlier reply is))
+  by_reply false is = ap (ended names c bound further future) (sym (refused_alone (so_far first) reply is))
 
 -- a command behind its first operation, which was refused
-first_refused : (names : List (List ℕ)) (c : Command) (bound : Bound) (further : Bound → Told → Reached) (reply : Reply) (op next : Op) (future : Told) → is_done reply ≡ false
-    → on_course names c bound further (carry_out Fine (op ∷ (next ∷ [])) (Some reply ∷ future)) ≡ ended names c bound further future reply
-first_refused names c bound further reply op next future refused =
+first_refused : (names : List (List ℕ)) (c : Command) (bound : Bound) (further : Bound → Told → Reached) (told : Option Reply) (op next : Op) (future : Told) → is_granted told ≡ false
+    → on_course names c bound further (carry_out Fine (op ∷ (next ∷ [])) (told ∷ future)) ≡ ended names c bound further future (outcome None told)
+first_refused names c bound further None op next future refused = cc
+first_refused names c bound further (Some reply) op next future refused =
     ap (λ done. on_course names c bound further (on_reply done reply future (carry_out (together Fine reply) (next ∷ []) future))) refused
 
 -- a second operation does not follow a refusal
@@ -112,66 +119,60 @@ not_done : (done : Bool) (next : Op) → goes_on None done (Some next) ≡ None 
 not_done true next ends = cc
 not_done false next ends = refl
 
--- a command ends behind the reply to its open operation, unless it goes on
-ends_by : (names : List (List ℕ)) (c : Command) (bound : Bound) (further : Bound → Told → Reached) (list : Option (List Op)) (reply : Reply) (future : Told)
-    → AreShort list → IsSome (first_of list) → goes_on None (is_done reply) (second_of list) ≡ None
-    → on_operations names c bound further list (Some reply ∷ future) ≡ ended names c bound further future (together Fine reply)
-ends_by names c bound further None reply future short opens ends = cc
-ends_by names c bound further (Some list) reply future short opens ends = by_list list short ends where
-  by_list : (list : List Op) → IsShort list → goes_on None (is_done reply) (second_of (Some list)) ≡ None
-      → on_course names c bound further (carry_out Fine list (Some reply ∷ future)) ≡ ended names c bound further future (together Fine reply)
+-- a command ends behind what its open operation is told, unless it goes on
+ends_by : (names : List (List ℕ)) (c : Command) (bound : Bound) (further : Bound → Told → Reached) (list : Option (List Op)) (told : Option Reply) (future : Told)
+    → AreShort list → IsSome (first_of list) → goes_on None (is_granted told) (second_of list) ≡ None
+    → on_operations names c bound further list (told ∷ future) ≡ ended names c bound further future (outcome None told)
+ends_by names c bound further None told future short opens ends = cc
+ends_by names c bound further (Some list) told future short opens ends = by_list list short ends where
+  by_list : (list : List Op) → IsShort list → goes_on None (is_granted told) (second_of (Some list)) ≡ None
+      → on_course names c bound further (carry_out Fine list (told ∷ future)) ≡ ended names c bound further future (outcome None told)
   by_list [] short ends = elim short [ ]
-  by_list (op ∷ []) short ends = last_done names c bound further Fine reply op future
-  by_list (op ∷ (next ∷ [])) short ends = first_refused names c bound further reply op next future (not_done (is_done reply) next ends)
+  by_list (op ∷ []) short ends = last_done names c bound further None told op future
+  by_list (op ∷ (next ∷ [])) short ends = first_refused names c bound further told op next future (not_done (is_granted told) next ends)
   by_list (op ∷ (next ∷ (third ∷ more))) short ends = elim short [ ]
 
-second_ends_by : (names : List (List ℕ)) (c : Command) (bound : Bound) (further : Bound → Told → Reached) (list : Option (List Op)) (earlier reply : Reply) (future : Told)
+second_ends_by : (names : List (List ℕ)) (c : Command) (bound : Bound) (further : Bound → Told → Reached) (list : Option (List Op)) (earlier : Reply) (told : Option Reply) (future : Told)
     → AreShort list → IsSome (second_of list)
-    → on_course names c bound further (carry_out earlier (rest_of list) (Some reply ∷ future)) ≡ ended names c bound further future (together earlier reply)
-second_ends_by names c bound further None earlier reply future short opens = cc
-second_ends_by names c bound further (Some list) earlier reply future short opens = by_list list short opens where
+    → on_course names c bound further (carry_out earlier (rest_of list) (told ∷ future)) ≡ ended names c bound further future (outcome (Some earlier) told)
+second_ends_by names c bound further None earlier told future short opens = cc
+second_ends_by names c bound further (Some list) earlier told future short opens = by_list list short opens where
   by_list : (list : List Op) → IsShort list → IsSome (second_of (Some list))
-      → on_course names c bound further (carry_out earlier (rest_of (Some list)) (Some reply ∷ future)) ≡ ended names c bound further future (together earlier reply)
+      → on_course names c bound further (carry_out earlier (rest_of (Some list)) (told ∷ future)) ≡ ended names c bound further future (outcome (Some earlier) told)
   by_list [] short opens = elim short [ ]
   by_list (op ∷ []) short opens = cc
-  by_list (op ∷ (next ∷ [])) short opens = last_done names c bound further earlier reply next future
+  by_list (op ∷ (next ∷ [])) short opens = last_done names c bound further (Some earlier) told next future
   by_list (op ∷ (next ∷ (third ∷ more))) short opens = elim short [ ]
 
 -- behind the end of a job come those that are left
-ended_here : (part : Part) (phase : ℕ) (bound : Bound) (job : Job) (jobs : List Job) (earlier reply : Reply) (future : Told)
-    → ended part.names job.command bound (further_of part phase jobs) future (together earlier reply) ≡ answered (answer_text part.names (together earlier reply)) (reach part phase (bound_after job.command reply bound) jobs future)
-ended_here part phase bound job jobs earlier reply future =
-    ap (λ b. answered (answer_text part.names (together earlier reply)) (reach part phase b jobs future)) (bound_together job.command earlier reply bound)
-
-pub job-ends : (part : Part) (phase : ℕ) (bound : Bound) (first : Option Reply) (job : Job) (jobs : List Job) (reply : Reply) (future : Told)
+pub job-ends : (part : Part) (phase : ℕ) (bound : Bound) (first : Option Reply) (job : Job) (jobs : List Job) (told : Option Reply) (future : Told)
     → IsOpen first phase job (ops_of part.node job.command (object_of job bound))
-    → goes_on first (is_done reply) (second_of (ops_of part.node job.command (object_of job bound))) ≡ None
-    → resume_from part phase bound first (job ∷ jobs) (Some reply ∷ future) ≡ answered (answer_text part.names (together (so_far first) reply)) (reach part phase (bound_after job.command reply bound) jobs future)
-job-ends part phase bound None job jobs reply future opens ends =
-    reach-here part phase bound job jobs (Some reply ∷ future) opens.0
-    ∙ (ends_by part.names job.command bound (further_of part phase jobs) (ops_of part.node job.command (object_of job bound)) reply future
+    → goes_on first (is_granted told) (second_of (ops_of part.node job.command (object_of job bound))) ≡ None
+    → resume_from part phase bound first (job ∷ jobs) (told ∷ future) ≡ answered (answer_text part.names (outcome first told)) (reach part phase (bound_after job.command (outcome first told) bound) jobs future)
+job-ends part phase bound None job jobs told future opens ends =
+    reach-here part phase bound job jobs (told ∷ future) opens.0
+    ∙ ends_by part.names job.command bound (further_of part phase jobs) (ops_of part.node job.command (object_of job bound)) told future
     (ops_short part.node job.command (object_of job bound)) opens.1 ends
-    ∙ ended_here part phase bound job jobs Fine reply future)
-job-ends part phase bound (Some earlier) job jobs reply future opens ends =
-    second_ends_by part.names job.command bound (further_of part phase jobs) (ops_of part.node job.command (object_of job bound)) earlier reply future
+job-ends part phase bound (Some earlier) job jobs told future opens ends =
+    second_ends_by part.names job.command bound (further_of part phase jobs) (ops_of part.node job.command (object_of job bound)) earlier told future
     (ops_short part.node job.command (object_of job bound)) opens
-    ∙ ended_here part phase bound job jobs earlier reply future
 
 -- a command goes on behind its first operation
-goes_by : (names : List (List ℕ)) (c : Command) (bound : Bound) (further : Bound → Told → Reached) (list : Option (List Op)) (reply : Reply) (op : Op) (future : Told)
-    → is_done reply ≡ true → second_of list ≡ Some op
-    → on_operations names c bound further list (Some reply ∷ future) ≡ on_course names c bound further (carry_out reply (rest_of list) future)
-goes_by names c bound further None reply op future done next = cc
-goes_by names c bound further (Some []) reply op future done next = cc
-goes_by names c bound further (Some (first ∷ rest)) reply op future done next =
+goes_by : (names : List (List ℕ)) (c : Command) (bound : Bound) (further : Bound → Told → Reached) (list : Option (List Op)) (told : Option Reply) (op : Op) (future : Told)
+    → is_granted told ≡ true → second_of list ≡ Some op
+    → on_operations names c bound further list (told ∷ future) ≡ on_course names c bound further (carry_out (outcome None told) (rest_of list) future)
+goes_by names c bound further None told op future done next = cc
+goes_by names c bound further (Some []) told op future done next = cc
+goes_by names c bound further (Some (first ∷ rest)) None op future done next = refl
+goes_by names c bound further (Some (first ∷ rest)) (Some reply) op future done next =
     ap (λ d. on_course names c bound further (on_reply d reply future (carry_out (together Fine reply) rest future))) done
 
-pub job-goes : (part : Part) (phase : ℕ) (bound : Bound) (job : Job) (jobs : List Job) (reply : Reply) (op : Op) (future : Told) → job.phase ≤ phase
-    → is_done reply ≡ true → second_of (ops_of part.node job.command (object_of job bound)) ≡ Some op
-    → reach part phase bound (job ∷ jobs) (Some reply ∷ future) ≡ resume_from part phase bound (Some reply) (job ∷ jobs) future
-job-goes part phase bound job jobs reply op future low done next =
-    reach-here part phase bound job jobs (Some reply ∷ future) low
-    ∙ goes_by part.names job.command bound (further_of part phase jobs) (ops_of part.node job.command (object_of job bound)) reply op future done next
+pub job-goes : (part : Part) (phase : ℕ) (bound : Bound) (job : Job) (jobs : List Job) (told : Option Reply) (op : Op) (future : Told) → job.phase ≤ phase
+    → is_granted told ≡ true → second_of (ops_of part.node job.command (object_of job bound)) ≡ Some op
+    → reach part phase bound (job ∷ jobs) (told ∷ future) ≡ resume_from part phase bound (Some (outcome None told)) (job ∷ jobs) future
+job-goes part phase bound job jobs told op future low done next =
+    reach-here part phase bound job jobs (told ∷ future) low
+    ∙ goes_by part.names job.command bound (further_of part phase jobs) (ops_of part.node job.command (object_of job bound)) told op future done next
 
 -- and asks for its second one
 pub second-asks : (part : Part) (phase : ℕ) (bound : Bound) (job : Job) (jobs : List Job) (reply : Reply) (op : Op)
@@ -189,16 +190,16 @@ goes_on-is None false second op goes = cc
 goes_on-is (Some reply) done second op goes = cc
 
 -- a job before which nothing is wanted is of this phase and lacks its object
-pub want_at-none : (part : Part) (phase : ℕ) (bound : Bound) (job : Job) → want_at part phase bound job ≡ None → (job.phase ≤ phase) × (first_of (ops_of part.node job.command (object_of job bound)) ≡ None)
-want_at-none part phase bound job lacks = by_phase (nat_lt phase job.phase) (first_of (ops_of part.node job.command (object_of job bound))) refl lacks where
+pub lacks-here : (part : Part) (phase : ℕ) (bound : Bound) (job : Job) → want_in (nat_lt phase job.phase) (first_of (ops_of part.node job.command (object_of job bound))) ≡ None → (job.phase ≤ phase) × (first_of (ops_of part.node job.command (object_of job bound)) ≡ None)
+lacks-here part phase bound job lacks = by_phase (nat_lt phase job.phase) (first_of (ops_of part.node job.command (object_of job bound))) refl lacks where
   by_phase : (later : Bool) (op : Option Op) → nat_lt phase job.phase ≡ later → want_in later op ≡ None → (job.phase ≤ phase) × (op ≡ None)
   by_phase true op is lacks = cc
   by_phase false None is lacks = (grind (arith, nat_tests), refl)
   by_phase false (Some op) is lacks = cc
 
 -- what is wanted before a job is what its process reaches
-pub want_at-some : (part : Part) (phase : ℕ) (bound : Bound) (job : Job) (jobs : List Job) (want : Want) → want_at part phase bound job ≡ Some want → reach part phase bound (job ∷ jobs) [] ≡ waits want
-want_at-some part phase bound job jobs want wants = by_phase (nat_lt phase job.phase) (first_of (ops_of part.node job.command (object_of job bound))) refl refl wants where
+pub wants-here : (part : Part) (phase : ℕ) (bound : Bound) (job : Job) (jobs : List Job) (want : Want) → want_in (nat_lt phase job.phase) (first_of (ops_of part.node job.command (object_of job bound))) ≡ Some want → reach part phase bound (job ∷ jobs) [] ≡ waits want
+wants-here part phase bound job jobs want wants = by_phase (nat_lt phase job.phase) (first_of (ops_of part.node job.command (object_of job bound))) refl refl wants where
   by_phase : (later : Bool) (op : Option Op) → nat_lt phase job.phase ≡ later → first_of (ops_of part.node job.command (object_of job bound)) ≡ op → want_in later op ≡ Some want → reach part phase bound (job ∷ jobs) [] ≡ waits want
   by_phase true op is asks wants =
       let later : phase < job.phase = grind (arith, nat_tests) in

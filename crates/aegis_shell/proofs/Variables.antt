@@ -1,50 +1,51 @@
 -- What a map from the bytes of variables holds, as contracts see it.
-use Rattle.std.proofs.Common.{◌≡◌, ℕ, Bool, true, false, Some, List, [], ◌∷◌, refl, sym, ◌∙◌, ap, subst, cond, map}
-use Rattle.std.specs.BTreeMap.{BTreeMap, UpdatesBy}
-use Rattle.std.specs.Map.{lookup, IsKeyTest, AreApart, KeepsOthers}
-use Rattle.std.specs.Ordering.{is_eq, nat_cmp}
-use Rattle.std.specs.Cmp.{eq_by_cmp_equiv}
+use mathlib.Core.Path.{fun_ext}
+use Rattle.std.proofs.Common.{◌≡◌, ℕ, Some, List, [], ◌∷◌, refl, ◌∙◌, ap, cond, map, Ordering, Less, Equal, Greater}
+use Rattle.std.specs.BTreeMap.{insert_entry}
+use Rattle.std.specs.Map.{lookup}
+use Rattle.std.specs.FinMap.Entries.{find, put, find-put, by_order}
+use Rattle.std.specs.Ordering.{is_eq, nat_cmp, match_ordering}
 use Rattle.std.specs.Cmp.Lexicographic.{slice_cmp, nat_list_eq_equiv}
-use Rattle.std.specs.Str.{bytes_eq}
 use Rattle.std.proofs.lemmas.Cmp.{nat_list_cmp_total}
 use Rattle.std.proofs.lemmas.Map.Text.{is_eq-slice_cmp}
-use Rattle.std.proofs.lemmas.Slice.Eq.{bytes_eq-Decides}
+use Rattle.uid_names.specs.Names.{ObjectName}
+use Rattle.dom_history.specs.declared.op.Reply.{Reply}
+use Rattle.dom_history.specs.declared.op.Reply.TheVariants.{Made}
+use Rattle.script_reader.specs.declared.command.Command.{Command}
+use Rattle.script_reader.specs.declared.command.Command.TheVariants.{New}
+use Rattle.aegis_shell.specs.Bound.{bind}
+use Rattle.aegis_shell.specs.Bindings.{Rows, object_at, rebound}
+use Rattle.aegis_shell.specs.Asking.{bound_after}
+use Rattle.aegis_shell.specs.States.{rows_after}
 
 -- the bytes of each key beside its value
 abbrev pub by_text : {K X : Type 0} → (K → List ℕ) → List (K × X) → List (List ℕ × X)
 by_text text es = map (λ e. (text e.0, e.1)) es
 
--- a look-up by bytes goes by the order of the keys' bytes
-pub lookup-by_text : {K X : Type 0} (text : K → List ℕ) (var : List ℕ) (es : List (K × X)) → lookup (λ k. is_eq (slice_cmp nat_cmp var (text k))) es ≡ lookup (λ other. bytes_eq var other) (by_text text es)
+-- a look-up in the order of the keys' bytes
+pub lookup-by_text : {K X : Type 0} (text : K → List ℕ) (var : List ℕ) (es : List (K × X)) → lookup (λ k. is_eq (slice_cmp nat_cmp var (text k))) es ≡ find (slice_cmp nat_cmp) var (by_text text es)
 lookup-by_text text var [] = refl
-lookup-by_text text var (e ∷ es) =
-    ap (λ (b : Bool). cond b (Some e.1) (lookup (λ k. is_eq (slice_cmp nat_cmp var (text k))) es)) (is_eq-slice_cmp var (text e.0))
-    ∙ ap (λ o. cond (bytes_eq var (text e.0)) (Some e.1) o) (lookup-by_text text var es)
+lookup-by_text text var (e ∷ es) = ap (λ o. cond (is_eq (slice_cmp nat_cmp var (text e.0))) (Some e.1) o) (lookup-by_text text var es)
 
--- a query for another key than the changed one finds what it found
-other_entries : {K X : Type 0} (eq : K → K → Bool) (test : K → Bool) (old new : List (K × X)) → KeepsOthers eq test old new → (other : K → Bool) → IsKeyTest eq other → AreApart test other → lookup other new ≡ lookup other old
-unfolding KeepsOthers
-other_entries eq test old new h = h
+by_text-chosen : {K X : Type 0} (text : K → List ℕ) (o : Ordering) (a b c : List (K × X)) → by_text text (match_ordering o a b c) ≡ by_order o (by_text text a) (by_text text b) (by_text text c)
+by_text-chosen text Less a b c = refl
+by_text-chosen text Equal a b c = refl
+by_text-chosen text Greater a b c = refl
 
--- bytes that differ from others are not those that equal them
-apart : (bs cs ks : List ℕ) → bytes_eq bs cs ≡ false → is_eq (slice_cmp nat_cmp bs ks) ≡ true → is_eq (slice_cmp nat_cmp cs ks) ≡ false
-apart bs cs ks differ same =
-    is_eq-slice_cmp cs ks
-    ∙ (nat_list_eq_equiv.symm cs ks
-    ∙ (sym (nat_list_eq_equiv.congr bs ks cs (sym (is_eq-slice_cmp bs ks) ∙ same)) ∙ differ))
+-- an entry in its place in the order of the keys' bytes
+pub by_text-insert : {K X : Type 0} (text : K → List ℕ) (es : List (K × X)) (key : K) (x : X) → by_text text (insert_entry (λ a b. slice_cmp nat_cmp (text a) (text b)) es key x) ≡ put (slice_cmp nat_cmp) (text key) x (by_text text es)
+by_text-insert text [] key x = refl
+by_text-insert text (e ∷ es) key x =
+    by_text-chosen text (slice_cmp nat_cmp (text key) (text e.0)) _ _ _
+    ∙ ap (λ rest. by_order (slice_cmp nat_cmp (text key) (text e.0)) ((text key, x) ∷ by_text text (e ∷ es)) ((text e.0, x) ∷ by_text text es) ((text e.0, e.1) ∷ rest)) (by_text-insert text es key x)
 
--- a map that has a value at a key, and elsewhere what it had, is seen so by the bytes
-pub updated : {K X : Type 0} (text : K → List ℕ) (m n : BTreeMap K X) (key : List ℕ) (w : X)
-    → UpdatesBy (λ x y. slice_cmp nat_cmp (text x) (text y)) (λ k. slice_cmp nat_cmp key (text k)) m n (Some w)
-    → (var : List ℕ) → lookup (λ other. bytes_eq var other) (by_text text n.entries) ≡ cond (bytes_eq key var) (Some w) (lookup (λ other. bytes_eq var other) (by_text text m.entries))
-updated {K} {X} text m n key w h var = by_cases (bytes_eq key var) refl where
-  by_cases : (b : Bool) → bytes_eq key var ≡ b → lookup (λ other. bytes_eq var other) (by_text text n.entries) ≡ cond b (Some w) (lookup (λ other. bytes_eq var other) (by_text text m.entries))
-  by_cases true is =
-      subst (λ (l : List ℕ). lookup (λ other. bytes_eq l other) (by_text text n.entries) ≡ Some w) ((bytes_eq-Decides key var).0 is)
-      (sym (lookup-by_text text key n.entries) ∙ h.1)
-  by_cases false is =
-      sym (lookup-by_text text var n.entries)
-      ∙ (other_entries _ _ m.entries n.entries h.3 (λ k. is_eq (slice_cmp nat_cmp var (text k)))
-      (λ x y. (eq_by_cmp_equiv nat_list_cmp_total).congr var (text x) (text y))
-      (λ k same. apart key var (text k) is same)
-      ∙ lookup-by_text text var m.entries)
+-- a variable that stands for another object
+object_rebound : (var : List ℕ) (u : ObjectName) (rows : Rows) → object_at (rebound var u rows) ≡ bind var u (object_at rows)
+object_rebound var u rows = fun_ext (λ other.
+    find-put (slice_cmp nat_cmp) nat_list_cmp_total other var u rows
+    ∙ ap (λ b. cond b (Some u) (object_at rows other)) (is_eq-slice_cmp other var ∙ nat_list_eq_equiv.symm other var))
+
+-- the variables behind a command
+pub object_after : (c : Command) (reply : Reply) (rows : Rows) → object_at (rows_after c reply rows) ≡ bound_after c reply (object_at rows)
+object_after (New var room home) (Made u) rows = object_rebound var u rows
+object_after _ _ rows = refl

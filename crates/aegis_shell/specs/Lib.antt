@@ -1,9 +1,10 @@
 pub mod Bound
 pub mod Bindings
 pub mod Work
-pub mod Ranges
 pub mod Operations
+pub mod Ranges
+pub mod Asked
 pub mod AnswerTexts
 pub mod Asking
+pub mod States
 pub mod Shells
-pub mod Playing

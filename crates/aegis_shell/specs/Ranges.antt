@@ -1,26 +1,22 @@
 -- The ranges that a process's commands keep.
-use Rattle.std.specs.Prelude.{◌≤◌, List, All, length}
+use Rattle.std.specs.Prelude.{◌+◌, ◌<◌, ◌≤◌, ◌^◌, ℕ, List, All}
+use Rattle.uid_names.specs.declared.limits.TheConstants.{MAX_NODES, PAGE_BYTES}
+use Rattle.dom_history.specs.declared.op.Spot.{Spot}
+use Rattle.dom_history.specs.Ranges.{IsSpot}
 use Rattle.script_reader.specs.declared.command.Command.{Command}
-use Rattle.script_reader.specs.declared.command.Command.TheVariants.{New, Lock, Unlock, Delete, Load, Store, Length, Map, Unmap, Loadat, Storeat}
-use Rattle.uid_names.specs.Rooms.{IsRoom}
-use Rattle.script_reader.specs.Commands.{IsOffset, IsCount, IsAddress}
+use Rattle.script_reader.specs.Commands.{IsCommand, IsCount}
 use Rattle.aegis_shell.specs.declared.work.Job.{Job}
+use Rattle.aegis_shell.specs.Operations.{place_of}
 
--- rooms, ranges and addresses are such as a script can name
+-- a command such as a script can have
 abbrev pub IsRanged : Command → Type 0
-IsRanged (New var room home) = IsRoom room
-IsRanged (Lock var mode) = Unit {0}
-IsRanged (Unlock var) = Unit {0}
-IsRanged (Delete var) = Unit {0}
-IsRanged (Load var offset count) = IsOffset offset × IsCount count
-IsRanged (Store var offset text) = IsOffset offset × IsCount (length text)
-IsRanged (Length var) = Unit {0}
-IsRanged (Map var) = Unit {0}
-IsRanged (Unmap var) = Unit {0}
-IsRanged (Loadat address count) = IsAddress address × IsCount count
-IsRanged (Storeat address text) = IsAddress address × IsCount (length text)
+IsRanged command = IsCommand MAX_NODES command
 
--- so is each job's command, and its phase
+-- so many bytes from a spot, as a command can name them
+abbrev pub IsRange : Spot → ℕ → Type 0
+IsRange spot count = IsSpot spot × IsCount count × (place_of spot + PAGE_BYTES < 2 ^ 32)
+
+-- a job's command is one that a script can have, and so is its phase
 pub record IsJob (job : Job) : Type 0 where
   pub phase : job.phase ≤ 1000
   pub command : IsRanged job.command

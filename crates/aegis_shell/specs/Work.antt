@@ -1,26 +1,23 @@
 -- What a script gives one process to do.
-use Rattle.std.specs.Prelude.{ℕ, Option, Some, None, List, map, filter}
+use Rattle.std.specs.Prelude.{ℕ, Option, Some, None, List, [], ◌∷◌, map, filter}
 use Rattle.uid_names.specs.Names.{ProcName, ObjectName, same_proc}
 use Rattle.script_reader.specs.declared.command.Command.{Command}
-use Rattle.script_reader.specs.declared.command.Command.TheVariants.{New, Lock, Unlock, Delete, Load, Store, Length, Map, Unmap, Loadat, Storeat}
+use Rattle.script_reader.specs.Arguments.{Given, Var}
+use Rattle.script_reader.specs.Commands.{arguments_of}
 use Rattle.script_reader.specs.declared.script.CommandRow.{CommandRow}
 use Rattle.script_reader.specs.Scripts.{Content}
+use Rattle.script_reader.specs.Variables.{declared_object}
 use Rattle.aegis_shell.specs.declared.work.Job.{Job}
-use Rattle.aegis_shell.specs.Bound.{Bound, unbound, declare}
+use Rattle.aegis_shell.specs.Bound.{Bound}
 
--- the variable on whose object a command works
+-- the variable on whose object a command works: the first argument that is one which its process knows
+abbrev pub var_of : List Given → Option (List ℕ)
+var_of [] = None
+var_of (Var name ∷ rest) = Some name
+var_of (_ ∷ rest) = var_of rest
+
 abbrev pub variable : Command → Option (List ℕ)
-variable (New var room home) = None
-variable (Lock var mode) = Some var
-variable (Unlock var) = Some var
-variable (Delete var) = Some var
-variable (Load var offset count) = Some var
-variable (Store var offset text) = Some var
-variable (Length var) = Some var
-variable (Map var) = Some var
-variable (Unmap var) = Some var
-variable (Loadat address count) = None
-variable (Storeat address text) = None
+variable command = var_of (arguments_of command)
 
 -- the object of a variable, where there is one
 abbrev pub object_in : Bound → Option (List ℕ) → Option ObjectName
@@ -38,7 +35,7 @@ pub record Part : Type 0 where
   pub jobs : List Job
 
 abbrev pub jobs_of : Content → ProcName → List Job
-jobs_of s p = map (job_of (declare s.objects unbound)) (filter (λ row. same_proc row.proc p) s.commands)
+jobs_of s p = map (job_of (declared_object s.objects)) (filter (λ row. same_proc row.proc p) s.commands)
 
 abbrev pub part_of : Content → ProcName → Part
 part_of s p = record { node = p.node; names = map (λ n. n.name) s.nodes; jobs = jobs_of s p }

@@ -1,7 +1,6 @@
 //! The variables of a process.
-ghost use Rattle.std.specs.Prelude.{◌≡◌, ℕ, List, None, IfOk, OnOk};
-ghost use Rattle.aegis_shell.specs.Bound.{unbound, bind as bound_with};
-ghost use Rattle.aegis_shell.specs.Bindings.{object_at};
+ghost use Rattle.std.specs.Prelude.{◌≡◌, [], OnOk};
+ghost use Rattle.aegis_shell.specs.Bindings.{object_at, rebound};
 
 use std::alloc::Global;
 use std::collections::BTreeMap;
@@ -26,7 +25,7 @@ impl Model for Bindings {
 impl Bindings {
     /// No variable stands for an object. Takes no memory.
     pub fn new(alloc: Global) -> Bindings
-        ensures { object_at result ≡ unbound }
+        ensures { result ≡ [] }
     {
         Bindings {
             objects: BTreeMap::new(alloc),
@@ -42,7 +41,7 @@ impl Bindings {
 
     /// The variable stands for this object from now on.
     pub fn bind(&mut self, alloc: Global, var: &[u8], uid: Uid) -> Result<(), NoMemory>
-        ensures { OnOk result (object_at self.new ≡ bound_with var.now uid (object_at self.old)) }
+        ensures { OnOk result (self.new ≡ rebound var.now uid self.old) }
     {
         let var = Vec::from_slice(alloc, var)?;
         self.objects.insert(var, uid)?;

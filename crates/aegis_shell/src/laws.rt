@@ -11,6 +11,9 @@ ghost use Rattle.aegis_shell.specs.Work.{Part, jobs_of};
 ghost use Rattle.aegis_shell.specs.Asking.{reached, ask, answers};
 ghost use Rattle.aegis_shell.specs.Shells.{shell_of, shell_after, shell_wants, shell_answers};
 
+use crate::Shell;
+use uid_names::laws::may_cross_threads;
+
 /// What a process of a node asks is in the ranges of operations, where the replies that it heard name objects.
 #[tactic(auto, using(crate::proofs::Ranged::ask_ranged))]
 pub fn asks_are_in_range()
@@ -43,3 +46,8 @@ pub fn each_command_has_one_answer()
     ensures few { (s : Content) (p : ProcName) (heard : Heard) → length (answers s p heard) ≤ length (jobs_of s p) }
     ensures all { (s : Content) (p : ProcName) (heard : Heard) → ask s p heard ≡ Done → length (answers s p heard) ≡ length (jobs_of s p) }
 {}
+
+/// Threads may hand each other shells.
+pub fn shells_may_cross_threads() {
+    may_cross_threads::<Shell>();
+}

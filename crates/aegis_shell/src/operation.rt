@@ -1,8 +1,9 @@
 //! The operations that a command makes.
-ghost use Rattle.std.specs.Prelude.{◌≡◌, ℕ, ◌+◌, ◌<◌, ◌≤◌, ◌^◌, Some, None, length, unwrap_or, IfOk, IfSome};
-ghost use Rattle.dom_history.specs.Ranges.{offset_in_page, IsOp};
-ghost use Rattle.aegis_shell.specs.Operations.{page_rest as rest_of_page, place_of, behind as spot_behind, loads, stores, ops_of, first_of, second_of, head_of, rest_of};
-ghost use Rattle.aegis_shell.specs.Ranges.{IsRanged};
+ghost use Rattle.std.specs.Prelude.{◌≡◌, ◌+◌, ◌<◌, ◌≤◌, ◌^◌, Some, length, unwrap_or, option_map, IfOk, IfSome};
+ghost use Rattle.dom_history.specs.Ranges.{IsOp};
+ghost use Rattle.aegis_shell.specs.Operations.{page_rest as rest_of_page, place_of, behind as spot_behind, loads, stores, ops_of, first_of, second_of, head_of};
+ghost use Rattle.aegis_shell.specs.Asked.{ops_asked, IsAsked};
+ghost use Rattle.aegis_shell.specs.Ranges.{IsRanged, IsRange};
 ghost use Rattle.uid_names.specs.Rooms.{IsRoom};
 ghost use Rattle.uid_names.specs.declared.mode.ObjKind.TheVariants.{File};
 ghost use Rattle.dom_history.specs.declared.op.Op.TheVariants.{New};
@@ -38,7 +39,9 @@ fn behind(spot: Spot, n: u32) -> Spot
 
 /// The first operation of a load.
 fn first_load(spot: Spot, count: u32) -> Op
-    ensures { Some result ≡ head_of (loads spot count) }
+    requires { IsRange spot count }
+    ensures value { Some result ≡ head_of (loads spot count) }
+    ensures range { IsOp result }
 {
     let rest = page_rest(&spot);
     if count <= rest {
@@ -50,8 +53,9 @@ fn first_load(spot: Spot, count: u32) -> Op
 
 /// The second operation of a load that passes a page border.
 fn second_load(spot: Spot, count: u32) -> Option<Op>
-    requires { place_of spot + PAGE_BYTES < 2 ^ 32 }
-    ensures { result ≡ second_of (Some (loads spot count)) }
+    requires { IsRange spot count }
+    ensures value { result ≡ second_of (Some (loads spot count)) }
+    ensures range { IfSome result IsOp }
 {
     let rest = page_rest(&spot);
     if count <= rest {
@@ -66,8 +70,9 @@ fn second_load(spot: Spot, count: u32) -> Option<Op>
 
 /// The first operation of a store.
 fn first_store(alloc: Global, spot: Spot, text: &[u8]) -> Result<Op, NoMemory>
-    requires { length text.now ≤ PAGE_BYTES }
-    ensures { IfOk result (λ op. Some op ≡ head_of (stores spot text.now)) }
+    requires { IsRange spot (length text.now) }
+    ensures value { IfOk result (λ op. Some op ≡ head_of (stores spot text.now)) }
+    ensures range { IfOk result IsOp }
 {
     let rest = page_rest(&spot) as usize;
     if text.len() <= rest {
@@ -81,8 +86,9 @@ fn first_store(alloc: Global, spot: Spot, text: &[u8]) -> Result<Op, NoMemory>
 
 /// The second operation of a store that passes a page border.
 fn second_store(alloc: Global, spot: Spot, text: &[u8]) -> Result<Option<Op>, NoMemory>
-    requires { place_of spot + PAGE_BYTES < 2 ^ 32 }
-    ensures { IfOk result (λ op. op ≡ second_of (Some (stores spot text.now))) }
+    requires { IsRange spot (length text.now) }
+    ensures value { IfOk result (λ op. op ≡ second_of (Some (stores spot text.now))) }
+    ensures range { IfOk result (λ op. IfSome op IsOp) }
 {
     let rest = page_rest(&spot);
     if text.len() <= rest as usize {
@@ -110,50 +116,43 @@ fn make(node: NodeId, room: u32, home: Option<NodeId>) -> Op
     }
 }
 
-/// The first operation of a command of a process at this node, that works on this object if it works on one.
-fn first_on(alloc: Global, node: NodeId, command: &Command, uid: Uid) -> Result<Op, NoMemory>
+/// What a command asks for: an operation, or the bytes of a range, which may pass a page border.
+#[derive(Drop)]
+pub enum Asked<'a> {
+    One(Op),
+    Load(Spot, u32),
+    Store(Spot, &'a ByteList),
+}
+
+/// What a command of a process at this node asks for; None where it lacks its object.
+fn asked_of<'a>(node: NodeId, command: &'a Command, uid: Option<Uid>) -> Option<Asked<'a>>
     requires { IsRanged command.now }
-    ensures value { IfOk result (λ op. Some op ≡ first_of (ops_of node command.now (Some uid))) }
-    ensures range { IfOk result IsOp }
+    ensures value { ops_of node command.now uid ≡ option_map ops_asked result }
+    ensures range { IfSome result IsAsked }
 {
-    Ok(match command {
-        Command::New { var: _, room, home } => make(node, *room, *home),
-        Command::Lock { var: _, mode } => Op::Lock { uid, mode: *mode },
-        Command::Unlock { var: _ } => Op::Unlock { uid },
-        Command::Delete { var: _ } => Op::Delete { uid },
-        Command::Length { var: _ } => Op::Length { uid },
-        Command::Map { var: _ } => Op::Map { uid },
-        Command::Unmap { var: _ } => Op::Unmap { uid },
+    Some(match command {
+        Command::New { var: _, room, home } => Asked::One(make(node, *room, *home)),
+        Command::Lock { var: _, mode } => Asked::One(Op::Lock {
+            uid: uid?,
+            mode: *mode,
+        }),
+        Command::Unlock { var: _ } => Asked::One(Op::Unlock { uid: uid? }),
+        Command::Delete { var: _ } => Asked::One(Op::Delete { uid: uid? }),
         Command::Load {
             var: _,
             offset,
             count,
-        } => first_load(Spot::Of(uid, *offset), *count),
+        } => Asked::Load(Spot::Of(uid?, *offset), *count),
         Command::Store {
             var: _,
             offset,
             text,
-        } => first_store(alloc, Spot::Of(uid, *offset), text.bytes())?,
-        Command::Loadat { address, count } => first_load(Spot::Addr(*address), *count),
-        Command::Storeat { address, text } => {
-            first_store(alloc, Spot::Addr(*address), text.bytes())?
-        }
-    })
-}
-
-/// The first operation of a command that has no object; None where it lacks one.
-fn first_alone(alloc: Global, node: NodeId, command: &Command) -> Result<Option<Op>, NoMemory>
-    requires { IsRanged command.now }
-    ensures value { IfOk result (λ op. op ≡ first_of (ops_of node command.now None)) }
-    ensures range { IfOk result (λ op. IfSome op IsOp) }
-{
-    Ok(match command {
-        Command::New { var: _, room, home } => Some(make(node, *room, *home)),
-        Command::Loadat { address, count } => Some(first_load(Spot::Addr(*address), *count)),
-        Command::Storeat { address, text } => {
-            Some(first_store(alloc, Spot::Addr(*address), text.bytes())?)
-        }
-        _ => None,
+        } => Asked::Store(Spot::Of(uid?, *offset), text),
+        Command::Length { var: _ } => Asked::One(Op::Length { uid: uid? }),
+        Command::Map { var: _ } => Asked::One(Op::Map { uid: uid? }),
+        Command::Unmap { var: _ } => Asked::One(Op::Unmap { uid: uid? }),
+        Command::Loadat { address, count } => Asked::Load(Spot::Addr(*address), *count),
+        Command::Storeat { address, text } => Asked::Store(Spot::Addr(*address), text),
     })
 }
 
@@ -168,49 +167,29 @@ pub fn first_operation(
     ensures value { IfOk result (λ op. op ≡ first_of (ops_of node command.now uid)) }
     ensures range { IfOk result (λ op. IfSome op IsOp) }
 {
-    match uid {
-        Some(uid) => Ok(Some(first_on(alloc, node, command, uid)?)),
-        None => first_alone(alloc, node, command),
+    match asked_of(node, command, uid) {
+        Some(Asked::One(op)) => Ok(Some(op)),
+        Some(Asked::Load(spot, count)) => Ok(Some(first_load(spot, count))),
+        Some(Asked::Store(spot, text)) => Ok(Some(first_store(alloc, spot, text.bytes())?)),
+        None => Ok(None),
     }
 }
 
 /// The second operation of a command, where its range passes a page border.
 pub fn second_operation(
     alloc: Global,
+    node: NodeId,
     command: &Command,
     uid: Option<Uid>,
 ) -> Result<Option<Op>, NoMemory>
     requires { IsRanged command.now }
-    ensures value { IfOk result (λ op. (node : ℕ) → op ≡ second_of (ops_of node command.now uid)) }
+    ensures value { IfOk result (λ op. op ≡ second_of (ops_of node command.now uid)) }
     ensures range { IfOk result (λ op. IfSome op IsOp) }
 {
-    Ok(match command {
-        Command::Load {
-            var: _,
-            offset,
-            count,
-        } => match uid {
-            None => None,
-            Some(uid) => second_load(Spot::Of(uid, *offset), *count),
-        },
-        Command::Store {
-            var: _,
-            offset,
-            text,
-        } => match uid {
-            None => None,
-            Some(uid) => second_store(alloc, Spot::Of(uid, *offset), text.bytes())?,
-        },
-        Command::Loadat { address, count } => second_load(Spot::Addr(*address), *count),
-        Command::Storeat { address, text } => {
-            second_store(alloc, Spot::Addr(*address), text.bytes())?
-        }
-        Command::New { .. }
-        | Command::Lock { .. }
-        | Command::Unlock { .. }
-        | Command::Delete { .. }
-        | Command::Length { .. }
-        | Command::Map { .. }
-        | Command::Unmap { .. } => None,
-    })
+    let asked = asked_of(node, command, uid);
+    match &asked {
+        Some(Asked::Load(spot, count)) => Ok(second_load(*spot, *count)),
+        Some(Asked::Store(spot, text)) => second_store(alloc, *spot, text.bytes()),
+        Some(Asked::One(_)) | None => Ok(None),
+    }
 }

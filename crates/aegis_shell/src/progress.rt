@@ -1,17 +1,13 @@
 //! How far a process has come in its jobs.
-ghost use Rattle.std.specs.Prelude.{◌≡◌, ℕ, ◌++◌, ◌∷◌, [], ◌<◌, ◌≤◌, ◌^◌, ◌+◌, IsTrue, IsSome, true, length, drop, List, None, Some, Option, IfOk, IfSome, OnOk, MatchOption};
+ghost use Rattle.std.specs.Prelude.{◌≡◌, ◌≤◌, length, true, None, Some, IfOk, IfSome, OnOk, MatchOption};
 ghost use Rattle.std.specs.Option.{option_copied};
-ghost use Rattle.dom_history.specs.declared.op.Want.{Want};
 ghost use Rattle.dom_history.specs.declared.op.Want.TheVariants.{Do};
 ghost use Rattle.dom_history.specs.Programs.{FitsWant};
 ghost use Rattle.dom_history.specs.Ranges.{IsOp, IsWant};
-ghost use Rattle.aegis_shell.specs.Bound.{unbound};
-ghost use Rattle.aegis_shell.specs.Bindings.{object_at};
-ghost use Rattle.aegis_shell.specs.AnswerTexts.{is_done as is_done_reply, together, so_far, answer_text};
-ghost use Rattle.aegis_shell.specs.Operations.{ops_of, first_of, second_of};
+ghost use Rattle.aegis_shell.specs.AnswerTexts.{is_done as is_done_reply};
+ghost use Rattle.aegis_shell.specs.Operations.{second_of};
 ghost use Rattle.aegis_shell.specs.Ranges.{IsRanged};
-ghost use Rattle.aegis_shell.specs.Work.{object_of};
-ghost use Rattle.aegis_shell.specs.Asking.{Told, Reached, waits, bound_after};
+ghost use Rattle.aegis_shell.specs.States.{rows_after};
 
 use crate::answer::{answer, is_done, not_bound};
 use crate::bindings::Bindings;
@@ -20,16 +16,25 @@ use crate::work::{Job, Work};
 use dom_history::{Op, Reply, Want};
 use script_reader::Command;
 use std::alloc::Global;
+use std::marker::Model;
 use uid_names::{ByteList, NoMemory};
 
-/// Where a process stands: its phase, its variables, the reply to the first operation of a command that goes
-/// on behind it, and the answers of the commands that are finished.
+/// Where a process stands: its phase, its variables, the reply to the first operation of a command that has gone on
+/// to its second one, and the answers of the commands that are finished.
 #[derive(Drop)]
 pub struct Progress {
-    pub phase: u32,
-    pub bound: Bindings,
-    pub first: Option<Reply>,
-    pub answers: Vec<ByteList>,
+    phase: u32,
+    bound: Bindings,
+    first: Option<Reply>,
+    answers: Vec<ByteList>,
+}
+
+impl Model for Progress {
+    ghost use Rattle.aegis_shell.specs.States.{State};
+
+    ghost Value = { State };
+
+    ghost view = { λ p. record { phase = p.phase; bound = p.bound; first = p.first; answers = p.answers.items } };
 }
 
 /// Binds the variable of a `new` that was granted.
@@ -39,7 +44,7 @@ fn bind_made(
     command: &Command,
     reply: &Reply,
 ) -> Result<(), NoMemory>
-    ensures { OnOk result (object_at bound.new ≡ bound_after command.now reply.now (object_at bound.old)) }
+    ensures { OnOk result (bound.new ≡ rows_after command.now reply.now bound.old) }
 {
     if let Command::New {
         var,
@@ -55,15 +60,12 @@ fn bind_made(
 }
 
 impl Progress {
-    ghost use Rattle.aegis_shell.specs.Shells.{want_after};
-    ghost use Rattle.aegis_shell.specs.Playing.{Continues, IsTold, IsShell, resume, heard_of, told_with, goes_on, want_at};
+    ghost use Rattle.aegis_shell.specs.Shells.{state_after, want_when, IsKept};
+    ghost use Rattle.aegis_shell.specs.States.{beginning, left, ops_at, want_at, want_left, want_of, settled, outcome, goes_on, ended, hear as heard_of};
 
     /// The beginning: phase 1, and nothing bound or answered. Takes no memory.
     pub fn new(alloc: Global) -> Progress
-        ensures phase { result.phase ≡ 1 }
-        ensures bound { object_at result.bound ≡ unbound }
-        ensures first { result.first ≡ None }
-        ensures answers { result.answers.items ≡ [] }
+        ensures { result ≡ beginning }
     {
         Progress {
             phase: 1,
@@ -71,6 +73,13 @@ impl Progress {
             first: None,
             answers: Vec::new(alloc),
         }
+    }
+
+    /// The answers of the finished commands, in order.
+    pub fn answers(&self) -> &[ByteList]
+        ensures { result.now ≡ self.now.answers }
+    {
+        self.answers.as_slice()
     }
 
     /// Ends a command whose last operation had this reply.
@@ -81,10 +90,7 @@ impl Progress {
         command: &Command,
         reply: &Reply,
     ) -> Result<(), NoMemory>
-        ensures phase { OnOk result (self.new.phase ≡ self.old.phase) }
-        ensures bound { OnOk result (object_at self.new.bound ≡ bound_after command.now reply.now (object_at self.old.bound)) }
-        ensures first { OnOk result (self.new.first ≡ None) }
-        ensures answers { OnOk result (self.new.answers.items ≡ self.old.answers.items ++ answer_text work.now.names (together (so_far self.old.first) reply.now) ∷ []) }
+        ensures { OnOk result (self.new ≡ ended work.now self.old command.now (outcome self.old.first (Some reply.now))) }
     {
         let text = answer(alloc, work.names(), &self.first, reply)?;
         self.answers.push(text)?;
@@ -94,14 +100,20 @@ impl Progress {
     }
 
     /// The operation with which a command goes on behind this reply; None where it ends.
-    fn second(&self, alloc: Global, job: &Job, reply: &Reply) -> Result<Option<Op>, NoMemory>
+    fn second(
+        &self,
+        alloc: Global,
+        work: &Work,
+        job: &Job,
+        reply: &Reply,
+    ) -> Result<Option<Op>, NoMemory>
         requires { IsRanged job.now.command }
+        ensures value { IfOk result (λ op. op ≡ goes_on self.now.first (is_done_reply reply.now) (second_of (ops_at work.now self.now job.now))) }
         ensures range { IfOk result (λ op. IfSome op IsOp) }
-        ensures value { IfOk result (λ op. (node : ℕ) → op ≡ goes_on self.now.first (is_done_reply reply.now) (second_of (ops_of node job.now.command (object_of job.now (object_at self.now.bound))))) }
     {
         match &self.first {
             None if is_done(reply) => {
-                second_operation(alloc, &job.command, job.object(&self.bound))
+                second_operation(alloc, work.node(), &job.command, job.object(&self.bound))
             }
             _ => Ok(None),
         }
@@ -114,13 +126,13 @@ impl Progress {
         work: &Work,
         reply: &Reply,
     ) -> Result<Option<Op>, NoMemory>
-        requires { IsTold work.now self.old (drop (length self.old.answers.items) work.now.jobs) (Some reply.now) }
-        ensures goes { OnOk result ((whole : Told → Reached) → Continues work.now self.old whole → Continues work.now self.new (λ future. whole (Some reply.now ∷ future))) }
-        ensures next { IfOk result (λ op. MatchOption op (self.new.first ≡ None) (λ o. resume work.now self.new [] ≡ waits (Do o))) }
+        requires { FitsWant (want_of work.now self.old) (Some reply.now) }
+        ensures state { OnOk result (self.new ≡ heard_of work.now self.old (left work.now self.old) (Some reply.now)) }
+        ensures next { IfOk result (λ op. MatchOption op (self.new.first ≡ None) (λ o. want_of work.now self.new ≡ Do o)) }
         ensures range { IfOk result (λ op. IfSome op IsOp) }
     {
         let job = &work.jobs()[self.answers.len()];
-        match self.second(alloc, job, reply)? {
+        match self.second(alloc, work, job, reply)? {
             Some(op) => {
                 self.first = Some(reply.copy(alloc)?);
                 Ok(Some(op))
@@ -134,8 +146,8 @@ impl Progress {
 
     /// Goes into the next phase.
     fn pass(&mut self, work: &Work)
-        requires { IsTold work.now self.old (drop (length self.old.answers.items) work.now.jobs) None }
-        ensures goes { (whole : Told → Reached) → Continues work.now self.old whole → Continues work.now self.new (λ future. whole (None ∷ future)) }
+        requires { FitsWant (want_of work.now self.old) None }
+        ensures state { self.new ≡ heard_of work.now self.old (left work.now self.old) None }
         ensures first { self.new.first ≡ None }
     {
         // The phase of a job is small.
@@ -150,9 +162,9 @@ impl Progress {
         work: &Work,
         last: Option<&Reply>,
     ) -> Result<Option<Op>, NoMemory>
-        requires { IsTold work.now self.old (drop (length self.old.answers.items) work.now.jobs) (option_copied last) }
-        ensures goes { OnOk result ((whole : Told → Reached) → Continues work.now self.old whole → Continues work.now self.new (λ future. whole (option_copied last.entry ∷ future))) }
-        ensures next { IfOk result (λ op. MatchOption op (self.new.first ≡ None) (λ o. resume work.now self.new [] ≡ waits (Do o))) }
+        requires { FitsWant (want_of work.now self.old) (option_copied last) }
+        ensures state { OnOk result (self.new ≡ heard_of work.now self.old (left work.now self.old) (option_copied last.entry)) }
+        ensures next { IfOk result (λ op. MatchOption op (self.new.first ≡ None) (λ o. want_of work.now self.new ≡ Do o)) }
         ensures range { IfOk result (λ op. IfSome op IsOp) }
     {
         match last {
@@ -166,8 +178,9 @@ impl Progress {
 
     /// What the process wants before a job; None where the job lacks its object.
     fn want_before(&self, alloc: Global, work: &Work, job: &Job) -> Result<Option<Want>, NoMemory>
-        requires { IsRanged job.now.command }
-        ensures value { IfOk result (λ want. want ≡ want_at work.now self.now.phase (object_at self.now.bound) job.now) }
+        requires between { self.now.first ≡ None }
+        requires range { IsRanged job.now.command }
+        ensures value { IfOk result (λ want. want ≡ want_at work.now self.now job.now) }
         ensures range { IfOk result (λ want. IfSome want IsWant) }
     {
         if self.phase < job.phase {
@@ -182,9 +195,9 @@ impl Progress {
     /// What the process wants. Commands that lack their object are answered on the way.
     fn want(&mut self, alloc: Global, work: &Work) -> Result<Want, NoMemory>
         requires between { self.old.first ≡ None }
-        requires within { length self.old.answers.items ≤ length work.now.jobs }
-        ensures want { IfOk result (λ want. resume work.now self.new [] ≡ waits want) }
-        ensures goes { OnOk result ((whole : Told → Reached) → Continues work.now self.old whole → Continues work.now self.new whole) }
+        requires within { length self.old.answers ≤ length work.now.jobs }
+        ensures state { OnOk result (self.new ≡ settled work.now self.old) }
+        ensures want { IfOk result (λ want. want ≡ want_of work.now self.new) }
         ensures range { IfOk result IsWant }
     {
         for job in &work.jobs()[self.answers.len()..] {
@@ -204,32 +217,20 @@ impl Progress {
         work: &Work,
         begun: bool,
         last: Option<&Reply>,
-        told: &mut Vec<Option<Reply>>,
     ) -> Result<Want, NoMemory>
-        requires shell { IsShell work.now begun told.old.items self.old }
-        requires fits { FitsWant (want_after work.now (heard_of begun told.old.items)) (option_copied last) }
-        ensures shell { OnOk result (IsShell work.now true told.new.items self.new) }
-        ensures want { IfOk result (λ want. resume work.now self.new [] ≡ waits want) }
+        requires kept { IsKept work.now begun self.old }
+        requires fits { FitsWant (want_when begun work.now self.old) (option_copied last) }
+        ensures state { OnOk result (self.new ≡ state_after begun work.now self.old (option_copied last.entry)) }
+        ensures want { IfOk result (λ want. want ≡ want_of work.now self.new) }
         ensures range { IfOk result IsWant }
-        ensures told { OnOk result (told.new.items ≡ told_with begun told.old.items (option_copied last.entry)) }
+        ensures kept { OnOk result (IsKept work.now true self.new) }
     {
         if !begun {
             return self.want(alloc, work);
         }
-        told.push(copied(alloc, last)?)?;
         match self.hear(alloc, work, last)? {
             Some(op) => Ok(Want::Do(op)),
             None => self.want(alloc, work),
         }
-    }
-}
-
-/// A copy of what is told.
-fn copied(alloc: Global, last: Option<&Reply>) -> Result<Option<Reply>, NoMemory>
-    ensures { IfOk result (λ copy. copy ≡ option_copied last.entry) }
-{
-    match last {
-        Some(reply) => Ok(Some(reply.copy(alloc)?)),
-        None => Ok(None),
     }
 }

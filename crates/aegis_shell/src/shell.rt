@@ -1,6 +1,5 @@
 //! The program of a process.
-ghost use Rattle.std.specs.Prelude.{◌≡◌, ◌^◌, ◌<◌, ℕ, length, Option, None, List, [], IfOk, OnOk};
-ghost use Rattle.std.specs.Option.{option_copied};
+ghost use Rattle.std.specs.Prelude.{◌≡◌, IfOk};
 
 use crate::progress::Progress;
 use crate::work::Work;
@@ -15,20 +14,18 @@ use uid_names::{ByteList, NoMemory, ProcId};
 pub struct Shell {
     work: Work,
     begun: bool,
-    told: Vec<Option<Reply>>,
     progress: Progress,
     spent: bool,
 }
 
 impl Model for Shell {
-    ghost use Rattle.aegis_shell.specs.Shells.{Shelled};
-    ghost use Rattle.aegis_shell.specs.Playing.{heard_of, UnlessSpent, IsShell};
+    ghost use Rattle.aegis_shell.specs.Shells.{Shelled, UnlessSpent, IsKept};
 
     ghost Value = { Shelled };
 
-    ghost view = { λ s. record { part = s.work; heard = heard_of s.begun s.told.items; answers = s.progress.answers.items; spent = s.spent } };
+    ghost view = { λ s. record { part = s.work; begun = s.begun; at = s.progress; spent = s.spent } };
 
-    ghost invariant = { λ s. UnlessSpent s.spent (IsShell s.work s.begun s.told.items s.progress) };
+    ghost invariant = { λ s. UnlessSpent s.spent (IsKept s.work s.begun s.progress) };
 }
 
 impl Shell {
@@ -42,7 +39,6 @@ impl Shell {
         Ok(Shell {
             work,
             begun: false,
-            told: Vec::new(alloc),
             progress: Progress::new(alloc),
             spent: false,
         })
@@ -52,7 +48,7 @@ impl Shell {
     pub fn answers(&self) -> &[ByteList]
         ensures { result.now ≡ shell_answers self.now }
     {
-        self.progress.answers.as_slice()
+        self.progress.answers()
     }
 }
 
@@ -71,9 +67,7 @@ impl Program for Shell {
     fn next(&mut self, alloc: Global, last: Option<&Reply>) -> Result<Want, NoMemory> {
         // Until the turn is done; where it finds no memory the value stays so.
         self.spent = true;
-        let want = self
-            .progress
-            .turn(alloc, &self.work, self.begun, last, &mut self.told)?;
+        let want = self.progress.turn(alloc, &self.work, self.begun, last)?;
         self.begun = true;
         self.spent = false;
         Ok(want)
@@ -82,6 +76,6 @@ impl Program for Shell {
     fn at(&self) -> u32 {
         // There are as many commands at least, and they are few.
         let _jobs = self.work.jobs();
-        self.progress.answers.len() as u32
+        self.progress.answers().len() as u32
     }
 }

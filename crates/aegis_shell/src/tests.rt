@@ -68,9 +68,6 @@ fn process(node: u8) -> Result<ProcId, Fail> {
     Ok(ProcId::new(node, 1).ok_or("no process")?)
 }
 
-/// What can go to a thread.
-fn can_go<T: Send>(_value: &T) {}
-
 fn served_alone(alloc: Global, script: &[u8], node: u8) -> Result<Served, Fail> {
     let script = read_script(alloc, script)?;
     Ok(serve(alloc, &script, process(node)?)?)
@@ -95,64 +92,38 @@ fn answers_at_a(alloc: Global, commands: &[u8]) -> Result<ByteList, Fail> {
 }
 
 #[test]
-fn a_text_is_stored_and_loaded(rt: HostRuntime) -> Result<(), Fail> {
-    let got = answers_at_a(
-        rt.alloc(),
-        b"a.1 lock x w\na.1 store x 0 \"hi\"\na.1 load x 0 2\na.1 length x\na.1 unlock x\n",
-    )?;
-    assert_eq!(rt; got.bytes(), b"ok\nok\nok \"hi\"\nok 2\nok\n".as_slice());
-    Ok(())
-}
-
-#[test]
-fn a_range_is_cut_at_a_page_border(rt: HostRuntime) -> Result<(), Fail> {
-    let got = answers_at_a(
-        rt.alloc(),
-        b"a.1 lock x w\na.1 store x 1022 \"abcd\"\na.1 load x 1022 4\na.1 load x 1022 5\n",
-    )?;
-    assert_eq!(rt; got.bytes(), b"ok\nok\nok \"abcd\"\npast end\n".as_slice());
-    Ok(())
-}
-
-#[test]
-fn a_range_that_is_refused_behind_a_border_keeps_its_first_part(
-    rt: HostRuntime,
-) -> Result<(), Fail> {
-    let got = answers_at_a(
-        rt.alloc(),
-        b"a.1 lock x w\na.1 store x 2046 \"abcd\"\na.1 length x\na.1 load x 2046 2\n",
-    )?;
-    assert_eq!(rt;
-        got.bytes(),
-        b"ok\npast room\nok 2048\nok \"ab\"\n".as_slice()
-    );
-    Ok(())
-}
-
-#[test]
-fn a_range_of_addresses_is_cut_at_a_page_border(rt: HostRuntime) -> Result<(), Fail> {
-    let got = answers_at_a(
-        rt.alloc(),
-        b"a.1 lock x w\na.1 map x\na.1 storeat 000003fe \"wxyz\"\na.1 loadat 000003fe 4\na.1 unmap x\n",
-    )?;
-    assert_eq!(rt;
-        got.bytes(),
-        b"ok\nok 00000000\nok\nok \"wxyz\"\nok\n".as_slice()
-    );
-    Ok(())
-}
-
-#[test]
-fn a_command_ends_at_its_first_refusal(rt: HostRuntime) -> Result<(), Fail> {
-    // The range ends in y, but begins where nothing is mapped.
-    let got = answers_at_a(
-        rt.alloc(),
-        b"a.1 lock x w\na.1 map x\na.1 lock y w\na.1 map y\na.1 unmap x\na.1 storeat 00007ffe \"abcd\"\na.1 length y\n",
-    )?;
-    assert_eq!(rt;
-        got.bytes(),
-        b"ok\nok 00000000\nok\nok 00008000\nok\nnot mapped\nok 0\n".as_slice()
-    );
+fn commands_are_answered(rt: HostRuntime) -> Result<(), Fail> {
+    let rows: [(&[u8], &[u8]); 5] = [
+        // A text is stored and loaded.
+        (
+            b"a.1 lock x w\na.1 store x 0 \"hi\"\na.1 load x 0 2\na.1 length x\na.1 unlock x\n",
+            b"ok\nok\nok \"hi\"\nok 2\nok\n",
+        ),
+        // A range is cut at a page border.
+        (
+            b"a.1 lock x w\na.1 store x 1022 \"abcd\"\na.1 load x 1022 4\na.1 load x 1022 5\n",
+            b"ok\nok\nok \"abcd\"\npast end\n",
+        ),
+        // One that is refused behind a border keeps its first part.
+        (
+            b"a.1 lock x w\na.1 store x 2046 \"abcd\"\na.1 length x\na.1 load x 2046 2\n",
+            b"ok\npast room\nok 2048\nok \"ab\"\n",
+        ),
+        // A range of addresses is cut at a page border.
+        (
+            b"a.1 lock x w\na.1 map x\na.1 storeat 000003fe \"wxyz\"\na.1 loadat 000003fe 4\na.1 unmap x\n",
+            b"ok\nok 00000000\nok\nok \"wxyz\"\nok\n",
+        ),
+        // A command ends at its first refusal: the range ends in y, but begins where nothing is mapped.
+        (
+            b"a.1 lock x w\na.1 map x\na.1 lock y w\na.1 map y\na.1 unmap x\na.1 storeat 00007ffe \"abcd\"\na.1 length y\n",
+            b"ok\nok 00000000\nok\nok 00008000\nok\nnot mapped\nok 0\n",
+        ),
+    ];
+    for (commands, expected) in rows {
+        let got = answers_at_a(rt.alloc(), commands)?;
+        assert_eq!(rt; got.bytes(), expected, "{commands:?}");
+    }
     Ok(())
 }
 
@@ -169,50 +140,46 @@ fn crowded(alloc: Global, commands: &[u8]) -> Result<ByteList, Fail> {
 }
 
 #[test]
-fn a_variable_without_an_object_is_not_bound(rt: HostRuntime) -> Result<(), Fail> {
-    let got = crowded(rt.alloc(), b"a.1 new q 2\na.1 lock q w\na.1 map q\n")?;
-    assert_eq!(rt; got.bytes(), b"no space\nnot bound\nnot bound\n".as_slice());
+fn variables_stand_for_objects(rt: HostRuntime) -> Result<(), Fail> {
+    let rows: [(&[u8], &[u8]); 2] = [
+        // One without an object is not bound.
+        (
+            b"a.1 new q 2\na.1 lock q w\na.1 map q\n",
+            b"no space\nnot bound\nnot bound\n",
+        ),
+        // It keeps its object over a refused new.
+        (
+            b"a.1 new q 1\na.1 lock q w\na.1 new q 1\na.1 delete q\na.1 lock q r\n",
+            b"ok 0000000001200001\nok\nno space\nok\nno object\n",
+        ),
+    ];
+    for (commands, expected) in rows {
+        let got = crowded(rt.alloc(), commands)?;
+        assert_eq!(rt; got.bytes(), expected, "{commands:?}");
+    }
     Ok(())
 }
 
 #[test]
-fn a_variable_keeps_its_object_over_a_refused_new(rt: HostRuntime) -> Result<(), Fail> {
-    let got = crowded(
-        rt.alloc(),
-        b"a.1 new q 1\na.1 lock q w\na.1 new q 1\na.1 delete q\na.1 lock q r\n",
-    )?;
-    assert_eq!(rt;
-        got.bytes(),
-        b"ok 0000000001200001\nok\nno space\nok\nno object\n".as_slice()
-    );
-    Ok(())
-}
-
-#[test]
-fn a_variable_stands_for_its_last_object(rt: HostRuntime) -> Result<(), Fail> {
-    let got = answers(
-        rt.alloc(),
-        b"node a\na.1 new q 1\na.1 lock q w\na.1 new q 1\na.1 unlock q\n",
-        1,
-    )?;
-    assert_eq!(rt;
-        got.bytes(),
-        b"ok 0000000000200001\nok\nok 0000000000300001\nnot held\n".as_slice()
-    );
-    Ok(())
-}
-
-#[test]
-fn an_object_is_made_at_the_named_node(rt: HostRuntime) -> Result<(), Fail> {
-    let got = answers(
-        rt.alloc(),
-        b"node a\nnode b\nb.1 new x 1\na.1 new x 1\nb.1 new y 1 a\n",
-        2,
-    )?;
-    assert_eq!(rt;
-        got.bytes(),
-        b"ok 0000000000200002\nok 0000000000200001\n".as_slice()
-    );
+fn objects_are_made(rt: HostRuntime) -> Result<(), Fail> {
+    let rows: [(&[u8], u8, &[u8]); 2] = [
+        // A variable stands for the last one.
+        (
+            b"node a\na.1 new q 1\na.1 lock q w\na.1 new q 1\na.1 unlock q\n",
+            1,
+            b"ok 0000000000200001\nok\nok 0000000000300001\nnot held\n",
+        ),
+        // One is made at the named node.
+        (
+            b"node a\nnode b\nb.1 new x 1\na.1 new x 1\nb.1 new y 1 a\n",
+            2,
+            b"ok 0000000000200002\nok 0000000000200001\n",
+        ),
+    ];
+    for (script, node, expected) in rows {
+        let got = answers(rt.alloc(), script, node)?;
+        assert_eq!(rt; got.bytes(), expected, "{script:?}");
+    }
     Ok(())
 }
 
@@ -223,77 +190,42 @@ fn a_process_takes_a_phase_for_each_line_before_its_commands(rt: HostRuntime) ->
         b"node a\nobject x 1 a\nphase\nphase\na.1 length x\na.2 length x\nphase\na.1 length x\nphase\na.2 length x\n",
         1,
     )?;
-    can_go(&served.shell);
     assert_eq!(rt; served.phases, 3);
     assert_eq!(rt; served.shell.answers().len(), 2);
     Ok(())
 }
 
 /// How a reply is written, with two nodes `a` and `bee`.
-fn text_of(alloc: Global, reply: Reply) -> Result<ByteList, Fail> {
+fn text_of(alloc: Global, reply: &Reply) -> Result<ByteList, Fail> {
     let script = read_script(alloc, b"node a\nnode bee\n")?;
     let work = Work::new(alloc, &script, process(1)?)?;
-    Ok(answer(alloc, work.names(), &None, &reply)?)
+    Ok(answer(alloc, work.names(), &None, reply)?)
 }
 
 #[test]
-fn a_made_object_is_named(rt: HostRuntime) -> Result<(), Fail> {
+fn replies_are_written(rt: HostRuntime) -> Result<(), Fail> {
     let uid = Uid::from_number(0x0123_4567_89a0_0008)
         .ok()
         .ok_or("no name")?;
-    let text = text_of(rt.alloc(), Reply::Made(uid))?;
-    assert_eq!(rt; text.bytes(), b"ok 0123456789a00008".as_slice());
-    Ok(())
-}
-
-#[test]
-fn loaded_bytes_are_quoted(rt: HostRuntime) -> Result<(), Fail> {
     let bytes = ByteList::from_slice(rt.alloc(), b"a\n\xff\"")?;
-    let text = text_of(rt.alloc(), Reply::Bytes(bytes))?;
-    assert_eq!(rt; text.bytes(), b"ok \"a\\n\\xff\\\"\"".as_slice());
-    Ok(())
-}
-
-#[test]
-fn a_conflict_names_the_holder(rt: HostRuntime) -> Result<(), Fail> {
-    let reader = text_of(rt.alloc(), Reply::Conflict(process(2)?, Mode::Read))?;
-    assert_eq!(rt; reader.bytes(), b"conflict bee.1 r".as_slice());
-    let writer = text_of(rt.alloc(), Reply::Conflict(process(1)?, Mode::Write))?;
-    assert_eq!(rt; writer.bytes(), b"conflict a.1 w".as_slice());
-    Ok(())
-}
-
-#[test]
-fn an_address_has_eight_digits(rt: HostRuntime) -> Result<(), Fail> {
-    let address = 0x007f_8000;
-    let text = text_of(
-        rt.alloc(),
-        Reply::At {
-            address,
-            fresh: true,
-        },
-    )?;
-    assert_eq!(rt; text.bytes(), b"ok 007f8000".as_slice());
-    Ok(())
-}
-
-#[test]
-fn faults_of_links_are_told_apart(rt: HostRuntime) -> Result<(), Fail> {
-    assert_eq!(rt;
-        text_of(rt.alloc(), Reply::Kept)?.bytes(),
-        b"link fault, lock kept".as_slice()
-    );
-    assert_eq!(rt;
-        text_of(rt.alloc(), Reply::LinkFault)?.bytes(),
-        b"link fault".as_slice()
-    );
-    assert_eq!(rt;
-        text_of(rt.alloc(), Reply::Doubt)?.bytes(),
-        b"doubt".as_slice()
-    );
-    assert_eq!(rt;
-        text_of(rt.alloc(), Reply::Unsettled)?.bytes(),
-        b"unsettled".as_slice()
-    );
+    let (address, fresh) = (0x007f_8000, true);
+    let rows: [(Reply, &[u8]); 9] = [
+        (Reply::Made(uid), b"ok 0123456789a00008"),
+        (Reply::Bytes(bytes), b"ok \"a\\n\\xff\\\"\""),
+        (
+            Reply::Conflict(process(2)?, Mode::Read),
+            b"conflict bee.1 r",
+        ),
+        (Reply::Conflict(process(1)?, Mode::Write), b"conflict a.1 w"),
+        (Reply::At { address, fresh }, b"ok 007f8000"),
+        (Reply::Kept, b"link fault, lock kept"),
+        (Reply::LinkFault, b"link fault"),
+        (Reply::Doubt, b"doubt"),
+        (Reply::Unsettled, b"unsettled"),
+    ];
+    for (reply, expected) in rows {
+        let text = text_of(rt.alloc(), &reply)?;
+        assert_eq!(rt; text.bytes(), expected);
+    }
     Ok(())
 }

@@ -1,18 +1,16 @@
 //! What a script gives a process to do.
-ghost use Rattle.std.specs.Prelude.{◌≡◌, ◌^◌, ◌<◌, ◌≤◌, length, map, filter, IfOk, OnOk};
+ghost use Rattle.std.specs.Prelude.{◌≡◌, ◌^◌, ◌<◌, length, map, IfOk};
 ghost use Rattle.std.specs.Option.{option_copied};
 ghost use Rattle.dom_history.specs.NodeTexts.{AreNodeNames};
-ghost use Rattle.uid_names.specs.Names.{same_proc};
-ghost use Rattle.script_reader.specs.Scripts.{IsContent};
+ghost use Rattle.script_reader.specs.Variables.{declared_object};
 ghost use Rattle.script_reader.specs.declared.command.Command.TheVariants.{New, Load, Store};
-ghost use Rattle.aegis_shell.specs.Bound.{declare, unbound};
 ghost use Rattle.aegis_shell.specs.Bindings.{object_at};
-ghost use Rattle.aegis_shell.specs.Work.{variable as variable_of, object_in, object_of as object_of_job, job_of, part_of};
+ghost use Rattle.aegis_shell.specs.Work.{variable as variable_of, object_in, object_of as object_of_job, job_of, jobs_of, part_of};
 ghost use Rattle.aegis_shell.specs.Ranges.{AreJobs};
 
 use crate::bindings::Bindings;
 use dom_history::NodeNames;
-use script_reader::{Command, CommandRow, NodeRow, Script, VarRow};
+use script_reader::{Command, CommandRow, NodeRow, Script};
 use std::alloc::Global;
 use std::marker::Model;
 use uid_names::{ByteList, NoMemory, NodeId, ProcId, Uid};
@@ -154,17 +152,6 @@ fn copy_of(alloc: Global, command: &Command) -> Result<Command, NoMemory>
     })
 }
 
-/// The declared objects by their variables.
-fn declared(alloc: Global, objects: &[VarRow]) -> Result<Bindings, NoMemory>
-    ensures { IfOk result (λ bound. object_at bound ≡ declare objects.now unbound) }
-{
-    let mut bound = Bindings::new(alloc);
-    for row in objects {
-        bound.bind(alloc, row.var.bytes(), row.uid)?;
-    }
-    Ok(bound)
-}
-
 /// The names of the nodes.
 fn names(alloc: Global, nodes: &[NodeRow]) -> Result<NodeNames, NoMemory>
     requires { AreNodeNames (map (λ n. n.name) nodes.now) }
@@ -178,30 +165,28 @@ fn names(alloc: Global, nodes: &[NodeRow]) -> Result<NodeNames, NoMemory>
 }
 
 /// A command of a script as a job of its process.
-fn job_from(alloc: Global, declared: &Bindings, row: &CommandRow) -> Result<Job, NoMemory>
-    ensures { IfOk result (λ job. job ≡ job_of (object_at declared.now) row.now) }
+fn job_from(alloc: Global, script: &Script, row: &CommandRow) -> Result<Job, NoMemory>
+    ensures { IfOk result (λ job. job ≡ job_of (declared_object script.now.objects) row.now) }
 {
+    let declared = match variable(&row.command) {
+        Some(var) => script.declared(var),
+        None => None,
+    };
     Ok(Job {
         phase: row.phase,
         command: copy_of(alloc, &row.command)?,
-        declared: object_named(declared, &row.command),
+        declared,
     })
 }
 
-/// The jobs of one process among all commands, in order.
-fn jobs(
-    alloc: Global,
-    declared: &Bindings,
-    rows: &[CommandRow],
-    proc: ProcId,
-) -> Result<Vec<Job>, NoMemory>
-    ensures { IfOk result (λ jobs. jobs.items ≡ map (job_of (object_at declared.now)) (filter (λ row. same_proc row.proc proc) rows.now)) }
+/// The jobs of one process, in order.
+fn jobs(alloc: Global, script: &Script, proc: ProcId) -> Result<Vec<Job>, NoMemory>
+    ensures { IfOk result (λ jobs. jobs.items ≡ jobs_of script.now proc) }
 {
+    let rows = script.commands();
     let mut jobs = Vec::new(alloc);
-    for row in rows {
-        if row.proc.is(proc) {
-            jobs.push(job_from(alloc, declared, row)?)?;
-        }
+    for place in script.places_of(proc) {
+        jobs.push(job_from(alloc, script, &rows[*place as usize])?)?;
     }
     Ok(jobs)
 }
@@ -227,13 +212,12 @@ impl Model for Work {
 }
 
 impl Work {
-    /// The part of a process of a script. It goes over the script's lists once.
+    /// The part of a process of a script. It goes over the nodes and over the process's own commands.
     pub fn new(alloc: Global, script: &Script, proc: ProcId) -> Result<Work, NoMemory>
         ensures { IfOk result (λ work. work ≡ part_of script.now proc) }
     {
         let names = names(alloc, script.nodes())?;
-        let declared = declared(alloc, script.objects())?;
-        let jobs = jobs(alloc, &declared, script.commands(), proc)?;
+        let jobs = jobs(alloc, script, proc)?;
         Ok(Work {
             node: proc.node(),
             names,

@@ -13,8 +13,8 @@ bytes_eq-true a b e = (bytes_eq-Decides a b).0 e
 pub bytes_eq-refl : (a b : List ℕ) → a ≡ b → bytes_eq a b ≡ true
 bytes_eq-refl a b e = (bytes_eq-Decides a b).1 e
 
--- a test that decides that all bytes pass is the test of all bytes
-pub passes_all : (p : ℕ → Bool) (xs : List ℕ) (r : Bool) → (IsTrue r ↔ All (λ b. IsTrue (p b)) xs) → r ≡ list_all p xs
+-- a test that decides that all pass is the test of all
+pub passes_all : {X : Type 0} (p : X → Bool) (xs : List X) (r : Bool) → (IsTrue r ↔ All (λ b. IsTrue (p b)) xs) → r ≡ list_all p xs
 passes_all p xs true h = sym (list_all-from_AllPass p xs (h.0 refl))
 passes_all p xs false h = by_test (list_all p xs) refl where
   by_test : (t : Bool) → list_all p xs ≡ t → false ≡ t

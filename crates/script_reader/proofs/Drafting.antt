@@ -11,7 +11,7 @@ use Rattle.dom_history.specs.Plans.{IsPlan}
 use Rattle.dom_history.specs.declared.plan.FateRow.{FateRow}
 use Rattle.script_reader.specs.Walk.Drafts.{content_of, HoldsDraft}
 use Rattle.script_reader.specs.Walk.Named.{HoldsNamed}
-use Rattle.script_reader.specs.Walk.Index.{HasAlso}
+use Rattle.script_reader.specs.Walk.Index.{DeclaresAlso}
 use Rattle.script_reader.specs.NodeNames.{is_node_name}
 use Rattle.script_reader.specs.Limits.{pages_at}
 use Rattle.script_reader.specs.After.{declared_at, next_uid, with_node, with_nodes}
@@ -27,7 +27,8 @@ use Rattle.script_reader.specs.declared.script.NodeRow.{NodeRow}
 use Rattle.script_reader.specs.declared.script.VarRow.{VarRow}
 use Rattle.script_reader.specs.declared.script.CommandRow.{CommandRow}
 use Rattle.script_reader.proofs.Kept.{IsDraft-node, IsDraft-phase, IsDraft-object, IsDraft-fate, IsDraft-command}
-use Rattle.script_reader.proofs.Held.{AreStarts-push, AreStarts-wider, HoldsTallies-push, declared-push, few_objects}
+use Rattle.script_reader.proofs.Held.{AreStarts-push, AreStarts-wider, HoldsTallies-push, few_objects}
+use Rattle.script_reader.proofs.Declaring.{HoldsDeclared-push}
 
 -- a node more
 pub content-node : (d : Inside) (nodes : Vec NodeRow) (name : List ℕ) (frames : ℕ) → nodes.items ≡ d.nodes.items ++ record { name = name; frames = frames } ∷ [] → content_of (record d { nodes = nodes }) ≡ with_node (content_of d) name frames
@@ -60,7 +61,7 @@ held-fate d plan row h e is fate = record {
 }
 
 -- the fields with an object more
-abbrev pub with_object_fields : Inside → Vec Object → Vec VarRow → List (List ℕ) → ℕ → ℕ → Inside
+abbrev pub with_object_fields : Inside → Vec Object → Vec VarRow → List VarRow → ℕ → ℕ → Inside
 with_object_fields d starts objects declared at room = record d {
   starts = starts;
   objects = objects;
@@ -82,8 +83,8 @@ held-command d commands sets proc command h e named is node range spoken room = 
 }
 
 -- an object more
-pub held-object : (d : Inside) (starts : Vec Object) (objects : Vec VarRow) (declared : List (List ℕ)) (var : List ℕ) (home room at : ℕ) (uid : ObjectName) → HoldsDraft d → uid ≡ next_uid d.starts.items home → IsName uid
-    → starts.items ≡ d.starts.items ++ record { uid = uid; kind = File; room = room } ∷ [] → objects.items ≡ d.objects.items ++ record { var = var; uid = uid } ∷ [] → HasAlso d.declared declared var
+pub held-object : (d : Inside) (starts : Vec Object) (objects : Vec VarRow) (declared : List VarRow) (var : List ℕ) (home room at : ℕ) (uid : ObjectName) → HoldsDraft d → uid ≡ next_uid d.starts.items home → IsName uid
+    → starts.items ≡ d.starts.items ++ record { uid = uid; kind = File; room = room } ∷ [] → objects.items ≡ d.objects.items ++ record { var = var; uid = uid } ∷ [] → DeclaresAlso d.declared declared var uid
     → is_name var ≡ true → 1 ≤ home → home ≤ length d.nodes.items → at ≡ home - 1 → IsRoom room → is_declared d.objects.items var ≡ false → d.commands.items ≡ [] → pages_at home d.starts.items + room ≤ VOLUME_ROOM
     → HoldsDraft (with_object_fields d starts objects declared at room)
 held-object d starts objects declared var home room at uid h u is es' eo' also named least most place range new none fits =
@@ -92,7 +93,7 @@ held-object d starts objects declared var home room at uid h u is es' eo' also n
     let eo : objects.items ≡ d.objects.items ++ record { var = var; uid = next_uid d.starts.items home } ∷ [] = eo' ∙ ap (λ x. d.objects.items ++ record { var = var; uid = x } ∷ []) u in record {
       draft = rw (es, eo) (IsDraft-object (content_of d) var home room h.draft named (subst IsName u is) most new none);
       starts = rw es (AreStarts-push (length d.nodes.items) d.starts.items home room h.starts most range.0 range.1 fits);
-      declared = rw eo (declared-push d.declared declared d.objects.items (record { var = var; uid = next_uid d.starts.items home }) h.declared also);
+      declared = rw eo (HoldsDeclared-push d.declared declared d.objects.items (record { var = var; uid = next_uid d.starts.items home }) h.declared (subst (DeclaresAlso d.declared declared var) u also) new);
       named = h.named;
       tallies = rw es (HoldsTallies-push d.counts d.pages d.starts.items (declared_at (content_of d) home room) at h.tallies least (omega (arith, most, few)) place);
     }

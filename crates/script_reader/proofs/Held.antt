@@ -1,10 +1,10 @@
 -- What a draft holds beside its content, after one more object or command.
 use Rattle.std.proofs.Common.{◌≡◌, ◌≢◌, ◌≤◌, ◌<◌, ◌+◌, ◌-◌, ◌↔◌, ◌⊎◌, inl, inr, ⊎_elim, ℕ, zero, suc, Bool, true, false, IsTrue, All, Contains, List, [], ◌∷◌, ◌++◌, length, get_or, set, refl, ap, sym, subst, ◌∙◌, append-nil, length-append, arith}
-use Rattle.std.specs.Prelude.{◌&&◌, ◌||◌, ◌==◌, if◌then◌else◌, sum_by}
+use Rattle.std.specs.Prelude.{◌&&◌, ◌||◌, ◌==◌, if◌then◌else◌, replicate, sum_by}
 use Rattle.std.specs.Prelude.{bytes_eq}
 use Rattle.std.proofs.lemmas.Bool.{false≢true, eqb-true, eqb-false, ne_eqb}
 use Rattle.std.proofs.lemmas.Bool.Decides.{nat_tests}
-use Rattle.std.proofs.lemmas.List.{get_or-set_other, length-set}
+use Rattle.std.proofs.lemmas.List.{get_or-replicate, get_or-set_other, length-set}
 use Rattle.std.proofs.lemmas.Grind.{get_or-set_at}
 use Rattle.std.proofs.lemmas.List.Elements.{All-push, All-head, All-tail, All-weaker, filter-append}
 use Rattle.std.proofs.lemmas.List.Folds.{list_any-append}
@@ -17,15 +17,14 @@ use Rattle.uid_names.specs.declared.opening.Object.{Object}
 use Rattle.uid_names.specs.declared.limits.TheConstants.{ENTRY_ROOM, MAX_NODES, MAX_ROOM, VOLUME_ROOM}
 use Rattle.uid_names.specs.declared.mode.ObjKind.TheVariants.{File}
 use Rattle.uid_names.specs.Beginnings.{at_home, AreNumbered}
-use Rattle.script_reader.specs.Walk.Drafts.{HoldsDeclared, HoldsTallies}
+use Rattle.script_reader.specs.Walk.Drafts.{HoldsTallies}
 use Rattle.script_reader.specs.Walk.Starts.{AreStarts}
 use Rattle.dom_history.specs.Ranges.{IsProcName}
 use Rattle.script_reader.specs.Walk.Named.{HoldsNamed}
 use Rattle.script_reader.specs.Walk.Index.{HasAlso}
 use Rattle.script_reader.specs.Limits.{pages_at}
 use Rattle.script_reader.specs.After.{next_uid}
-use Rattle.script_reader.specs.Variables.{is_declared, is_named, makes}
-use Rattle.script_reader.specs.declared.script.VarRow.{VarRow}
+use Rattle.script_reader.specs.Variables.{is_named, makes}
 use Rattle.script_reader.specs.declared.script.CommandRow.{CommandRow}
 use Rattle.script_reader.proofs.Decisions.{bytes_eq-refl, bytes_eq-true}
 
@@ -35,24 +34,18 @@ also_decides P Q R true b h k l = (λ p. refl, λ yes. h.1 (inl (k.1 refl)))
 also_decides P Q R false true h k l = (λ p. refl, λ yes. h.1 (inr (l.1 refl)))
 also_decides P Q R false false h k l = (λ p. ⊎_elim k.0 l.0 (h.0 p), λ no. absurd (false≢true no))
 
--- a declared object more
-pub declared-push : (old new : List (List ℕ)) (objects : List VarRow) (row : VarRow) → HoldsDeclared old objects → HasAlso old new row.var → HoldsDeclared new (objects ++ row ∷ [])
-declared-push old new objects row h also q =
-    rw (list_any-append (λ r. bytes_eq r.var q) objects (row ∷ []))
-    (also_decides (Contains new q) (Contains old q) (row.var ≡ q) (is_declared objects q) (bytes_eq row.var q) (also q) (h q) (bytes_eq-refl row.var q, bytes_eq-true row.var q))
-
 -- a process is its node and its number there
 same_name : (p q : ProcName) → p.node ≡ q.node → p.number ≡ q.number → p ≡ q
 same_name p q node number = ap (λ n. record { node = n; number = p.number }) node ∙ ap (λ m. record { node = q.node; number = m }) number
 
 -- the processes have places of their own
-one_place : (p q : ProcName) → IsProcName p → IsProcName q → place_of_process p ≡ place_of_process q → p ≡ q
+pub one_place : (p q : ProcName) → IsProcName p → IsProcName q → place_of_process p ≡ place_of_process q → p ≡ q
 one_place p q h k e =
     let node : p.node ≡ q.node = omega (arith, h.node.0, k.node.0, h.number.0, k.number.0, h.number.1, k.number.1, e) in
     let number : p.number ≡ q.number = omega (arith, h.node.0, k.node.0, h.number.0, k.number.0, h.number.1, k.number.1, e, node) in
     same_name p q node number
 
-same_proc-refl : (p : ProcName) → same_proc p p ≡ true
+pub same_proc-refl : (p : ProcName) → same_proc p p ≡ true
 same_proc-refl p = grind (arith, nat_tests)
 
 -- a command that names no variable more
@@ -189,6 +182,15 @@ HoldsTallies-push counts pages starts o i h low high at = record {
       let other : o.uid.home ≢ home = eqb-false o.uid.home home e in
       let apart : home - 1 ≢ i = λ same. other (omega arith) in
       get_or-set_other pages i (home - 1) (get_or pages i 0 + o.room) 0 apart ∙ h.pages_are home least most
+
+-- no object is declared
+pub tallies-none : HoldsTallies (replicate 8 0) (replicate 8 ENTRY_ROOM) []
+tallies-none = record {
+  homes_counted = refl;
+  homes_paged = refl;
+  counts_are = λ home least most. get_or-replicate 8 (home - 1) 0 0 (omega arith);
+  pages_are = λ home least most. get_or-replicate 8 (home - 1) ENTRY_ROOM 0 (omega arith);
+}
 
 one_more_small : (x : Object) (xs : List Object) → 1 ≤ x.room → length xs ≤ sum_by (λ o. o.room) xs → length (x ∷ xs) ≤ sum_by (λ o. o.room) (x ∷ xs)
 one_more_small x xs low few =

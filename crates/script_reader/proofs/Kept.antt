@@ -2,7 +2,7 @@
 use Rattle.std.proofs.Common.{◌≡◌, ◌≢◌, ◌≤◌, ◌<◌, ◌+◌, ℕ, zero, suc, Bool, true, false, List, [], ◌∷◌, ◌++◌, length, get_or, Some, None, refl, ap, sym, subst, ◌∙◌, append-nil, append_assoc, length-append, arith, rules}
 use Rattle.std.specs.Prelude.{nat_le, nat_lt, is_some, if◌then◌else◌}
 use Rattle.std.specs.Prelude.{bytes_eq}
-use Rattle.std.specs.List.{list_all, list_any, position_or_len}
+use Rattle.std.specs.List.{AllByRecursion, list_all, list_any, position_or_len}
 use Rattle.std.proofs.lemmas.Bool.{false≢true}
 use Rattle.std.proofs.lemmas.List.{map-append}
 use Rattle.std.proofs.lemmas.List.Elements.{All-push, All-weaker}
@@ -16,13 +16,13 @@ use Rattle.dom_history.specs.declared.plan.FateRow.{FateRow}
 use Rattle.script_reader.specs.Scripts.{Content, IsDraft, IsNode, IsObject}
 use Rattle.script_reader.specs.Fates.{IsFateRow}
 use Rattle.dom_history.specs.Ranges.{IsProcName}
-use Rattle.script_reader.specs.Commands.{IsCommandRow, IsCommand}
+use Rattle.script_reader.specs.Arguments.{Given, Var, NewVar, Room, Offset, Count, Address, Text, Mode, Home}
+use Rattle.script_reader.specs.Commands.{IsArgument, IsCommandRow, IsCommand, arguments_of}
 use Rattle.script_reader.specs.Variables.{IsSpoken, AreSpoken, is_declared}
 use Rattle.script_reader.specs.NodeNames.{is_node_name}
 use Rattle.script_reader.specs.After.{declared_at, next_uid, with_command, with_declared, with_fate, with_node}
 use Rattle.script_reader.specs.Words.{is_name}
 use Rattle.script_reader.specs.declared.command.Command.{Command}
-use Rattle.script_reader.specs.declared.command.Command.TheVariants.{New, Lock, Unlock, Delete, Load, Store, Length, Map, Unmap, Loadat, Storeat}
 use Rattle.script_reader.specs.declared.script.NodeRow.{NodeRow}
 use Rattle.script_reader.specs.declared.script.VarRow.{VarRow}
 use Rattle.script_reader.specs.declared.script.CommandRow.{CommandRow}
@@ -65,19 +65,21 @@ none_of p (x ∷ xs) h (suc k) d below =
     none_of p xs rest k d (omega (arith, below))
 
 -- what holds at a command holds at any more of phases and of nodes
-command_wider : (m n : ℕ) → m ≤ n → (command : Command) → IsCommand m command → IsCommand n command
-command_wider m n le (New var room None) h = h
-command_wider m n le (New var room (Some home)) h = (h.0, h.1, (h.2.0, omega (arith, le, h.2.1)))
-command_wider m n le (Lock var mode) h = h
-command_wider m n le (Unlock var) h = h
-command_wider m n le (Delete var) h = h
-command_wider m n le (Load var offset count) h = h
-command_wider m n le (Store var offset text) h = h
-command_wider m n le (Length var) h = h
-command_wider m n le (Map var) h = h
-command_wider m n le (Unmap var) h = h
-command_wider m n le (Loadat address count) h = h
-command_wider m n le (Storeat address text) h = h
+argument_wider : (m n : ℕ) → m ≤ n → (a : Given) → IsArgument m a → IsArgument n a
+argument_wider m n le (Var name) h = h
+argument_wider m n le (NewVar name) h = h
+argument_wider m n le (Room pages) h = h
+argument_wider m n le (Offset bytes) h = h
+argument_wider m n le (Count bytes) h = h
+argument_wider m n le (Address address) h = h
+argument_wider m n le (Text text) h = h
+argument_wider m n le (Mode mode) h = h
+argument_wider m n le (Home None) h = h
+argument_wider m n le (Home (Some home)) h = (h.0, omega (arith, le, h.1))
+
+arguments_wider : (m n : ℕ) → m ≤ n → (arguments : List Given) → AllByRecursion (IsArgument m) arguments → AllByRecursion (IsArgument n) arguments
+arguments_wider m n le [] h = tt
+arguments_wider m n le (a ∷ rest) h = (argument_wider m n le a h.0, arguments_wider m n le rest h.1)
 
 row_wider : (m n p q : ℕ) → m ≤ n → p ≤ q → (row : CommandRow) → IsCommandRow m p row → IsCommandRow n q row
 row_wider m n p q nodes phases row h = record {
@@ -85,7 +87,7 @@ row_wider m n p q nodes phases row h = record {
   node = omega (arith, h.node);
   phase_low = h.phase_low;
   phase_high = omega (arith, h.phase_high);
-  command = command_wider m n nodes row.command h.command;
+  command = arguments_wider m n nodes (arguments_of row.command) h.command;
 }
 
 -- a node more

@@ -5,5 +5,8 @@ pub mod Held
 pub mod Drafting
 pub mod Unique
 pub mod Reading
+pub mod Arguing
 pub mod Ranges
 pub mod Begun
+pub mod Declaring
+pub mod Placing

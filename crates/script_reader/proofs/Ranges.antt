@@ -1,22 +1,19 @@
 -- What the tests of a line leave.
-use Rattle.std.proofs.Common.{◌≡◌, ◌≢◌, ◌≤◌, ◌+◌, ◌-◌, ◌*◌, lit≤, ℕ, suc, Bool, true, false, List, [], ◌∷◌, length, get_or, Option, Some, None, refl, ap, sym, ◌∙◌, arith, rules}
-use Rattle.std.specs.Prelude.{◌&&◌, cond, nat_le, nat_lt, not, is_some, unwrap_or, if◌then◌else◌}
+use Rattle.std.proofs.Common.{◌≡◌, ◌≢◌, ◌≤◌, ◌+◌, lit≤, ℕ, suc, Bool, true, false, List, [], ◌∷◌, length, get_or, Option, Some, None, refl, ap, sym, subst, ◌∙◌, arith}
+use Rattle.std.specs.Prelude.{◌&&◌, cond, nat_le, nat_lt, not, is_some, unwrap_or, if◌then◌else◌, IfSome}
 use Rattle.std.specs.Prelude.{bytes_eq}
 use Rattle.uid_names.specs.Rooms.{IsRoom}
-use Rattle.uid_names.specs.declared.limits.TheConstants.{MAX_ROOM, PAGE_BYTES, WRITTEN_ROOM}
+use Rattle.uid_names.specs.declared.limits.TheConstants.{MAX_ROOM, WRITTEN_ROOM}
 use Rattle.std.specs.List.{position_or_len}
 use Rattle.std.proofs.lemmas.Bool.{false≢true}
-use Rattle.dom_text.specs.Numbers.{hex8_of, number_spelled}
-use Rattle.script_reader.specs.Numbers.{address_in, has_numbers, in_range, is_address, is_count, is_fate, is_number, is_offset, is_room, is_text, number_in}
-use Rattle.script_reader.specs.NamesAsked.{is_name_or_none, var_of}
+use Rattle.dom_text.specs.Numbers.{number_spelled}
+use Rattle.script_reader.specs.Numbers.{is_fate, is_number, number_in, room_spelled, within}
 use Rattle.script_reader.specs.NodeNames.{is_node_name, node_number, place_of}
-use Rattle.script_reader.specs.SaidCommands.{command_with}
 use Rattle.script_reader.specs.After.{fate_said}
-use Rattle.script_reader.specs.Sayings.{FateWords, Lose, Twice, Late, Spoken, New, Lock, Unlock, Delete, Load, Store, Length, Map, Unmap, Loadat, Storeat}
-use Rattle.script_reader.specs.Commands.{IsCommand, IsCount, IsHome, IsOffset}
+use Rattle.script_reader.specs.Sayings.{FateWords, Lose, Twice, Late}
 use Rattle.script_reader.specs.Fates.{IsGivenFate}
 use Rattle.script_reader.specs.declared.script.NodeRow.{NodeRow}
-use Rattle.script_reader.proofs.Kept.{name_text}
+use Rattle.script_reader.proofs.Arguing.{within_is}
 use Rattle.script_reader.proofs.Decisions.{bytes_eq-refl, bytes_eq-true}
 
 -- a test that refuses where one of two fails
@@ -25,52 +22,39 @@ both_true true true h = (refl, refl)
 both_true true false h = absurd cc
 both_true false b h = absurd cc
 
-pub and_true : (a b : Bool) → (a && b) ≡ true → (a ≡ true) × (b ≡ true)
-and_true true b h = (refl, h)
-and_true false b h = absurd cc
+pub is_true : (b : Bool) → not b ≡ false → b ≡ true
+is_true true h = refl
+is_true false h = absurd cc
 
 -- a number in its range
-in_range-is : (low high : ℕ) (found : Option ℕ) → in_range low high found ≡ true → (low ≤ unwrap_or found 0) × (unwrap_or found 0 ≤ high)
-in_range-is low high None h = absurd cc
-in_range-is low high (Some n) h = let both = and_true (nat_le low n) (nat_le n high) h in (search (rules, both.0), search (rules, both.1))
+found_is : (low high : ℕ) (found : Option ℕ) → IfSome found (λ n. (low ≤ n) × (n ≤ high)) → is_some found ≡ true → (low ≤ unwrap_or found 0) × (unwrap_or found 0 ≤ high)
+found_is low high None h some = absurd cc
+found_is low high (Some n) h some = h
+
+within_same : (low high : ℕ) (found : Option ℕ) → is_some (within low high found) ≡ true → unwrap_or (within low high found) 0 ≡ unwrap_or found 0
+within_same low high None h = refl
+within_same low high (Some n) h = by_test (nat_le low n && nat_le n high) h where
+  by_test : (t : Bool) → is_some (if t then Some n else None) ≡ true → unwrap_or (if t then Some n else None) 0 ≡ n
+  by_test true h = refl
+  by_test false h = absurd cc
 
 pub number_is : (low high : ℕ) (word : List ℕ) → is_number low high word ≡ true → (low ≤ number_in word) × (number_in word ≤ high)
-number_is low high word h = in_range-is low high (number_spelled word) h
+number_is low high word h =
+    let n = found_is low high (within low high (number_spelled word)) (within_is low high (number_spelled word)) h in
+    let same = within_same low high (number_spelled word) h in
+    (subst (λ k. low ≤ k) same n.0, subst (λ k. k ≤ high) same n.1)
 
-address_is : (word : List ℕ) → is_address word ≡ true → address_in word ≤ 0xff_ffff
-address_is word h = (in_range-is 0 0xff_ffff (hex8_of word) h).1
-
--- a room that can be written is one that an object can have, and so is an offset
+-- a room that can be written is one that an object can have
 written : WRITTEN_ROOM ≤ MAX_ROOM
 written = lit≤ tt
 
-pub room_is : (word : List ℕ) → is_room word ≡ true → IsRoom (number_in word)
+pub room_is : (word : List ℕ) → is_some (room_spelled word) ≡ true → IsRoom (number_in word)
 room_is word h = let n = number_is 1 WRITTEN_ROOM word h in (n.0, omega (arith, n.1, written))
-
-offset_is : (word : List ℕ) → is_offset word ≡ true → IsOffset (number_in word)
-offset_is word h = let n = number_is 0 (WRITTEN_ROOM * PAGE_BYTES - 1) word h in omega (arith, n.1, written)
-
-text_is : (text : List ℕ) → is_text text ≡ true → IsCount (length text)
-text_is text h = let both = and_true (nat_le 1 (length text)) (nat_le (length text) PAGE_BYTES) h in (search (rules, both.0), search (rules, both.1))
 
 pub fate_is : (words : FateWords) → is_fate words ≡ true → IsGivenFate (fate_said words)
 fate_is Lose h = tt
 fate_is (Twice count) h = number_is 1 1000 count h
 fate_is (Late count) h = number_is 1 1000 count h
-
--- a command whose numbers and names are good is in its ranges
-pub command_is : (nodes : ℕ) (home : Option ℕ) (words : Spoken) → has_numbers words ≡ true → is_name_or_none (var_of words) ≡ true → IsHome nodes home → IsCommand nodes (command_with home words)
-command_is nodes home (New var room word) h k at = (name_text var k, room_is room h, at)
-command_is nodes home (Lock var mode) h k at = name_text var k
-command_is nodes home (Unlock var) h k at = name_text var k
-command_is nodes home (Delete var) h k at = name_text var k
-command_is nodes home (Load var offset count) h k at = let both = and_true (is_offset offset) (is_count count) h in (name_text var k, offset_is offset both.0, number_is 1 PAGE_BYTES count both.1)
-command_is nodes home (Store var offset text) h k at = let both = and_true (is_offset offset) (is_text text) h in (name_text var k, offset_is offset both.0, text_is text both.1)
-command_is nodes home (Length var) h k at = name_text var k
-command_is nodes home (Map var) h k at = name_text var k
-command_is nodes home (Unmap var) h k at = name_text var k
-command_is nodes home (Loadat address count) h k at = let both = and_true (is_address address) (is_count count) h in (address_is address both.0, number_is 1 PAGE_BYTES count both.1)
-command_is nodes home (Storeat address text) h k at = let both = and_true (is_address address) (is_text text) h in (address_is address both.0, text_is text both.1)
 
 -- the row at a place has the name
 at_place : (p : NodeRow → Bool) (rows : List NodeRow) (d : NodeRow) → nat_lt (position_or_len p rows) (length rows) ≡ true → p (get_or rows (position_or_len p rows) d) ≡ true

@@ -8,11 +8,11 @@ use Rattle.dom_text.specs.declared.token.Token.{Token}
 use Rattle.dom_text.specs.declared.token.Token.TheVariants.{Word as WordToken, Text as TextToken}
 use Rattle.dom_text.specs.Cuts.{Lacks}
 use Rattle.script_reader.specs.Grammar.{AreGood, IsFirstBad, before_lines, raw_lines, without_cr}
-use Rattle.script_reader.specs.Walk.Formed.{IsFormed}
+use Rattle.script_reader.specs.Walk.Formed.{HasForm, IsFormed}
 use Rattle.script_reader.specs.Judging.{has_begun, judged, judged_tokens}
 use Rattle.script_reader.specs.Sayings.{Saying, Node, Object, Fault, Phase, Does}
 use Rattle.script_reader.specs.Scripts.{Content}
-use Rattle.script_reader.specs.Walk.Seen.{BeginsWithNoWord, JoinsTwo, seen, seen_line}
+use Rattle.script_reader.specs.Walk.Seen.{BeginsWithNoWord, seen, seen_line}
 use Rattle.script_reader.specs.Words.{line_word_of, line_word_text, line_words, verb_of, verb_text, verbs}
 use Rattle.script_reader.specs.declared.cause.Cause.{Cause}
 use Rattle.script_reader.specs.declared.cause.Cause.TheVariants.{Word}
@@ -113,9 +113,9 @@ no_commands phases [] h = refl
 no_commands phases (c ∷ commands) h = absurd (false≢true (grind arith))
 
 -- before phases and commands all is in its place
-pub in_place : (s : Content) → has_begun s ≡ false → (said : Saying) → JoinsTwo said → IsFormed s said
-in_place s h (Node name frames) two = tt
-in_place s h (Object var room home) two = no_commands s.phases s.commands h
-in_place s h (Fault from to index fate) two = two
-in_place s h Phase two = tt
-in_place s h (Does process command) two = tt
+pub in_place : (s : Content) → has_begun s ≡ false → (said : Saying) → HasForm said → IsFormed s said
+in_place s h (Node name frames) form = tt
+in_place s h (Object var room home) form = no_commands s.phases s.commands h
+in_place s h (Fault from to index fate) form = form
+in_place s h Phase form = tt
+in_place s h (Does process verb arguments) form = form

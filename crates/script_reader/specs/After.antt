@@ -61,4 +61,4 @@ after s (Node name frames) = with_node s name (frames_of frames)
 after s (Object var room home) = with_declared s var (declared_at s (node_number s.nodes home) (number_in room))
 after s (Fault from to index fate) = with_fate s (node_number s.nodes from) (node_number s.nodes to) (number_in index) (fate_said fate)
 after s Phase = record s { phases = s.phases + 1 }
-after s (Does process command) = with_command s (proc_of s.nodes process) (command_said s.nodes command)
+after s (Does process verb arguments) = with_command s (proc_of s.nodes process) (command_said s.nodes verb arguments)

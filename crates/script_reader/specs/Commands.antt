@@ -1,9 +1,11 @@
--- The ranges of a command.
-use Rattle.std.specs.Prelude.{ℕ, ◌≤◌, ◌<◌, length, Option, IfSome}
+-- The arguments of a command, and their ranges.
+use Rattle.std.specs.Prelude.{ℕ, ◌≤◌, ◌<◌, length, Option, IfSome, List, [], ◌∷◌}
+use Rattle.std.specs.List.{AllByRecursion}
 use Rattle.uid_names.specs.NameTexts.{IsNameText}
 use Rattle.uid_names.specs.Rooms.{IsRoom}
 use Rattle.uid_names.specs.declared.limits.TheConstants.{MAX_LENGTH, PAGE_BYTES}
 use Rattle.dom_history.specs.Ranges.{IsProcName}
+use Rattle.script_reader.specs.Arguments.{Given, Var, NewVar, Room, Offset, Count, Address, Text, Mode, Home}
 use Rattle.script_reader.specs.declared.command.Command.{Command}
 use Rattle.script_reader.specs.declared.command.Command.TheVariants.{New, Lock, Unlock, Delete, Load, Store, Length, Map, Unmap, Loadat, Storeat}
 use Rattle.script_reader.specs.declared.script.CommandRow.{CommandRow}
@@ -22,19 +24,35 @@ IsAddress address = address ≤ 0xff_ffff
 abbrev pub IsHome : ℕ → Option ℕ → Type 0
 IsHome nodes home = IfSome home (λ node. (1 ≤ node) × (node ≤ nodes))
 
+-- the arguments of a command, in the order of its shape
+abbrev pub arguments_of : Command → List Given
+arguments_of (New var room home) = NewVar var ∷ Room room ∷ Home home ∷ []
+arguments_of (Lock var mode) = Var var ∷ Mode mode ∷ []
+arguments_of (Unlock var) = Var var ∷ []
+arguments_of (Delete var) = Var var ∷ []
+arguments_of (Load var offset count) = Var var ∷ Offset offset ∷ Count count ∷ []
+arguments_of (Store var offset text) = Var var ∷ Offset offset ∷ Text text ∷ []
+arguments_of (Length var) = Var var ∷ []
+arguments_of (Map var) = Var var ∷ []
+arguments_of (Unmap var) = Var var ∷ []
+arguments_of (Loadat address count) = Address address ∷ Count count ∷ []
+arguments_of (Storeat address text) = Address address ∷ Text text ∷ []
+
+-- an argument is in its range
+abbrev pub IsArgument : ℕ → Given → Type 0
+IsArgument nodes (Var name) = IsNameText name
+IsArgument nodes (NewVar name) = IsNameText name
+IsArgument nodes (Room pages) = IsRoom pages
+IsArgument nodes (Offset bytes) = IsOffset bytes
+IsArgument nodes (Count bytes) = IsCount bytes
+IsArgument nodes (Address address) = IsAddress address
+IsArgument nodes (Text text) = IsCount (length text)
+IsArgument nodes (Mode mode) = Unit {0}
+IsArgument nodes (Home home) = IsHome nodes home
+
 -- the arguments of a command are in their ranges
 abbrev pub IsCommand : ℕ → Command → Type 0
-IsCommand nodes (New var room home) = IsNameText var × IsRoom room × IsHome nodes home
-IsCommand nodes (Lock var mode) = IsNameText var
-IsCommand nodes (Unlock var) = IsNameText var
-IsCommand nodes (Delete var) = IsNameText var
-IsCommand nodes (Load var offset count) = IsNameText var × IsOffset offset × IsCount count
-IsCommand nodes (Store var offset text) = IsNameText var × IsOffset offset × IsCount (length text)
-IsCommand nodes (Length var) = IsNameText var
-IsCommand nodes (Map var) = IsNameText var
-IsCommand nodes (Unmap var) = IsNameText var
-IsCommand nodes (Loadat address count) = IsAddress address × IsCount count
-IsCommand nodes (Storeat address text) = IsAddress address × IsCount (length text)
+IsCommand nodes command = AllByRecursion (IsArgument nodes) (arguments_of command)
 
 -- a command is in its ranges, and belongs to a process of a node and to a phase
 pub record IsCommandRow (nodes phases : ℕ) (row : CommandRow) : Type 0 where

@@ -1,13 +1,17 @@
 -- The forms of lines: how many tokens they have, and which are words, texts or fixed words.
 use Rattle.std.specs.Prelude.{ℕ, if◌then◌else◌, Option, Some, None, List, [], ◌∷◌, codes}
 use Rattle.std.specs.Prelude.{bytes_eq}
-use Rattle.uid_names.specs.declared.mode.Mode.{Mode}
+use Rattle.uid_names.specs.declared.mode.Mode.{Mode as LockMode}
 use Rattle.dom_text.specs.declared.token.Token.{Token}
-use Rattle.dom_text.specs.declared.token.Token.TheVariants.{Word, Text}
+use Rattle.dom_text.specs.declared.token.Token.TheVariants.{Word, Text as TextToken}
 use Rattle.script_reader.specs.Words.{ProcessWord, mode_of_word}
-use Rattle.script_reader.specs.Sayings.{Saying, Node, Object, Fault, Phase, Does, FateWords, Lose, Twice, Late, Spoken, New, Lock, Unlock, Delete, Load, Store, Length, Map, Unmap, Loadat, Storeat}
+use Rattle.script_reader.specs.Arguments.{Said, Var, NewVar, Room, Offset, Count, Address, Text, Mode, Home}
+use Rattle.script_reader.specs.Numbers.{room_spelled, offset_spelled, count_spelled, address_spelled}
+use Rattle.script_reader.specs.Sayings.{Saying, Node, Object, Fault, Phase, Does, FateWords, Lose, Twice, Late}
+use Rattle.script_reader.specs.Shapes.{shape_of}
 use Rattle.script_reader.specs.declared.words.Verb.{Verb}
-use Rattle.script_reader.specs.declared.words.Verb.TheVariants.{New as NewVerb, Lock as LockVerb, Unlock as UnlockVerb, Delete as DeleteVerb, Load as LoadVerb, Store as StoreVerb, Length as LengthVerb, Map as MapVerb, Unmap as UnmapVerb, Loadat as LoadatVerb, Storeat as StoreatVerb}
+use Rattle.script_reader.specs.declared.words.Kind.{Kind}
+use Rattle.script_reader.specs.declared.words.Kind.TheVariants as kind
 
 -- behind `node`
 abbrev pub node_form : List Token → Option Saying
@@ -46,26 +50,50 @@ abbrev pub phase_form : List Token → Option Saying
 phase_form [] = Some Phase
 phase_form _ = None
 
-abbrev pub lock_form : List ℕ → Option Mode → Option Spoken
-lock_form var None = None
-lock_form var (Some mode) = Some (Lock var mode)
+-- a mode, where the word is one
+abbrev pub mode_argument : Option LockMode → Option Said
+mode_argument None = None
+mode_argument (Some mode) = Some (Mode mode)
+
+-- a word as an argument of a kind
+abbrev pub word_argument : Kind → List ℕ → Option Said
+word_argument kind.Var word = Some (Var word)
+word_argument kind.NewVar word = Some (NewVar word)
+word_argument kind.Room word = Some (Room (room_spelled word))
+word_argument kind.Offset word = Some (Offset (offset_spelled word))
+word_argument kind.Count word = Some (Count (count_spelled word))
+word_argument kind.Address word = Some (Address (address_spelled word))
+word_argument kind.Text word = None
+word_argument kind.Mode word = mode_argument (mode_of_word word)
+word_argument kind.Home word = Some (Home (Some word))
+
+-- a quoted text as one
+abbrev pub text_argument : Kind → List ℕ → Option Said
+text_argument kind.Text text = Some (Text text)
+text_argument _ text = None
+
+-- what an argument that is left out says; only a home may be
+abbrev pub absent : Kind → Option Said
+absent kind.Home = Some (Home None)
+absent _ = None
+
+abbrev pub in_front : Option Said → Option (List Said) → Option (List Said)
+in_front None rest = None
+in_front (Some first) None = None
+in_front (Some first) (Some rest) = Some (first ∷ rest)
+
+-- tokens as arguments of these kinds, with none left over
+abbrev pub arguments_form : List Kind → List Token → Option (List Said)
+arguments_form [] [] = Some []
+arguments_form [] (token ∷ rest) = None
+arguments_form (kind ∷ kinds) [] = in_front (absent kind) (arguments_form kinds [])
+arguments_form (kind ∷ kinds) (Word word ∷ rest) = in_front (word_argument kind word) (arguments_form kinds rest)
+arguments_form (kind ∷ kinds) (TextToken text ∷ rest) = in_front (text_argument kind text) (arguments_form kinds rest)
 
 -- behind a command's word
-abbrev pub command_form : Verb → List Token → Option Spoken
-command_form NewVerb (Word var ∷ Word room ∷ []) = Some (New var room None)
-command_form NewVerb (Word var ∷ Word room ∷ Word home ∷ []) = Some (New var room (Some home))
-command_form LockVerb (Word var ∷ Word mode ∷ []) = lock_form var (mode_of_word mode)
-command_form UnlockVerb (Word var ∷ []) = Some (Unlock var)
-command_form DeleteVerb (Word var ∷ []) = Some (Delete var)
-command_form LoadVerb (Word var ∷ Word offset ∷ Word count ∷ []) = Some (Load var offset count)
-command_form StoreVerb (Word var ∷ Word offset ∷ Text text ∷ []) = Some (Store var offset text)
-command_form LengthVerb (Word var ∷ []) = Some (Length var)
-command_form MapVerb (Word var ∷ []) = Some (Map var)
-command_form UnmapVerb (Word var ∷ []) = Some (Unmap var)
-command_form LoadatVerb (Word address ∷ Word count ∷ []) = Some (Loadat address count)
-command_form StoreatVerb (Word address ∷ Text text ∷ []) = Some (Storeat address text)
-command_form _ _ = None
+abbrev pub does_form : ProcessWord → Verb → Option (List Said) → Option Saying
+does_form process verb None = None
+does_form process verb (Some arguments) = Some (Does process verb arguments)
 
-abbrev pub does_form : ProcessWord → Option Spoken → Option Saying
-does_form process None = None
-does_form process (Some command) = Some (Does process command)
+abbrev pub command_form : ProcessWord → Verb → List Token → Option Saying
+command_form process verb tokens = does_form process verb (arguments_form (shape_of verb) tokens)

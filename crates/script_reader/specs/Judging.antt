@@ -9,7 +9,7 @@ use Rattle.dom_text.specs.declared.line.TextFault.TheVariants.{Quote as QuoteFau
 use Rattle.script_reader.specs.Scripts.{Content}
 use Rattle.script_reader.specs.Words.{ProcessWord, line_word_of, process_word, verb_of}
 use Rattle.script_reader.specs.Sayings.{Saying}
-use Rattle.script_reader.specs.Forms.{node_form, object_form, fault_form, phase_form, command_form, does_form}
+use Rattle.script_reader.specs.Forms.{node_form, object_form, fault_form, phase_form, command_form}
 use Rattle.script_reader.specs.declared.cause.Cause.{Cause}
 use Rattle.script_reader.specs.declared.cause.Cause.TheVariants.{TooLong, Byte, Quote, Word, Place, Form, Number, Name, Unknown, Repeat, Limit}
 use Rattle.script_reader.specs.declared.words.LineWord.{LineWord}
@@ -47,7 +47,7 @@ judged_place s said = if has_begun s then Err Place else judged_form s said
 -- `word`: the first token, and the second of a command
 abbrev pub judged_verb : Content → ProcessWord → Option Verb → List Token → Result Content Cause
 judged_verb s process None tokens = Err Word
-judged_verb s process (Some verb) tokens = judged_form s (does_form process (command_form verb tokens))
+judged_verb s process (Some verb) tokens = judged_form s (command_form process verb tokens)
 
 abbrev pub judged_process : Content → Option ProcessWord → List Token → Result Content Cause
 judged_process s (Some process) (WordToken verb ∷ tokens) = judged_verb s process (verb_of verb) tokens

@@ -1,7 +1,10 @@
 pub mod Scripts
+pub mod Shapes
+pub mod Arguments
 pub mod Commands
 pub mod Fates
 pub mod Variables
+pub mod Places
 pub mod Causes
 pub mod Words
 pub mod Sayings

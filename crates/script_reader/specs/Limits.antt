@@ -18,4 +18,4 @@ is_past_limit s (Node name frames) = nat_le MAX_NODES (length s.nodes)
 is_past_limit s (Object var room home) = nat_lt VOLUME_ROOM (pages_at (node_number s.nodes home) s.opening.objects + number_in room)
 is_past_limit s (Fault from to index fate) = false
 is_past_limit s Phase = nat_le 1000 s.phases
-is_past_limit s (Does process command) = nat_le 20000 (length s.commands)
+is_past_limit s (Does process verb arguments) = nat_le 20000 (length s.commands)

@@ -1,32 +1,54 @@
--- Which command its words say.
-use Rattle.std.specs.Prelude.{ℕ, Option, Some, None, List}
-use Rattle.script_reader.specs.Sayings.{Spoken, New, Lock, Unlock, Delete, Load, Store, Length, Map, Unmap, Loadat, Storeat}
+-- Which command its arguments say.
+use Rattle.std.specs.Prelude.{ℕ, Option, None, unwrap_or, List, [], slice_index_or}
+use Rattle.uid_names.specs.declared.mode.Mode.{Mode as LockMode}
+use Rattle.uid_names.specs.declared.mode.Mode.TheVariants.{Read}
+use Rattle.script_reader.specs.Arguments.{Said, Var, NewVar, Room, Offset, Count, Address, Text, Mode, Home, home_number}
 use Rattle.script_reader.specs.declared.command.Command.{Command}
-use Rattle.script_reader.specs.declared.command.Command.TheVariants.{New as NewCommand, Lock as LockCommand, Unlock as UnlockCommand, Delete as DeleteCommand, Load as LoadCommand, Store as StoreCommand, Length as LengthCommand, Map as MapCommand, Unmap as UnmapCommand, Loadat as LoadatCommand, Storeat as StoreatCommand}
+use Rattle.script_reader.specs.declared.command.Command.TheVariants.{New, Lock, Unlock, Delete, Load, Store, Length, Map, Unmap, Loadat, Storeat}
 use Rattle.script_reader.specs.declared.script.NodeRow.{NodeRow}
-use Rattle.script_reader.specs.Numbers.{number_in, address_in}
-use Rattle.script_reader.specs.NamesAsked.{home_of}
-use Rattle.script_reader.specs.NodeNames.{node_number}
+use Rattle.script_reader.specs.declared.words.Verb.{Verb}
+use Rattle.script_reader.specs.declared.words.Verb.TheVariants as verb
 
--- the number of the home that a command names
-abbrev pub home_number : List NodeRow → Option (List ℕ) → Option ℕ
-home_number nodes None = None
-home_number nodes (Some name) = Some (node_number nodes name)
+-- what an argument has; the shape of a command tells which of these is asked of which argument
+abbrev pub bytes_of : Said → List ℕ
+bytes_of (Var name) = name
+bytes_of (NewVar name) = name
+bytes_of (Text text) = text
+bytes_of _ = []
 
--- the command of these words, with the number of the home that they name
-abbrev pub command_with : Option ℕ → Spoken → Command
-command_with number (New var room home) = NewCommand var (number_in room) number
-command_with number (Lock var mode) = LockCommand var mode
-command_with number (Unlock var) = UnlockCommand var
-command_with number (Delete var) = DeleteCommand var
-command_with number (Load var offset count) = LoadCommand var (number_in offset) (number_in count)
-command_with number (Store var offset text) = StoreCommand var (number_in offset) text
-command_with number (Length var) = LengthCommand var
-command_with number (Map var) = MapCommand var
-command_with number (Unmap var) = UnmapCommand var
-command_with number (Loadat address count) = LoadatCommand (address_in address) (number_in count)
-command_with number (Storeat address text) = StoreatCommand (address_in address) text
+abbrev pub number_of : Said → ℕ
+number_of (Room found) = unwrap_or found 0
+number_of (Offset found) = unwrap_or found 0
+number_of (Count found) = unwrap_or found 0
+number_of (Address found) = unwrap_or found 0
+number_of _ = 0
 
--- the command of these words among these nodes
-abbrev pub command_said : List NodeRow → Spoken → Command
-command_said nodes command = command_with (home_number nodes (home_of command)) command
+abbrev pub mode_of : Said → LockMode
+mode_of (Mode mode) = mode
+mode_of _ = Read
+
+abbrev pub home_of : List NodeRow → Said → Option ℕ
+home_of nodes (Home name) = home_number nodes name
+home_of nodes _ = None
+
+-- the command of a verb and of its first, second and third argument
+abbrev pub command_with : List NodeRow → Verb → Said → Said → Said → Command
+command_with nodes verb.New var room home = New (bytes_of var) (number_of room) (home_of nodes home)
+command_with nodes verb.Lock var mode _ = Lock (bytes_of var) (mode_of mode)
+command_with nodes verb.Unlock var _ _ = Unlock (bytes_of var)
+command_with nodes verb.Delete var _ _ = Delete (bytes_of var)
+command_with nodes verb.Load var offset count = Load (bytes_of var) (number_of offset) (number_of count)
+command_with nodes verb.Store var offset text = Store (bytes_of var) (number_of offset) (bytes_of text)
+command_with nodes verb.Length var _ _ = Length (bytes_of var)
+command_with nodes verb.Map var _ _ = Map (bytes_of var)
+command_with nodes verb.Unmap var _ _ = Unmap (bytes_of var)
+command_with nodes verb.Loadat address count _ = Loadat (number_of address) (number_of count)
+command_with nodes verb.Storeat address text _ = Storeat (number_of address) (bytes_of text)
+
+-- the argument at a place; behind the last one nothing is said
+abbrev pub argument_at : List Said → ℕ → Said
+argument_at arguments n = slice_index_or arguments n (Home None)
+
+-- the command of these arguments among these nodes
+abbrev pub command_said : List NodeRow → Verb → List Said → Command
+command_said nodes verb arguments = command_with nodes verb (argument_at arguments 0) (argument_at arguments 1) (argument_at arguments 2)

@@ -1,16 +1,23 @@
 -- Which variables a process knows, and of which a command may speak.
-use Rattle.std.specs.Prelude.{ℕ, ◌≡◌, Bool, false, ◌&&◌, ◌||◌, List, [], ◌∷◌, ◌++◌, IsTrue}
+use Rattle.std.specs.Prelude.{ℕ, ◌≡◌, Bool, false, ◌&&◌, ◌||◌, if◌then◌else◌, Option, Some, None, List, [], ◌∷◌, ◌++◌, IsTrue}
 use Rattle.std.specs.Prelude.{bytes_eq}
-use Rattle.std.specs.List.{list_any}
-use Rattle.uid_names.specs.Names.{ProcName, same_proc}
+use Rattle.std.specs.List.{AllByRecursion, list_any}
+use Rattle.uid_names.specs.Names.{ProcName, ObjectName, same_proc}
+use Rattle.script_reader.specs.Arguments.{Given, Var, NewVar}
+use Rattle.script_reader.specs.Commands.{arguments_of}
 use Rattle.script_reader.specs.declared.command.Command.{Command}
-use Rattle.script_reader.specs.declared.command.Command.TheVariants.{New, Lock, Unlock, Delete, Load, Store, Length, Map, Unmap, Loadat, Storeat}
+use Rattle.script_reader.specs.declared.command.Command.TheVariants.{New}
 use Rattle.script_reader.specs.declared.script.VarRow.{VarRow}
 use Rattle.script_reader.specs.declared.script.CommandRow.{CommandRow}
 
 -- a declared object has this variable
 abbrev pub is_declared : List VarRow → List ℕ → Bool
 is_declared objects var = list_any (λ row. bytes_eq row.var var) objects
+
+-- the object of the first row that declares this variable
+abbrev pub declared_object : List VarRow → List ℕ → Option ObjectName
+declared_object [] var = None
+declared_object (row ∷ rows) var = if bytes_eq row.var var then Some row.uid else declared_object rows var
 
 -- the command makes an object for this variable
 abbrev pub makes : List ℕ → Command → Bool
@@ -25,20 +32,15 @@ is_named commands proc var = list_any (λ row. same_proc row.proc proc && makes 
 abbrev pub knows : List VarRow → List CommandRow → ProcName → List ℕ → Bool
 knows objects before proc var = is_declared objects var || is_named before proc var
 
--- behind these commands a process may speak of the variables of this one: a `new` names no declared object,
--- and every other command speaks of what its process knows
+-- behind these commands a process may speak of this argument's variable: a new one is none of a declared object, and
+-- any other is one that its process knows
+abbrev pub MaySpeakOf : List VarRow → List CommandRow → ProcName → Given → Type 0
+MaySpeakOf objects before proc (Var name) = IsTrue (knows objects before proc name)
+MaySpeakOf objects before proc (NewVar name) = is_declared objects name ≡ false
+MaySpeakOf objects before proc _ = Unit {0}
+
 abbrev pub IsSpoken : List VarRow → List CommandRow → ProcName → Command → Type 0
-IsSpoken objects before proc (New var room home) = is_declared objects var ≡ false
-IsSpoken objects before proc (Lock var mode) = IsTrue (knows objects before proc var)
-IsSpoken objects before proc (Unlock var) = IsTrue (knows objects before proc var)
-IsSpoken objects before proc (Delete var) = IsTrue (knows objects before proc var)
-IsSpoken objects before proc (Load var offset count) = IsTrue (knows objects before proc var)
-IsSpoken objects before proc (Store var offset text) = IsTrue (knows objects before proc var)
-IsSpoken objects before proc (Length var) = IsTrue (knows objects before proc var)
-IsSpoken objects before proc (Map var) = IsTrue (knows objects before proc var)
-IsSpoken objects before proc (Unmap var) = IsTrue (knows objects before proc var)
-IsSpoken objects before proc (Loadat address count) = Unit {0}
-IsSpoken objects before proc (Storeat address text) = Unit {0}
+IsSpoken objects before proc command = AllByRecursion (MaySpeakOf objects before proc) (arguments_of command)
 
 -- each command speaks of what its process knows behind the commands before it
 abbrev pub AreSpoken : List VarRow → List CommandRow → List CommandRow → Type 0

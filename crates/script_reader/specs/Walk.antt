@@ -3,7 +3,9 @@ pub mod Seen
 pub mod Formed
 pub mod Index
 pub mod Named
+pub mod Placed
 pub mod Notes
 pub mod Starts
 pub mod Drafts
+pub mod Inside
 pub mod Results

@@ -1,5 +1,6 @@
 //! What the lines of a script have declared and asked for so far.
 ghost use Rattle.std.specs.Prelude.{◌≡◌, ◌≢◌, ◌≤◌, ◌<◌, ◌+◌, ◌-◌, ◌&&◌, ◌==◌, not, ℕ, List, [], ◌∷◌, ◌++◌, true, false, is_some, length, slice_index, IfOk, OnOk, OnErr, IfSome, MatchOption, None, Some};
+ghost use Rattle.std.specs.List.{list_all};
 ghost use Rattle.uid_names.specs.Rooms.{IsRoom};
 ghost use Rattle.uid_names.specs.declared.mode.ObjKind.TheVariants.{File};
 ghost use Rattle.dom_history.specs.Plans.{is_set};
@@ -9,32 +10,31 @@ ghost use Rattle.script_reader.specs.Grammar.{nothing};
 ghost use Rattle.dom_text.specs.Answers.{Gives};
 ghost use Rattle.script_reader.specs.Walk.Results.{line_answer};
 ghost use Rattle.script_reader.specs.Scripts.{Content, IsContent};
-ghost use Rattle.script_reader.specs.Commands.{IsCommand, IsHome};
+ghost use Rattle.script_reader.specs.Commands.{IsCommand};
 ghost use Rattle.script_reader.specs.Fates.{IsGivenFate};
 ghost use Rattle.script_reader.specs.Variables.{IsSpoken, is_declared, knows};
-ghost use Rattle.script_reader.specs.Numbers.{has_numbers, is_fate, is_no_number, is_number, are_frames, number_in, is_room, is_offset, is_count, is_address, address_in};
-ghost use Rattle.script_reader.specs.declared.command.Command.TheVariants.{Load as LoadCommand, Store as StoreCommand, Loadat as LoadatCommand, Storeat as StoreatCommand};
-ghost use Rattle.script_reader.specs.NamesAsked.{home_of, is_no_name};
+ghost use Rattle.script_reader.specs.Numbers.{is_fate, is_no_number, is_number, are_frames, number_in, room_spelled};
+ghost use Rattle.script_reader.specs.NamesAsked.{is_no_name};
 ghost use Rattle.script_reader.specs.NodeNames.{is_node_name, node_number, place_of};
-ghost use Rattle.script_reader.specs.UnknownNames.{is_node_or_none, is_unknown, is_var_known};
-ghost use Rattle.script_reader.specs.Repeats.{is_repeated};
+ghost use Rattle.script_reader.specs.UnknownNames.{is_known, is_unknown};
+ghost use Rattle.script_reader.specs.Repeats.{is_fresh, is_repeated};
 ghost use Rattle.script_reader.specs.Limits.{is_past_limit, pages_at};
-ghost use Rattle.script_reader.specs.SaidCommands.{home_number, command_with};
+ghost use Rattle.script_reader.specs.SaidCommands.{bytes_of, command_said, command_with, home_of, number_of};
+ghost use Rattle.script_reader.specs.declared.command.Command.TheVariants.{New as NewCommand, Loadat as LoadatCommand, Storeat as StoreatCommand};
 ghost use Rattle.script_reader.specs.After.{after, declared_at, fate_said, frames_of, with_command, with_declared, with_fate, with_node};
 ghost use Rattle.script_reader.specs.Walk.Formed.{IsFormed};
 ghost use Rattle.script_reader.specs.Judging.{has_begun, judged_saying};
-ghost use Rattle.script_reader.specs.Walk.Seen.{seen, seen_command, seen_fate, seen_option};
+ghost use Rattle.script_reader.specs.Walk.Seen.{seen, seen_argument, seen_arguments, seen_fate, seen_option};
 ghost use Rattle.script_reader.specs.Words.{is_name};
 
+use crate::arguments::{Argument, argument_at};
 use crate::cause::{Cause, LineFault};
 use crate::command::Command;
-use crate::index::{NamedVars, VarSet};
-use crate::line::{
-    CommandWords, FateWords, Line, MAX_COUNT, MAX_FRAMES, MAX_INDEX, MAX_LATE, MAX_OFFSET,
-    MAX_PROCESS, MIN_FRAMES,
-};
-use crate::numbers::{address, number};
+use crate::index::{DeclaredVars, NamedVars, Places};
+use crate::line::{FateWords, Line, MAX_FRAMES, MAX_INDEX, MAX_LATE, MAX_PROCESS, MIN_FRAMES};
+use crate::numbers::number;
 use crate::script::{CommandRow, NodeRow, Script, VarRow};
+use crate::words::Verb;
 use dom_history::{Fate, FaultPlan};
 use std::alloc::Global;
 use std::marker::Model;
@@ -69,7 +69,7 @@ pub(crate) struct Draft {
     plan: FaultPlan,
     phases: u32,
     commands: Vec<CommandRow>,
-    declared: VarSet,
+    declared: DeclaredVars,
     named: NamedVars,
     counts: [u32; HOMES],
     pages: [u32; HOMES],
@@ -100,7 +100,7 @@ impl Draft {
             plan: FaultPlan::new(alloc),
             phases: 1,
             commands: Vec::new(alloc),
-            declared: VarSet::new(alloc),
+            declared: DeclaredVars::new(alloc),
             named,
             counts: [0; HOMES],
             pages: [ENTRY_ROOM; HOMES],
@@ -152,33 +152,32 @@ impl Draft {
             Line::Does {
                 node,
                 digits,
-                command,
+                arguments,
+                ..
             } => match self.node_named(node) {
-                Some(node) => self.is_command_unknown(proc_of(node, digits), command),
+                Some(node) => !self.are_known(proc_of(node, digits), arguments),
                 None => true,
             },
         }
     }
 
-    /// Whether a process's command speaks of a home that was not declared, or of a variable that the process doesn't know.
-    fn is_command_unknown(&self, proc: ProcId, command: CommandWords<'_>) -> bool
-        ensures { result ≡ not (is_node_or_none self.now.nodes (home_of (seen_command command.entry)) && is_var_known self.now proc (seen_command command.entry)) }
+    /// Whether a process knows what all arguments speak of.
+    fn are_known(&self, proc: ProcId, arguments: &[Argument<'_>]) -> bool
+        ensures { result ≡ list_all (is_known self.now proc) (seen_arguments arguments.now) }
     {
-        match command {
-            CommandWords::New { home: None, .. } => false,
-            CommandWords::New {
-                home: Some(home),
-                ..
-            } => self.node_named(home).is_none(),
-            CommandWords::Lock { var, .. }
-            | CommandWords::Unlock { var }
-            | CommandWords::Delete { var }
-            | CommandWords::Load { var, .. }
-            | CommandWords::Store { var, .. }
-            | CommandWords::Length { var }
-            | CommandWords::Map { var }
-            | CommandWords::Unmap { var } => !self.knows(proc, var),
-            CommandWords::Loadat { .. } | CommandWords::Storeat { .. } => false,
+        arguments
+            .iter()
+            .all(|argument| self.is_known(proc, *argument))
+    }
+
+    /// Whether a process knows an argument's variable, and its home was declared, where it has such.
+    fn is_known(&self, proc: ProcId, argument: Argument<'_>) -> bool
+        ensures { result ≡ is_known self.now proc (seen_argument argument.entry) }
+    {
+        match argument {
+            Argument::Var(name) => self.knows(proc, name),
+            Argument::Home(Some(name)) => self.node_named(name).is_some(),
+            _ => true,
         }
     }
 
@@ -193,7 +192,7 @@ impl Draft {
     fn is_declared(&self, var: &[u8]) -> bool
         ensures { result ≡ is_declared self.now.objects var.now }
     {
-        self.declared.has(var)
+        self.declared.object(var).is_some()
     }
 
     /// Whether the line declares what was declared, or makes an object for the variable of a declared one.
@@ -216,10 +215,24 @@ impl Draft {
                     .is_set(self.known_node(from), self.known_node(to), index)
             }
             Line::Phase => false,
-            Line::Does { command, .. } => match command {
-                CommandWords::New { var, .. } => self.is_declared(var),
-                _ => false,
-            },
+            Line::Does { arguments, .. } => !self.are_fresh(arguments),
+        }
+    }
+
+    /// Whether no argument is a new variable that a declared object has.
+    fn are_fresh(&self, arguments: &[Argument<'_>]) -> bool
+        ensures { result ≡ list_all (is_fresh self.now) (seen_arguments arguments.now) }
+    {
+        arguments.iter().all(|argument| self.is_fresh(*argument))
+    }
+
+    /// Whether the argument is not a new variable that a declared object has.
+    fn is_fresh(&self, argument: Argument<'_>) -> bool
+        ensures { result ≡ is_fresh self.now (seen_argument argument.entry) }
+    {
+        match argument {
+            Argument::NewVar(name) => !self.is_declared(name),
+            _ => true,
         }
     }
 
@@ -273,11 +286,11 @@ impl Draft {
             Line::Does {
                 node,
                 digits,
-                command,
+                verb,
+                arguments,
             } => {
                 let proc = proc_of(self.known_node(node), digits);
-                let home = self.home_of(command);
-                let command = command_of(alloc, command, home)?;
+                let command = self.command_of(alloc, verb, arguments)?;
                 self.add_command(alloc, proc, command)
             }
         }
@@ -343,7 +356,7 @@ impl Draft {
         let name = ByteList::from_slice(alloc, var)?;
         self.objects.reserve(1)?;
         self.starts.reserve(1)?;
-        self.declared.add(alloc, var)?;
+        self.declared.add(alloc, var, uid)?;
         let object = Object {
             uid,
             kind: ObjKind::File,
@@ -382,17 +395,80 @@ impl Draft {
         Ok(())
     }
 
-    /// The node that a command names as a home.
-    fn home_of(&self, command: CommandWords<'_>) -> Option<NodeId>
-        requires { is_node_or_none self.now.nodes (home_of (seen_command command)) ≡ true }
-        ensures value { result ≡ home_number self.now.nodes (home_of (seen_command command.entry)) }
-        ensures within { IsHome (length self.now.nodes) result }
+    /// The command of these arguments.
+    fn command_of(
+        &self,
+        alloc: Global,
+        verb: Verb,
+        arguments: &[Argument<'_>],
+    ) -> Result<Command, NoMemory>
+        ensures { IfOk result (λ command. command ≡ command_said self.now.nodes verb (seen_arguments arguments.now)) }
     {
-        match command {
-            CommandWords::New {
-                home: Some(home),
-                ..
-            } => Some(self.known_node(home)),
+        self.command_with(
+            alloc,
+            verb,
+            argument_at(arguments, 0),
+            argument_at(arguments, 1),
+            argument_at(arguments, 2),
+        )
+    }
+
+    /// The command of a verb and of its first, second and third argument.
+    fn command_with(
+        &self,
+        alloc: Global,
+        verb: Verb,
+        first: Argument<'_>,
+        second: Argument<'_>,
+        third: Argument<'_>,
+    ) -> Result<Command, NoMemory>
+        ensures { IfOk result (λ command. command ≡ command_with self.now.nodes verb (seen_argument first.entry) (seen_argument second.entry) (seen_argument third.entry)) }
+    {
+        // An address has no bytes, and the copy of none takes no memory.
+        let var = first.copy(alloc)?;
+        Ok(match verb {
+            Verb::New => self.new_of(var, second, third),
+            Verb::Lock => Command::Lock {
+                var,
+                mode: second.mode(),
+            },
+            Verb::Unlock => Command::Unlock { var },
+            Verb::Delete => Command::Delete { var },
+            Verb::Load => Command::Load {
+                var,
+                offset: second.number(),
+                count: third.number(),
+            },
+            Verb::Store => Command::Store {
+                var,
+                offset: second.number(),
+                text: third.copy(alloc)?,
+            },
+            Verb::Length => Command::Length { var },
+            Verb::Map => Command::Map { var },
+            Verb::Unmap => Command::Unmap { var },
+            Verb::Loadat => loadat_of(first, second),
+            Verb::Storeat => storeat_of(alloc, first, second)?,
+        })
+    }
+
+    /// A `new` of a variable.
+    fn new_of(&self, var: ByteList, room: Argument<'_>, home: Argument<'_>) -> Command
+        ensures { result ≡ NewCommand var (number_of (seen_argument room.entry)) (home_of self.now.nodes (seen_argument home.entry)) }
+    {
+        Command::New {
+            var,
+            room: room.number(),
+            home: self.home_of(home),
+        }
+    }
+
+    /// The node of an argument, where it is a home that is named.
+    fn home_of(&self, argument: Argument<'_>) -> Option<NodeId>
+        ensures { result ≡ home_of self.now.nodes (seen_argument argument.entry) }
+    {
+        match argument {
+            Argument::Home(Some(name)) => self.node_named(name),
             _ => None,
         }
     }
@@ -427,6 +503,7 @@ impl Draft {
         ensures { IfOk result (λ script. script ≡ self) }
     {
         let opening = opening_of(alloc, self.nodes.len() as u8, self.starts.as_slice())?;
+        let places = Places::of_commands(alloc, self.commands.as_slice())?;
         let Draft {
             nodes,
             starts: _,
@@ -434,12 +511,14 @@ impl Draft {
             plan,
             phases,
             commands,
-            declared: _,
+            declared,
             named: _,
             counts: _,
             pages: _,
         } = self;
-        Ok(Script::new(nodes, opening, objects, plan, phases, commands))
+        Ok(Script::new(
+            nodes, opening, objects, plan, phases, commands, declared, places,
+        ))
     }
 
     /// Whether no node was declared.
@@ -496,7 +575,7 @@ fn frames_in(frames: Option<&[u8]>) -> u16
 /// The room that a word spells.
 #[tactic(auto, using(crate::proofs::Ranges::room_is))]
 fn room_of(word: &[u8]) -> u32
-    requires { is_room word.now ≡ true }
+    requires { is_some (room_spelled word.now) ≡ true }
     ensures value { result ≡ number_in word.now }
     ensures room { IsRoom result }
 {
@@ -544,91 +623,22 @@ fn fate_of(words: FateWords<'_>) -> Fate
     }
 }
 
-/// The command that its words say.
-fn command_of(
-    alloc: Global,
-    words: CommandWords<'_>,
-    home: Option<NodeId>,
-) -> Result<Command, NoMemory>
-    requires { has_numbers (seen_command words) ≡ true }
-    ensures { IfOk result (λ command. command ≡ command_with home (seen_command words.entry)) }
-{
-    Ok(match words {
-        CommandWords::New { var, room, .. } => Command::New {
-            var: ByteList::from_slice(alloc, var)?,
-            room: room_of(room),
-            home,
-        },
-        CommandWords::Lock { var, mode } => Command::Lock {
-            var: ByteList::from_slice(alloc, var)?,
-            mode,
-        },
-        CommandWords::Unlock { var } => Command::Unlock {
-            var: ByteList::from_slice(alloc, var)?,
-        },
-        CommandWords::Delete { var } => Command::Delete {
-            var: ByteList::from_slice(alloc, var)?,
-        },
-        CommandWords::Load { var, offset, count } => load_of(alloc, var, offset, count)?,
-        CommandWords::Store { var, offset, text } => store_of(alloc, var, offset, text)?,
-        CommandWords::Length { var } => Command::Length {
-            var: ByteList::from_slice(alloc, var)?,
-        },
-        CommandWords::Map { var } => Command::Map {
-            var: ByteList::from_slice(alloc, var)?,
-        },
-        CommandWords::Unmap { var } => Command::Unmap {
-            var: ByteList::from_slice(alloc, var)?,
-        },
-        CommandWords::Loadat { address, count } => loadat_of(address, count),
-        CommandWords::Storeat { address, text } => storeat_of(alloc, address, text)?,
-    })
-}
-
-/// A load of a variable's bytes.
-fn load_of(alloc: Global, var: &[u8], offset: &[u8], count: &[u8]) -> Result<Command, NoMemory>
-    requires offset { is_offset offset.now ≡ true }
-    requires count { is_count count.now ≡ true }
-    ensures { IfOk result (λ command. command ≡ LoadCommand var.now (number_in offset.now) (number_in count.now)) }
-{
-    Ok(Command::Load {
-        var: ByteList::from_slice(alloc, var)?,
-        offset: number(offset, 0, MAX_OFFSET),
-        count: number(count, 1, MAX_COUNT),
-    })
-}
-
-/// A store of a text in a variable's bytes.
-fn store_of(alloc: Global, var: &[u8], offset: &[u8], text: &[u8]) -> Result<Command, NoMemory>
-    requires { is_offset offset.now ≡ true }
-    ensures { IfOk result (λ command. command ≡ StoreCommand var.now (number_in offset.now) text.now) }
-{
-    Ok(Command::Store {
-        var: ByteList::from_slice(alloc, var)?,
-        offset: number(offset, 0, MAX_OFFSET),
-        text: ByteList::from_slice(alloc, text)?,
-    })
-}
-
 /// A load by address.
-fn loadat_of(word: &[u8], count: &[u8]) -> Command
-    requires address { is_address word.now ≡ true }
-    requires count { is_count count.now ≡ true }
-    ensures { result ≡ LoadatCommand (address_in word.now) (number_in count.now) }
+fn loadat_of(address: Argument<'_>, count: Argument<'_>) -> Command
+    ensures { result ≡ LoadatCommand (number_of (seen_argument address.entry)) (number_of (seen_argument count.entry)) }
 {
     Command::Loadat {
-        address: address(word),
-        count: number(count, 1, MAX_COUNT),
+        address: address.number(),
+        count: count.number(),
     }
 }
 
 /// A store by address.
-fn storeat_of(alloc: Global, word: &[u8], text: &[u8]) -> Result<Command, NoMemory>
-    requires { is_address word.now ≡ true }
-    ensures { IfOk result (λ command. command ≡ StoreatCommand (address_in word.now) text.now) }
+fn storeat_of(alloc: Global, address: Argument<'_>, text: Argument<'_>) -> Result<Command, NoMemory>
+    ensures { IfOk result (λ command. command ≡ StoreatCommand (number_of (seen_argument address.entry)) (bytes_of (seen_argument text.entry))) }
 {
     Ok(Command::Storeat {
-        address: address(word),
-        text: ByteList::from_slice(alloc, text)?,
+        address: address.number(),
+        text: text.copy(alloc)?,
     })
 }

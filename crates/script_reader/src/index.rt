@@ -1,15 +1,61 @@
-//! Which variables were named: look-ups that go over no rows.
-ghost use Rattle.std.specs.Prelude.{◌≡◌, ◌≢◌, ◌<◌, slice_index_or, ◌↔◌, ◌⊎◌, ℕ, List, [], ◌∷◌, Contains, IsTrue, OnOk, OnErr, IfOk};
+//! Which variables were declared and named, and where a process's commands stand: look-ups that go over no rows.
+ghost use Rattle.std.specs.Prelude.{◌≡◌, ◌≢◌, ◌<◌, ◌≤◌, slice_index_or, ◌↔◌, ◌⊎◌, ℕ, List, [], ◌∷◌, ◌++◌, Contains, IsTrue, OnOk, OnErr, IfOk, length};
 ghost use Rattle.uid_names.specs.Names.{place_of_process};
-ghost use Rattle.script_reader.specs.Walk.Index.{HasAlso};
+ghost use Rattle.script_reader.specs.Variables.{declared_object};
+ghost use Rattle.script_reader.specs.Walk.Index.{DeclaresAlso, HasAlso};
+ghost use Rattle.script_reader.specs.Walk.Placed.{HoldsPlaces};
 ghost use Rattle.dom_history.specs.Ranges.{IsProcName};
 
+use crate::script::CommandRow;
 use std::alloc::Global;
-use std::collections::BTreeSet;
+use std::collections::{BTreeSet, HashMap};
 use std::marker::Model;
-use uid_names::{NoMemory, PROCESSES, ProcId};
+use uid_names::{ItemList, NoMemory, PROCESSES, ProcId, Uid};
 
-/// Variables of declared objects, each once.
+/// The variables of declared objects, each once, with their objects.
+#[derive(Drop)]
+pub(crate) struct DeclaredVars {
+    objects: HashMap<Vec<u8>, Uid>,
+}
+
+impl Model for DeclaredVars {
+    ghost use Rattle.std.specs.Prelude.{List, map};
+    ghost use Rattle.script_reader.specs.declared.script.VarRow.{VarRow};
+
+    ghost Value = { List VarRow };
+
+    ghost view = { λ v. map (λ e. record { var = e.0.items; uid = e.1 }) v.objects.entries };
+}
+
+impl DeclaredVars {
+    /// No variable. Takes no memory.
+    pub(crate) fn new(alloc: Global) -> DeclaredVars
+        ensures { result ≡ [] }
+    {
+        DeclaredVars {
+            objects: HashMap::new(alloc),
+        }
+    }
+
+    /// The object of a declared variable. Takes no memory.
+    pub(crate) fn object(&self, var: &[u8]) -> Option<Uid>
+        ensures { result ≡ declared_object self.now var.now }
+    {
+        self.objects.get(var).copied()
+    }
+
+    /// Puts a variable with its object there; without memory nothing changes.
+    pub(crate) fn add(&mut self, alloc: Global, var: &[u8], uid: Uid) -> Result<(), NoMemory>
+        ensures ok { OnOk result (DeclaresAlso self.old self.new var.now uid) }
+        ensures err { OnErr result (self.new ≡ self.old) }
+    {
+        let name = Vec::from_slice(alloc, var)?;
+        self.objects.insert(name, uid)?;
+        Ok(())
+    }
+}
+
+/// Variables, each once.
 #[derive(Drop)]
 pub(crate) struct VarSet {
     names: BTreeSet<Vec<u8>>,
@@ -97,5 +143,65 @@ impl NamedVars {
         let _range = (proc.node().number(), proc.number());
         let set = &mut self.sets[proc.place()];
         set.add(alloc, var)
+    }
+}
+
+/// The places of each process's commands among the commands of a script, rising.
+#[derive(Drop)]
+pub(crate) struct Places {
+    lists: Vec<ItemList<u32>>,
+}
+
+impl Model for Places {
+    ghost use Rattle.std.specs.Prelude.{◌≡◌, ℕ, List, length};
+    ghost use Rattle.uid_names.specs.declared.limits.TheConstants.{PROCESSES};
+
+    ghost Value = { List (List ℕ) };
+
+    ghost view = { λ p. p.lists.items };
+
+    ghost invariant = { λ p. length p.lists.items ≡ PROCESSES };
+}
+
+impl Places {
+    /// No process has a command.
+    fn new(alloc: Global) -> Result<Places, NoMemory>
+        ensures { IfOk result (λ places. (slot : ℕ) → slice_index_or places slot [] ≡ []) }
+    {
+        let mut lists = Vec::with_capacity(alloc, PROCESSES)?;
+        while lists.len() < PROCESSES {
+            lists.push(ItemList::new(alloc))?;
+        }
+        Ok(Places { lists })
+    }
+
+    /// The places of these commands.
+    pub(crate) fn of_commands(alloc: Global, commands: &[CommandRow]) -> Result<Places, NoMemory>
+        requires { length commands.now ≤ 20000 }
+        ensures { IfOk result (λ places. HoldsPlaces places commands.now) }
+    {
+        let mut places = Places::new(alloc)?;
+        for (at, row) in commands.iter().enumerate() {
+            places.add(row.proc, at as u32)?;
+        }
+        Ok(places)
+    }
+
+    /// The places of a process's commands. Takes no memory.
+    pub(crate) fn of(&self, proc: ProcId) -> &[u32]
+        ensures { result.now ≡ slice_index_or self.now (place_of_process proc) [] }
+    {
+        self.lists[proc.place()].items()
+    }
+
+    /// Puts a place behind those of the process.
+    fn add(&mut self, proc: ProcId, place: u32) -> Result<(), NoMemory>
+        ensures own { OnOk result (slice_index_or self.new (place_of_process proc) [] ≡ slice_index_or self.old (place_of_process proc) [] ++ place ∷ []) }
+        ensures others { (slot : ℕ) → slot ≢ place_of_process proc → slice_index_or self.new slot [] ≡ slice_index_or self.old slot [] }
+        ensures proc { IsProcName proc }
+    {
+        let _range = (proc.node().number(), proc.number());
+        let places = &mut self.lists[proc.place()];
+        places.push(place)
     }
 }

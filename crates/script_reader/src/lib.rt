@@ -1,6 +1,7 @@
 //! Reads scripts: from bytes to nodes, objects, a fault plan and commands, or to the first bad line.
 #![tactic(auto)]
 
+mod arguments;
 pub mod cause;
 pub mod command;
 mod draft;

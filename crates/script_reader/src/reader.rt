@@ -4,15 +4,17 @@ ghost use Rattle.std.specs.Option.{ForSome};
 ghost use Rattle.script_reader.specs.Grammar.{AreGood, IsScript, nothing, raw_lines, without_cr as without_cr_of};
 ghost use Rattle.script_reader.specs.Judging.{judged, judged_form, judged_place, judged_process, judged_tokens};
 ghost use Rattle.dom_text.specs.Answers.{Gives};
+ghost use Rattle.script_reader.specs.Walk.Formed.{HasForm};
 ghost use Rattle.script_reader.specs.Walk.Results.{RefusesLines, line_answer};
 ghost use Rattle.script_reader.specs.Faults.{IsRefusal};
 ghost use Rattle.script_reader.specs.Forms.{phase_form as phase_form_of};
-ghost use Rattle.script_reader.specs.Walk.Seen.{JoinsTwo, seen, seen_line};
+ghost use Rattle.script_reader.specs.Walk.Seen.{seen, seen_line};
 ghost use Rattle.script_reader.specs.Words.{process_word as process_word_of};
 
+use crate::arguments::read_arguments;
 use crate::cause::{Cause, LineFault, ScriptFault};
 use crate::draft::Draft;
-use crate::forms::{command_form, fault_form, first_word, node_form, object_form};
+use crate::forms::{fault_form, first_word, node_form, object_form};
 use crate::line::Line;
 use crate::script::Script;
 use crate::words::{LineWord, process_word, read_line_word, read_verb};
@@ -134,7 +136,7 @@ fn read_declaration(
     alloc: Global,
     line: Option<Line<'_>>,
 ) -> Result<(), LineFault>
-    requires { ForSome line (λ l. JoinsTwo (seen l)) }
+    requires { ForSome line (λ l. HasForm (seen l)) }
     ensures { Gives (line_answer draft.new result) (judged_place draft.old (seen_line line.entry)) }
 {
     if draft.has_begun() {
@@ -174,15 +176,16 @@ fn read_command(
     let Some(verb) = read_verb(verb) else {
         return Err(LineFault::Bad(Cause::Word));
     };
-    match command_form(verb, rest) {
-        Some(command) => draft.take(
-            alloc,
-            Line::Does {
-                node,
-                digits,
-                command,
-            },
-        ),
-        None => Err(LineFault::Bad(Cause::Form)),
-    }
+    let Some(arguments) = read_arguments(alloc, verb.shape(), rest)? else {
+        return Err(LineFault::Bad(Cause::Form));
+    };
+    draft.take(
+        alloc,
+        Line::Does {
+            node,
+            digits,
+            verb,
+            arguments: arguments.as_slice(),
+        },
+    )
 }

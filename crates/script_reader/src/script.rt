@@ -1,5 +1,6 @@
 //! What a script says.
 use crate::command::Command;
+use crate::index::{DeclaredVars, Places};
 use dom_history::FaultPlan;
 use std::marker::Model;
 use uid_names::{ByteList, Opening, ProcId, Uid};
@@ -26,7 +27,8 @@ pub struct CommandRow {
     pub command: Command,
 }
 
-/// A script: what each of its lines declares or asks for. It keeps all that the grammar asks of a script.
+/// A script: what each of its lines declares or asks for. It keeps all that the grammar asks of a script, and
+/// beside it where a variable's object and a process's commands are found, so that nobody goes over all rows.
 #[derive(Drop)]
 pub struct Script {
     nodes: Vec<NodeRow>,
@@ -35,21 +37,29 @@ pub struct Script {
     plan: FaultPlan,
     phases: u32,
     commands: Vec<CommandRow>,
+    declared: DeclaredVars,
+    places: Places,
 }
 
 impl Model for Script {
-    ghost use Rattle.script_reader.specs.Scripts.{Content, IsContent};
+    ghost use Rattle.script_reader.specs.Scripts.{Content};
 
     ghost Value = { Content };
 
-    ghost view = { λ s. record { nodes = s.nodes.items; opening = s.opening; objects = s.objects.items; plan = s.plan; phases = s.phases; commands = s.commands.items } };
+    ghost use Rattle.script_reader.specs.Walk.Inside.{content_within, HoldsScript};
 
-    ghost invariant = { λ s. IsContent (record { nodes = s.nodes.items; opening = s.opening; objects = s.objects.items; plan = s.plan; phases = s.phases; commands = s.commands.items }) };
+    ghost view = { content_within };
+
+    ghost invariant = { HoldsScript };
 }
 
 impl Script {
-    ghost use Rattle.std.specs.Prelude.{◌≡◌};
+    ghost use Rattle.std.specs.Prelude.{◌≡◌, ◌<◌, All, length};
     ghost use Rattle.script_reader.specs.Scripts.{Content, IsContent};
+    ghost use Rattle.script_reader.specs.Variables.{declared_object};
+    ghost use Rattle.script_reader.specs.Places.{places_of};
+    ghost use Rattle.script_reader.specs.Walk.Index.{HoldsDeclared};
+    ghost use Rattle.script_reader.specs.Walk.Placed.{HoldsPlaces};
 
     /// The script of these parts.
     pub(crate) fn new(
@@ -59,8 +69,12 @@ impl Script {
         plan: FaultPlan,
         phases: u32,
         commands: Vec<CommandRow>,
+        declared: DeclaredVars,
+        places: Places,
     ) -> Script
-        requires { IsContent (record { nodes = nodes.items; opening = opening; objects = objects.items; plan = plan; phases = phases; commands = commands.items }) }
+        requires declared { HoldsDeclared declared objects.items }
+        requires places { HoldsPlaces places commands.items }
+        requires content { IsContent (record { nodes = nodes.items; opening = opening; objects = objects.items; plan = plan; phases = phases; commands = commands.items }) }
         ensures { result ≡ record { nodes = nodes.items; opening = opening; objects = objects.items; plan = plan; phases = phases; commands = commands.items } }
     {
         Script {
@@ -70,6 +84,8 @@ impl Script {
             plan,
             phases,
             commands,
+            declared,
+            places,
         }
     }
 
@@ -119,5 +135,21 @@ impl Script {
         ensures content { IsContent self.now }
     {
         self.commands.as_slice()
+    }
+
+    /// The object of a declared variable; None where none is declared. Takes no memory.
+    pub fn declared(&self, var: &[u8]) -> Option<Uid>
+        ensures { result ≡ declared_object self.now.objects var.now }
+    {
+        self.declared.object(var)
+    }
+
+    /// The places of a process's commands in `commands`, rising. Takes no memory.
+    pub fn places_of(&self, proc: ProcId) -> &[u32]
+        ensures value { result.now ≡ places_of 0 proc self.now.commands }
+        ensures bound { All (λ place. place < length self.now.commands) result.now }
+    {
+        let _range = (proc.node().number(), proc.number());
+        self.places.of(proc)
     }
 }

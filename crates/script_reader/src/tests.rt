@@ -56,6 +56,12 @@ fn a_script_is_read(rt: HostRuntime) -> Result<(), Fail> {
     assert_eq!(rt; script.phases(), 2);
     assert_eq!(rt; script.commands().len(), 3);
     assert_eq!(rt; script.commands()[1].phase, 2);
+    assert_eq!(rt;
+        script.places_of(script.commands()[1].proc),
+        [1, 2].as_slice()
+    );
+    assert_eq!(rt; script.declared(b"y"), Some(script.objects()[1].uid));
+    assert_eq!(rt; script.declared(b"v"), None);
     Ok(())
 }
 

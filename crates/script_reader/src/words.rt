@@ -3,6 +3,7 @@ ghost use Rattle.std.specs.Prelude.{◌≡◌, ◌≢◌, Some, None, MatchOptio
 ghost use Rattle.std.specs.Char.{is_ascii_digit};
 ghost use Rattle.uid_names.specs.NameTexts.{is_name_byte as may_stand_in_name};
 ghost use Rattle.script_reader.specs.Words.{are_digits as are_digits_in, is_name as is_name_text, line_word_of, line_word_text, process_word as process_word_of, verb_of, verb_text};
+ghost use Rattle.script_reader.specs.Shapes.{shape_of};
 ghost use Rattle.script_reader.specs.declared.words.LineWord.{LineWord};
 ghost use Rattle.script_reader.specs.declared.words.Verb.{Verb};
 
@@ -34,6 +35,49 @@ pub(crate) enum Verb {
     Unmap,
     Loadat,
     Storeat,
+}
+
+/// What an argument of a command is.
+#[derive(Clone, Copy)]
+pub(crate) enum Kind {
+    /// A variable that the process knows.
+    Var,
+    /// A variable of an object that the command makes.
+    NewVar,
+    /// A number of pages.
+    Room,
+    /// A place in an object, in bytes.
+    Offset,
+    /// A number of bytes.
+    Count,
+    Address,
+    /// A quoted text.
+    Text,
+    /// The mode of a lock.
+    Mode,
+    /// A node, which may be left out.
+    Home,
+}
+
+impl Verb {
+    /// The kinds of the command's arguments, in order. No command has more than three.
+    pub(crate) fn shape(self) -> &'static [Kind]
+        ensures { result.now ≡ shape_of self }
+    {
+        match self {
+            Verb::New => &[Kind::NewVar, Kind::Room, Kind::Home],
+            Verb::Lock => &[Kind::Var, Kind::Mode],
+            Verb::Unlock => &[Kind::Var],
+            Verb::Delete => &[Kind::Var],
+            Verb::Load => &[Kind::Var, Kind::Offset, Kind::Count],
+            Verb::Store => &[Kind::Var, Kind::Offset, Kind::Text],
+            Verb::Length => &[Kind::Var],
+            Verb::Map => &[Kind::Var],
+            Verb::Unmap => &[Kind::Var],
+            Verb::Loadat => &[Kind::Address, Kind::Count],
+            Verb::Storeat => &[Kind::Address, Kind::Text],
+        }
+    }
 }
 
 /// The line word that a word is.

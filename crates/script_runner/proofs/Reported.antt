@@ -20,7 +20,7 @@ use Rattle.script_runner.specs.Processes.{processes_of}
 use Rattle.script_runner.specs.Rounds.{IsRunInRounds}
 use Rattle.script_runner.specs.Serving.{IsUnbegun, AreListed, AreServed, HasHeardAll, program_of, asked, asks_of, finished_by, counts_of}
 use Rattle.script_runner.specs.Beginnings.{process_of}
-use Rattle.script_runner.specs.Reports.{Answered, lines_of, counts, IsRunOf, IsReportOf}
+use Rattle.script_runner.specs.Reports.{AnswerRow, lines_of, counts, IsRunOf, IsReportOf}
 use Rattle.script_runner.proofs.HeardSoFar.{heard_in-reached}
 use Rattle.script_runner.proofs.Listed.{program_of-cases}
 use Rattle.script_runner.proofs.OneRun.{settled}
@@ -30,7 +30,7 @@ use Rattle.script_runner.proofs.Shells.{AreEnding, AreGrowing, AreAsking, AreAns
 done_no_phase : Done ≡ Phase → ⊥
 done_no_phase e = cc
 
-abbrev pub answers_of : ProcName → List (List ℕ) → Answered
+abbrev pub answers_of : ProcName → List (List ℕ) → AnswerRow
 answers_of p texts = record { proc = p; answers = texts }
 
 answered_same : (p q : ProcName) (texts others : List (List ℕ)) → p ≡ q → texts ≡ others → answers_of p texts ≡ answers_of q others

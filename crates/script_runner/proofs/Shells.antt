@@ -1,5 +1,5 @@
 -- What the shells of a script's processes are as programs.
-use Rattle.std.proofs.Common.{◌≡◌, ◌≤◌, ◌+◌, ◌*◌, ℕ, Bool, true, false, Option, Some, List, [], ◌∷◌, length, map, refl, ap, arith, ◌∙◌}
+use Rattle.std.proofs.Common.{◌≡◌, ◌≤◌, ◌+◌, ◌*◌, ℕ, Bool, true, false, Option, Some, List, [], ◌∷◌, length, map, refl, ap, sym, subst, arith, ◌∙◌}
 use Rattle.std.specs.Prelude.{All, filter, reverse, if◌then◌else◌}
 use Rattle.std.proofs.lemmas.List.Elements.{All-head, All-tail}
 use Rattle.uid_names.specs.Names.{ProcName, same_proc}
@@ -9,8 +9,9 @@ use Rattle.dom_history.specs.declared.op.Want.TheVariants.{Done}
 use Rattle.dom_history.specs.Follows.{Heard}
 use Rattle.dom_history.specs.Programs.{program_after, asked_by}
 use Rattle.script_reader.specs.declared.script.CommandRow.{CommandRow}
+use Rattle.script_reader.specs.Variables.{declared_object}
 use Rattle.script_reader.specs.Scripts.{Content, IsContent}
-use Rattle.aegis_shell.specs.Bound.{unbound, declare}
+use Rattle.aegis_shell.specs.Bound.{unbound}
 use Rattle.aegis_shell.specs.Work.{Part, part_of, jobs_of, job_of}
 use Rattle.aegis_shell.specs.Asking.{reach, reached, ask, answers}
 use Rattle.aegis_shell.specs.Shells.{Shelled, shell_of, shell_after, shell_wants, shell_answers}
@@ -42,11 +43,11 @@ AreAnswering = (s : Content) (p : ProcName) (heard : Heard) → shell_answers (p
 
 module _ (s : Content) (p : ProcName) where
   -- a process has no more jobs than the script has commands
-  jobs_few : (rows : List CommandRow) → length (map (job_of (declare s.objects unbound)) (filter (λ row. same_proc row.proc p) rows)) ≤ length rows
+  jobs_few : (rows : List CommandRow) → length (map (job_of (declared_object s.objects)) (filter (λ row. same_proc row.proc p) rows)) ≤ length rows
   jobs_few [] = omega arith
   jobs_few (row ∷ rows) = few_by (same_proc row.proc p) (jobs_few rows)
     where
-      few_by : (b : Bool) → length (map (job_of (declare s.objects unbound)) (filter (λ r. same_proc r.proc p) rows)) ≤ length rows → length (map (job_of (declare s.objects unbound)) (if b then row ∷ filter (λ r. same_proc r.proc p) rows else filter (λ r. same_proc r.proc p) rows)) ≤ length (row ∷ rows)
+      few_by : (b : Bool) → length (map (job_of (declared_object s.objects)) (filter (λ r. same_proc r.proc p) rows)) ≤ length rows → length (map (job_of (declared_object s.objects)) (if b then row ∷ filter (λ r. same_proc r.proc p) rows else filter (λ r. same_proc r.proc p) rows)) ≤ length (row ∷ rows)
       few_by true h = omega (arith, h)
       few_by false h = omega (arith, h)
 
@@ -59,7 +60,9 @@ module _ (s : Content) (p : ProcName) where
   -- what it has finished stays finished
   shell_counting : AreGrowing → AreAnswering → IsCounting (λ heard. shell_answered (program_after shell_after (shell_of s p) heard))
   shell_counting growing answering = record {
-    never_falls = λ heard told. rw (answering s p heard, answering s p (told ∷ heard)) (growing (part_of s p) heard told);
+    never_falls = λ heard told.
+        subst (λ n. n ≤ shell_answered (program_after shell_after (shell_of s p) (told ∷ heard))) (sym (ap length (answering s p heard)))
+        (subst (λ n. length (answers s p heard) ≤ n) (sym (ap length (answering s p (told ∷ heard)))) (growing (part_of s p) heard told));
   }
 
   -- a process of a script has not begun
@@ -86,7 +89,7 @@ module _ (s : Content) (p : ProcName) where
   -- so it is done at once, with no answer
   pub done_at_once : All (λ row. same_proc row.proc p ≡ false) s.commands → (heard : Heard) → (ask s p heard ≡ Done) × (length (answers s p heard) ≡ 0)
   done_at_once h heard =
-      let none : jobs_of s p ≡ [] = ap (map (job_of (declare s.objects unbound))) (no_jobs s.commands h) in (
+      let none : jobs_of s p ≡ [] = ap (map (job_of (declared_object s.objects))) (no_jobs s.commands h) in (
         ap (λ jobs. (reach (record { node = p.node; names = map (λ n. n.name) s.nodes; jobs = jobs }) 1 unbound jobs (reverse heard)).want) none,
         ap (λ jobs. length (reach (record { node = p.node; names = map (λ n. n.name) s.nodes; jobs = jobs }) 1 unbound jobs (reverse heard)).answers) none,
       )

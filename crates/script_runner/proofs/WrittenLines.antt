@@ -2,7 +2,7 @@
 use Rattle.std.proofs.Common.{◌≡◌, ℕ, ◌+◌, ◌<◌, List, [], ◌∷◌, ◌++◌, take, length, slice_index_or, ap, ◌∙◌, sym, refl, append_assoc, append-nil, add-one, arith, map}
 use Rattle.std.proofs.Math.Seq.{take-suc}
 use Rattle.std.proofs.lemmas.List.{length-take}
-use Rattle.script_runner.specs.Reports.{Answered, process_text, report_line, report_lines, lines_of}
+use Rattle.script_runner.specs.Reports.{AnswerRow, process_text, report_line, report_lines, lines_of}
 
 report_lines-push : (process : List ℕ) (n : ℕ) (answers : List (List ℕ)) (a : List ℕ) → report_lines process n (answers ++ a ∷ []) ≡ report_lines process n answers ++ report_line process (n + length answers) a
 report_lines-push process n [] a = append-nil (report_line process n a) ∙ ap (λ k. report_line process k a) (omega arith)
@@ -19,7 +19,7 @@ report_lines-more process answers i d h =
     ∙ (report_lines-push process 1 (take i answers) (slice_index_or answers i d)
     ∙ ap (λ k. report_lines process 1 (take i answers) ++ report_line process k (slice_index_or answers i d)) (omega arith))
 
-lines_of-push : (names : List (List ℕ)) (all : List Answered) (a : Answered) → lines_of names (all ++ a ∷ []) ≡ lines_of names all ++ report_lines (process_text names a.proc) 1 a.answers
+lines_of-push : (names : List (List ℕ)) (all : List AnswerRow) (a : AnswerRow) → lines_of names (all ++ a ∷ []) ≡ lines_of names all ++ report_lines (process_text names a.proc) 1 a.answers
 lines_of-push names [] a = append-nil (report_lines (process_text names a.proc) 1 a.answers)
 lines_of-push names (x ∷ all) a =
     ap (λ r. report_lines (process_text names x.proc) 1 x.answers ++ r) (lines_of-push names all a)
@@ -30,7 +30,7 @@ map-push f [] x = refl
 map-push f (y ∷ xs) x = ap (λ r. f y ∷ r) (map-push f xs x)
 
 -- the lines of one process more
-pub lines_of-more : {X : Type 0} (f : X → Answered) (names : List (List ℕ)) (xs : List X) (i : ℕ) (d : X) → i < length xs → lines_of names (map f (take (i + 1) xs)) ≡ lines_of names (map f (take i xs)) ++ report_lines (process_text names (f (slice_index_or xs i d)).proc) 1 (f (slice_index_or xs i d)).answers
+pub lines_of-more : {X : Type 0} (f : X → AnswerRow) (names : List (List ℕ)) (xs : List X) (i : ℕ) (d : X) → i < length xs → lines_of names (map f (take (i + 1) xs)) ≡ lines_of names (map f (take i xs)) ++ report_lines (process_text names (f (slice_index_or xs i d)).proc) 1 (f (slice_index_or xs i d)).answers
 lines_of-more f names xs i d h =
     ap (λ ys. lines_of names (map f ys)) (ap (λ n. take n xs) (add-one i) ∙ take-suc xs i d h)
     ∙ (ap (lines_of names) (map-push f (take i xs) (slice_index_or xs i d))
@@ -44,7 +44,7 @@ put_line-more to process answers i answer written after h is so_far more =
     ∙ ap (λ r. to ++ r) (ap (λ a. report_lines process 1 (take i answers) ++ report_line process (i + 1) a) is ∙ sym (report_lines-more process answers i answer h))))
 
 -- what was written, with the lines of one process more
-pub put_lines-more : {X : Type 0} (f : X → Answered) (names : List (List ℕ)) (xs : List X) (i : ℕ) (x : X) (written after : List ℕ) → i < length xs → x ≡ slice_index_or xs i x → written ≡ lines_of names (map f (take i xs)) → after ≡ written ++ report_lines (process_text names (f x).proc) 1 (f x).answers → after ≡ lines_of names (map f (take (i + 1) xs))
+pub put_lines-more : {X : Type 0} (f : X → AnswerRow) (names : List (List ℕ)) (xs : List X) (i : ℕ) (x : X) (written after : List ℕ) → i < length xs → x ≡ slice_index_or xs i x → written ≡ lines_of names (map f (take i xs)) → after ≡ written ++ report_lines (process_text names (f x).proc) 1 (f x).answers → after ≡ lines_of names (map f (take (i + 1) xs))
 put_lines-more f names xs i x written after h is so_far more =
     more ∙ (ap (λ w. w ++ report_lines (process_text names (f x).proc) 1 (f x).answers) so_far
     ∙ (ap (λ y. lines_of names (map f (take i xs)) ++ report_lines (process_text names (f y).proc) 1 (f y).answers) is ∙ sym (lines_of-more f names xs i x h)))

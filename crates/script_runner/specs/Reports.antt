@@ -23,12 +23,12 @@ report_lines process index [] = []
 report_lines process index (answer ∷ rest) = report_line process index answer ++ report_lines process (index + 1) rest
 
 -- a process and its answers, in order
-pub record Answered : Type 0 where
+pub record AnswerRow : Type 0 where
   pub proc : ProcName
   pub answers : List (List ℕ)
 
 -- the lines of processes, one after another
-abbrev pub lines_of : List (List ℕ) → List Answered → List ℕ
+abbrev pub lines_of : List (List ℕ) → List AnswerRow → List ℕ
 lines_of names [] = []
 lines_of names (a ∷ rest) = report_lines (process_text names a.proc) 1 a.answers ++ lines_of names rest
 

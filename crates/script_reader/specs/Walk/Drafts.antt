@@ -1,14 +1,13 @@
 -- What a draft holds beside its content, so that no test goes over all rows.
-use Rattle.std.specs.Prelude.{ℕ, ◌≡◌, ◌-◌, ◌≤◌, ◌↔◌, List, length, slice_index, Contains, IsTrue}
+use Rattle.std.specs.Prelude.{ℕ, ◌≡◌, ◌-◌, ◌≤◌, List, length, slice_index}
 use Rattle.uid_names.specs.declared.limits.TheConstants.{MAX_NODES, MAX_ROOM}
 use Rattle.uid_names.specs.declared.opening.Object.{Object}
 use Rattle.uid_names.specs.Beginnings.{at_home}
+use Rattle.script_reader.specs.Walk.Index.{HoldsDeclared}
 use Rattle.script_reader.specs.Walk.Named.{HoldsNamed}
 use Rattle.script_reader.specs.Walk.Starts.{AreStarts}
 use Rattle.script_reader.specs.Limits.{pages_at}
 use Rattle.script_reader.specs.Scripts.{Content, IsDraft}
-use Rattle.script_reader.specs.Variables.{is_declared}
-use Rattle.script_reader.specs.declared.script.VarRow.{VarRow}
 use Rattle.script_reader.specs.declared.draft.Draft.TheInside.{Inside}
 
 -- the content that a draft has come to
@@ -21,10 +20,6 @@ content_of d = record {
   phases = d.phases;
   commands = d.commands.items;
 }
-
--- the variables of the set are those of the declared objects
-abbrev pub HoldsDeclared : List (List ℕ) → List VarRow → Type 0
-HoldsDeclared set objects = (var : List ℕ) → Contains set var ↔ IsTrue (is_declared objects var)
 
 -- how many objects are declared at each home, and how many pages they take with the entry directory
 pub record HoldsTallies (counts pages : List ℕ) (starts : List Object) : Type 0 where

@@ -1,11 +1,47 @@
 -- What is known of a line once its place and its form were tested.
-use Rattle.std.specs.Prelude.{◌≡◌, false, []}
+use Rattle.std.specs.Prelude.{◌≡◌, false, IfSome, List, [], map}
+use Rattle.std.specs.List.{AllByRecursion}
 use Rattle.std.specs.Prelude.{bytes_eq}
+use Rattle.uid_names.specs.Rooms.{IsRoom}
+use Rattle.script_reader.specs.Arguments.{Said, Var, NewVar, Room, Offset, Count, Address, Text, Mode, Home}
+use Rattle.script_reader.specs.Commands.{IsOffset, IsCount, IsAddress}
 use Rattle.script_reader.specs.Scripts.{Content}
-use Rattle.script_reader.specs.Sayings.{Saying, Object, Fault}
+use Rattle.script_reader.specs.Sayings.{Saying, Object, Fault, Does}
+use Rattle.script_reader.specs.Shapes.{shape_of}
+use Rattle.script_reader.specs.declared.words.Kind.{Kind}
+use Rattle.script_reader.specs.declared.words.Kind.TheVariants as kind
 
--- what the tests of a line's form and place leave: objects stand before all commands, and a link joins two words
+abbrev pub kind_of : Said → Kind
+kind_of (Var name) = kind.Var
+kind_of (NewVar name) = kind.NewVar
+kind_of (Room found) = kind.Room
+kind_of (Offset found) = kind.Offset
+kind_of (Count found) = kind.Count
+kind_of (Address found) = kind.Address
+kind_of (Text text) = kind.Text
+kind_of (Mode mode) = kind.Mode
+kind_of (Home name) = kind.Home
+
+-- a number that was found is in its range
+abbrev pub IsFound : Said → Type 0
+IsFound (Room found) = IfSome found IsRoom
+IsFound (Offset found) = IfSome found IsOffset
+IsFound (Count found) = IfSome found IsCount
+IsFound (Address found) = IfSome found IsAddress
+IsFound _ = Unit {0}
+
+-- arguments of these kinds
+pub record AreFormed (kinds : List Kind) (arguments : List Said) : Type 0 where
+  pub kinds_are : map kind_of arguments ≡ kinds
+  pub found : AllByRecursion IsFound arguments
+
+-- what the test of a line's form leaves: a link joins two words, and arguments are of the kinds of their verb
+abbrev pub HasForm : Saying → Type 0
+HasForm (Fault from to index fate) = bytes_eq from to ≡ false
+HasForm (Does process verb arguments) = AreFormed (shape_of verb) arguments
+HasForm _ = Unit {0}
+
+-- and that of its place: objects stand before all commands
 abbrev pub IsFormed : Content → Saying → Type 0
 IsFormed s (Object var room home) = s.commands ≡ []
-IsFormed s (Fault from to index fate) = bytes_eq from to ≡ false
-IsFormed s _ = Unit {0}
+IsFormed s said = HasForm said

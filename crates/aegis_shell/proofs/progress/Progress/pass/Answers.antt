@@ -1,11 +1,14 @@
-use Rattle.std.proofs.Common.{length, refl, arith}
-use Rattle.aegis_shell.proofs.Onwards.{passes-low, passes-continues}
+use Rattle.std.proofs.Common.{ap, ◌∙◌, arith}
+use Rattle.aegis_shell.specs.States.{State}
+use Rattle.aegis_shell.proofs.Turns.{passes-phase}
 use Rattle.aegis_shell.proofs.progress.Progress.pass.Goals as goal
 
 pub overflow_add-self : goal.overflow_add-self
 overflow_add-self c =
-    let low = passes-low c.args.work.now c.args.self.now (length c.args.self.now.answers.items) c.jobs-jobs.ensures.ranges c.requires in
-    omega arith
+    let facts = passes-phase c.args.work.now c.args.self.now c.requires c.jobs-jobs.ensures.ranges in
+    omega (arith, facts.2, ap (λ (s : State). s.phase) c.self.view_is)
 
-pub returns-clause-goes : goal.returns-clause-goes
-returns-clause-goes c = λ whole before. passes-continues c.args.work.now c.args.self.now _ whole c.requires refl refl refl refl before
+pub returns-clause-first : goal.returns-clause-first
+returns-clause-first c =
+    let facts = passes-phase c.args.work.now c.args.self.now c.requires c.jobs-jobs.ensures.ranges in
+    ap (λ (s : State). s.first) c.self.view_is ∙ facts.1

@@ -1,7 +1,7 @@
 use Rattle.std.proofs.Common.{rules, ◌≡◌, ◌≤◌, ◌+◌, ◌++◌, ◌∷◌, [], false, true, length, ap, sym, subst, ◌∙◌, arith}
 use Rattle.uid_names.specs.declared.limits.TheConstants.{VOLUME_ROOM}
 use Rattle.uid_names.specs.declared.mode.ObjKind.TheVariants.{File}
-use Rattle.script_reader.specs.Walk.Index.{HasAlso}
+use Rattle.script_reader.specs.Walk.Index.{DeclaresAlso}
 use Rattle.script_reader.specs.Limits.{pages_at}
 use Rattle.script_reader.specs.After.{next_uid}
 use Rattle.script_reader.specs.Variables.{is_declared}
@@ -25,7 +25,7 @@ invariant_of-self-2 c =
     let u : uid ≡ next_uid d.starts.items home = c.from_parts-uid.ensures ∙ ap (λ n. record { counter = n + 2; home = home }) (count_is d home at c.self.invariant c.home_index-at.ensures.least c.home_index-at.ensures.greatest c.home_index-at.ensures.value) in
     let es : c.push.new.self.items ≡ d.starts.items ++ record { uid = uid; kind = File; room = c.args.room } ∷ [] = search rules in
     let eo : c.push-2.new.self.items ≡ d.objects.items ++ record { var = name; uid = uid } ∷ [] = search rules in
-    let also : HasAlso d.declared c.add.new.self name = subst (λ v. HasAlso d.declared c.add.new.self v) (sym c.in_ok-name.ensures) c.in_ok-add.ensures.ok in
+    let also : DeclaresAlso d.declared c.add.new.self name uid = subst (λ v. DeclaresAlso d.declared c.add.new.self v uid) (sym c.in_ok-name.ensures) c.in_ok-add.ensures.ok in
     let named : is_name name ≡ true = ap is_name c.in_ok-name.ensures ∙ c.requires.name in
     let most : home ≤ length d.nodes.items = subst (λ t. home ≤ length t.nodes) (sym c.self.view_is) c.requires.home in
     let new : is_declared d.objects.items name ≡ false = ap (is_declared d.objects.items) c.in_ok-name.ensures ∙ (ap (λ t. is_declared t.objects c.args.var.now) c.self.view_is ∙ c.requires.new) in

@@ -4,8 +4,8 @@ use Rattle.script_reader.specs.Scripts.{IsContent}
 use Rattle.script_reader.proofs.Begun.{can_begin}
 use Rattle.script_reader.proofs.draft.Draft.finish.Goals as goal
 
-pub new-requires : goal.new-requires
-new-requires c =
+pub new-requires-clause-content : goal.new-requires-clause-content
+new-requires-clause-content c =
     let d = c.self.inside in
     let some : 1 ≤ length d.nodes.items = subst (λ t. 1 ≤ length t.nodes) (sym c.self.view_is) c.requires in
     let kept : IsContent (content_of d) = record { draft = c.self.invariant.draft; some_node = some; begins = can_begin (length d.nodes.items) d.starts.items c.self.invariant.starts } in

@@ -1,0 +1,274 @@
+-- Arguments of commands: what the test of their form leaves, and what they give a command.
+use Rattle.std.proofs.Common.{◌≡◌, ◌≤◌, ◌<◌, ◌+◌, ◌-◌, ◌*◌, lit≤, ℕ, suc, Bool, true, false, List, [], ◌∷◌, ◌++◌, length, length-append, map, get_or, drop, drop-cons, add-one, Option, Some, None, refl, ap, sym, subst, ◌∙◌, append_assoc, append-nil, arith, rules}
+use Rattle.std.specs.Prelude.{◌&&◌, ◌↔◌, bytes_eq, not, nat_le, nat_lt, is_some, unwrap_or, if◌then◌else◌, IfSome, IsTrue, All}
+use Rattle.std.specs.List.{AllByRecursion, list_all, position_or_len}
+use Rattle.std.proofs.lemmas.List.Folds.{list_all-map}
+use Rattle.std.proofs.lemmas.List.{drop_all}
+use Rattle.std.proofs.lemmas.Option.{IfSome_then}
+use Rattle.std.proofs.Math.Seq.{get_or-append_seam}
+use Rattle.uid_names.specs.Names.{ProcName}
+use Rattle.uid_names.specs.Rooms.{IsRoom}
+use Rattle.uid_names.specs.declared.limits.TheConstants.{MAX_ROOM, PAGE_BYTES, WRITTEN_ROOM}
+use Rattle.uid_names.specs.declared.mode.Mode.{Mode as LockMode}
+use Rattle.dom_text.specs.Numbers.{hex8_of, number_spelled}
+use Rattle.dom_text.specs.declared.token.Token.{Token}
+use Rattle.dom_text.specs.declared.token.Token.TheVariants.{Word, Text as TextToken}
+use Rattle.script_reader.specs.Arguments.{Said, Given, Var, NewVar, Room, Offset, Count, Address, Text, Mode, Home, given, home_number}
+use Rattle.script_reader.specs.Commands.{IsAddress, IsArgument, IsCommand, IsCount, IsHome, IsOffset, arguments_of}
+use Rattle.script_reader.specs.Forms.{absent, arguments_form, in_front, mode_argument, text_argument, word_argument}
+use Rattle.script_reader.specs.NamesAsked.{has_name}
+use Rattle.script_reader.specs.Numbers.{has_number, room_spelled, offset_spelled, count_spelled, address_spelled, within}
+use Rattle.script_reader.specs.Repeats.{is_fresh}
+use Rattle.script_reader.specs.SaidCommands.{argument_at, bytes_of, command_said, home_of, mode_of, number_of}
+use Rattle.script_reader.specs.Scripts.{Content}
+use Rattle.script_reader.specs.Shapes.{shape_of}
+use Rattle.script_reader.specs.UnknownNames.{is_known}
+use Rattle.script_reader.specs.Variables.{IsSpoken, MaySpeakOf, is_declared}
+use Rattle.script_reader.specs.Walk.Formed.{AreFormed, IsFound, kind_of}
+use Rattle.script_reader.specs.Walk.Seen.{seen_argument, seen_arguments}
+use Rattle.script_reader.specs.Words.{mode_of_word}
+use Rattle.script_reader.specs.declared.arguments.Argument.{Argument as ArgumentOfLine}
+use Rattle.script_reader.specs.declared.script.NodeRow.{NodeRow}
+use Rattle.script_reader.specs.declared.words.Kind.{Kind}
+use Rattle.script_reader.specs.declared.words.Kind.TheVariants as kind
+use Rattle.script_reader.specs.declared.words.Verb.{Verb}
+use Rattle.script_reader.specs.declared.words.Verb.TheVariants as verb
+use Rattle.script_reader.proofs.Decisions.{passes_all}
+use Rattle.script_reader.proofs.Kept.{name_text}
+
+and_true : (a b : Bool) → (a && b) ≡ true → (a ≡ true) × (b ≡ true)
+and_true true b h = (refl, h)
+and_true false b h = absurd cc
+
+-- a number that was found is in its range
+pub within_is : (low high : ℕ) (found : Option ℕ) → IfSome (within low high found) (λ n. (low ≤ n) × (n ≤ high))
+within_is low high None = tt
+within_is low high (Some n) = by_test (nat_le low n && nat_le n high) refl where
+  by_test : (t : Bool) → (nat_le low n && nat_le n high) ≡ t → IfSome (if t then Some n else None) (λ m. (low ≤ m) × (m ≤ high))
+  by_test true e = let both = and_true (nat_le low n) (nat_le n high) e in (search (rules, both.0), search (rules, both.1))
+  by_test false e = tt
+
+-- a room that can be written is one that an object can have, and so is an offset
+written : WRITTEN_ROOM ≤ MAX_ROOM
+written = lit≤ tt
+
+pub room_found : (word : List ℕ) → IfSome (room_spelled word) IsRoom
+room_found word = IfSome_then (room_spelled word) (within_is 1 WRITTEN_ROOM (number_spelled word)) (λ n h. (h.0, omega (arith, h.1, written)))
+
+offset_found : (word : List ℕ) → IfSome (offset_spelled word) IsOffset
+offset_found word = IfSome_then (offset_spelled word) (within_is 0 (WRITTEN_ROOM * PAGE_BYTES - 1) (number_spelled word)) (λ n h. omega (arith, h.1, written))
+
+count_found : (word : List ℕ) → IfSome (count_spelled word) IsCount
+count_found word = within_is 1 PAGE_BYTES (number_spelled word)
+
+address_found : (word : List ℕ) → IfSome (address_spelled word) IsAddress
+address_found word = IfSome_then (address_spelled word) (within_is 0 0xff_ffff (hex8_of word)) (λ n h. h.1)
+
+-- an argument of a kind, whose number is in its range
+abbrev pub IsOfKind : Kind → Said → Type 0
+IsOfKind k a = (kind_of a ≡ k) × IsFound a
+
+mode_formed : (mode : Option LockMode) → IfSome (mode_argument mode) (IsOfKind kind.Mode)
+mode_formed None = tt
+mode_formed (Some mode) = (refl, tt)
+
+word_formed : (k : Kind) (word : List ℕ) → IfSome (word_argument k word) (IsOfKind k)
+word_formed kind.Var word = (refl, tt)
+word_formed kind.NewVar word = (refl, tt)
+word_formed kind.Room word = (refl, room_found word)
+word_formed kind.Offset word = (refl, offset_found word)
+word_formed kind.Count word = (refl, count_found word)
+word_formed kind.Address word = (refl, address_found word)
+word_formed kind.Text word = tt
+word_formed kind.Mode word = mode_formed (mode_of_word word)
+word_formed kind.Home word = (refl, tt)
+
+text_formed : (k : Kind) (text : List ℕ) → IfSome (text_argument k text) (IsOfKind k)
+text_formed kind.Text text = (refl, tt)
+text_formed _ text = tt
+
+absent_formed : (k : Kind) → IfSome (absent k) (IsOfKind k)
+absent_formed kind.Home = (refl, tt)
+absent_formed _ = tt
+
+in_front_formed : (k : Kind) (kinds : List Kind) (first : Option Said) (rest : Option (List Said)) → IfSome first (IsOfKind k) → IfSome rest (AreFormed kinds) → IfSome (in_front first rest) (AreFormed (k ∷ kinds))
+in_front_formed k kinds None rest h i = tt
+in_front_formed k kinds (Some first) None h i = tt
+in_front_formed k kinds (Some first) (Some rest) h i = record { kinds_are = ap (λ x. x ∷ map kind_of rest) h.0 ∙ ap (λ xs. k ∷ xs) i.kinds_are; found = (h.1, i.found) }
+
+-- tokens that have the form are arguments of these kinds
+pub form_formed : (kinds : List Kind) (tokens : List Token) → IfSome (arguments_form kinds tokens) (AreFormed kinds)
+form_formed [] [] = record { kinds_are = refl; found = tt }
+form_formed [] (token ∷ rest) = tt
+form_formed (k ∷ kinds) [] = in_front_formed k kinds (absent k) (arguments_form kinds []) (absent_formed k) (form_formed kinds [])
+form_formed (k ∷ kinds) (Word word ∷ rest) = in_front_formed k kinds (word_argument k word) (arguments_form kinds rest) (word_formed k word) (form_formed kinds rest)
+form_formed (k ∷ kinds) (TextToken text ∷ rest) = in_front_formed k kinds (text_argument k text) (arguments_form kinds rest) (text_formed k text) (form_formed kinds rest)
+
+-- arguments in front of those that tokens say
+abbrev pub behind : List Said → Option (List Said) → Option (List Said)
+behind front None = None
+behind front (Some rest) = Some (front ++ rest)
+
+pub behind-nil : (rest : Option (List Said)) → rest ≡ behind [] rest
+behind-nil None = refl
+behind-nil (Some rest) = refl
+
+behind-push : (front : List Said) (a : Said) (rest : Option (List Said)) → behind front (in_front (Some a) rest) ≡ behind (front ++ a ∷ []) rest
+behind-push front a None = refl
+behind-push front a (Some rest) = ap Some (sym (append_assoc front (a ∷ []) rest))
+
+kind_first : (kinds : List Kind) (i : ℕ) (k : Kind) → i < length kinds → k ≡ get_or kinds i k → drop i kinds ≡ k ∷ drop (i + 1) kinds
+kind_first kinds i k below is = drop-cons kinds i k below ∙ (ap (λ x. x ∷ drop (suc i) kinds) (sym is) ∙ ap (λ n. k ∷ drop n kinds) (sym (add-one i)))
+
+-- an argument more was taken
+pub form_step : (kinds : List Kind) (tokens rest next : List Token) (front : List Said) (i : ℕ) (k : Kind) (a : Said) → i < length kinds → k ≡ get_or kinds i k → arguments_form kinds tokens ≡ behind front (arguments_form (drop i kinds) rest)
+    → ((ks : List Kind) → arguments_form (k ∷ ks) rest ≡ in_front (Some a) (arguments_form ks next)) → arguments_form kinds tokens ≡ behind (front ++ a ∷ []) (arguments_form (drop (i + 1) kinds) next)
+form_step kinds tokens rest next front i k a below is h step =
+    h ∙ (ap (λ ks. behind front (arguments_form ks rest)) (kind_first kinds i k below is) ∙ (ap (behind front) (step (drop (i + 1) kinds)) ∙ behind-push front a (arguments_form (drop (i + 1) kinds) next)))
+
+-- none was
+pub form_none : (kinds : List Kind) (tokens rest : List Token) (front : List Said) (i : ℕ) (k : Kind) → i < length kinds → k ≡ get_or kinds i k → arguments_form kinds tokens ≡ behind front (arguments_form (drop i kinds) rest)
+    → ((ks : List Kind) → arguments_form (k ∷ ks) rest ≡ None) → arguments_form kinds tokens ≡ None
+form_none kinds tokens rest front i k below is h step =
+    h ∙ (ap (λ ks. behind front (arguments_form ks rest)) (kind_first kinds i k below is) ∙ ap (behind front) (step (drop (i + 1) kinds)))
+
+-- all were
+pub form_end : (kinds : List Kind) (tokens rest : List Token) (front : List Said) (i : ℕ) → length kinds ≤ i → arguments_form kinds tokens ≡ behind front (arguments_form (drop i kinds) rest) → rest ≡ [] → arguments_form kinds tokens ≡ Some front
+form_end kinds tokens rest front i past h none =
+    let out : drop i kinds ≡ [] = drop_all i kinds past in
+    h ∙ (ap (λ ks. behind front (arguments_form ks rest)) out ∙ (ap (λ ts. behind front (arguments_form [] ts)) none ∙ ap Some (append-nil front)))
+
+pub form_left : (kinds : List Kind) (tokens rest : List Token) (front : List Said) (i : ℕ) → length kinds ≤ i → arguments_form kinds tokens ≡ behind front (arguments_form (drop i kinds) rest) → 0 < length rest → arguments_form kinds tokens ≡ None
+form_left kinds tokens [] front i past h some = absurd (omega (arith, some))
+form_left kinds tokens (t ∷ rest) front i past h some = h ∙ ap (λ ks. behind front (arguments_form ks (t ∷ rest))) (drop_all i kinds past)
+
+-- what was taken is formed
+pub taken_formed : (kinds : List Kind) (tokens : List Token) (taken : List Said) → arguments_form kinds tokens ≡ Some taken → AreFormed kinds taken
+taken_formed kinds tokens taken e = subst (λ o. IfSome o (AreFormed kinds)) e (form_formed kinds tokens)
+
+-- what a verb asks of an argument by its kind
+given_as : List NodeRow → Kind → Said → Given
+given_as nodes kind.Var a = Var (bytes_of a)
+given_as nodes kind.NewVar a = NewVar (bytes_of a)
+given_as nodes kind.Room a = Room (number_of a)
+given_as nodes kind.Offset a = Offset (number_of a)
+given_as nodes kind.Count a = Count (number_of a)
+given_as nodes kind.Address a = Address (number_of a)
+given_as nodes kind.Text a = Text (bytes_of a)
+given_as nodes kind.Mode a = Mode (mode_of a)
+given_as nodes kind.Home a = Home (home_of nodes a)
+
+-- and of those from a place on
+given_from : List NodeRow → List Kind → List Said → ℕ → List Given
+given_from nodes [] arguments n = []
+given_from nodes (k ∷ kinds) arguments n = given_as nodes k (argument_at arguments n) ∷ given_from nodes kinds arguments (n + 1)
+
+-- each verb asks of its arguments what its shape says: the one place of the proofs that goes by commands
+command-given : (nodes : List NodeRow) (v : Verb) (arguments : List Said) → arguments_of (command_said nodes v arguments) ≡ given_from nodes (shape_of v) arguments 0
+unfolding given_as given_from
+command-given nodes verb.New arguments = refl
+command-given nodes verb.Lock arguments = refl
+command-given nodes verb.Unlock arguments = refl
+command-given nodes verb.Delete arguments = refl
+command-given nodes verb.Load arguments = refl
+command-given nodes verb.Store arguments = refl
+command-given nodes verb.Length arguments = refl
+command-given nodes verb.Map arguments = refl
+command-given nodes verb.Unmap arguments = refl
+command-given nodes verb.Loadat arguments = refl
+command-given nodes verb.Storeat arguments = refl
+
+given_as-kind : (nodes : List NodeRow) (a : Said) → given_as nodes (kind_of a) a ≡ given nodes a
+unfolding given_as
+given_as-kind nodes (Var name) = refl
+given_as-kind nodes (NewVar name) = refl
+given_as-kind nodes (Room found) = refl
+given_as-kind nodes (Offset found) = refl
+given_as-kind nodes (Count found) = refl
+given_as-kind nodes (Address found) = refl
+given_as-kind nodes (Text text) = refl
+given_as-kind nodes (Mode mode) = refl
+given_as-kind nodes (Home name) = refl
+
+given_from-map : (nodes : List NodeRow) (front rest : List Said) (n : ℕ) → n ≡ length front → given_from nodes (map kind_of rest) (front ++ rest) n ≡ map (given nodes) rest
+unfolding given_from
+given_from-map nodes front [] n at = refl
+given_from-map nodes front (a ∷ rest) n at =
+    let here : argument_at (front ++ a ∷ rest) n ≡ a = ap (λ k. argument_at (front ++ a ∷ rest) k) at ∙ get_or-append_seam front a rest (Home None) in
+    let next : n + 1 ≡ length (front ++ a ∷ []) = omega (arith, at, length-append front (a ∷ [])) in
+    let behind : given_from nodes (map kind_of rest) (front ++ a ∷ rest) (n + 1) ≡ map (given nodes) rest =
+    ap (λ all. given_from nodes (map kind_of rest) all (n + 1)) (sym (append_assoc front (a ∷ []) rest)) ∙ given_from-map nodes (front ++ a ∷ []) rest (n + 1) next in
+    ap (λ x. given_as nodes (kind_of a) x ∷ given_from nodes (map kind_of rest) (front ++ a ∷ rest) (n + 1)) here
+    ∙ (ap (λ x. x ∷ given_from nodes (map kind_of rest) (front ++ a ∷ rest) (n + 1)) (given_as-kind nodes a) ∙ ap (λ xs. given nodes a ∷ xs) behind)
+
+-- the arguments of the command are what was said of each
+arguments-given : (nodes : List NodeRow) (v : Verb) (arguments : List Said) → map kind_of arguments ≡ shape_of v → arguments_of (command_said nodes v arguments) ≡ map (given nodes) arguments
+arguments-given nodes v arguments kinds =
+    command-given nodes v arguments ∙ (ap (λ ks. given_from nodes ks arguments 0) (sym kinds) ∙ given_from-map nodes [] arguments 0 refl)
+
+-- a home that was declared is a node
+home_is : (nodes : List NodeRow) (home : Option (List ℕ)) → IsHome (length nodes) (home_number nodes home)
+home_is nodes None = tt
+home_is nodes (Some name) = by_place (nat_lt (position_or_len (λ row. bytes_eq row.name name) nodes) (length nodes)) refl where
+  by_place : (t : Bool) → nat_lt (position_or_len (λ row. bytes_eq row.name name) nodes) (length nodes) ≡ t
+      → IsHome (length nodes) (if is_some (if t then Some (position_or_len (λ row. bytes_eq row.name name) nodes) else None) then Some (unwrap_or (if t then Some (position_or_len (λ row. bytes_eq row.name name) nodes) else None) 0 + 1) else None)
+  by_place true e = let below : position_or_len (λ row. bytes_eq row.name name) nodes < length nodes = search (rules, e) in (omega arith, omega (arith, below))
+  by_place false e = tt
+
+found_is : (P : ℕ → Type 0) (found : Option ℕ) → IfSome found P → is_some found ≡ true → P (unwrap_or found 0)
+found_is P None h some = absurd cc
+found_is P (Some n) h some = h
+
+-- an argument whose number and name are good is in its range
+argument_is : (nodes : List NodeRow) (a : Said) → IsFound a → has_number a ≡ true → has_name a ≡ true → IsArgument (length nodes) (given nodes a)
+argument_is nodes (Var name) h number named = name_text name named
+argument_is nodes (NewVar name) h number named = name_text name named
+argument_is nodes (Room found) h number named = found_is IsRoom found h number
+argument_is nodes (Offset found) h number named = found_is IsOffset found h number
+argument_is nodes (Count found) h number named = found_is IsCount found h number
+argument_is nodes (Address found) h number named = found_is IsAddress found h number
+argument_is nodes (Text text) h number named = let both = and_true (nat_le 1 (length text)) (nat_le (length text) PAGE_BYTES) number in (search (rules, both.0), search (rules, both.1))
+argument_is nodes (Mode mode) h number named = tt
+argument_is nodes (Home name) h number named = home_is nodes name
+
+arguments_are : (nodes : List NodeRow) (arguments : List Said) → AllByRecursion IsFound arguments → list_all has_number arguments ≡ true → list_all has_name arguments ≡ true → AllByRecursion (IsArgument (length nodes)) (map (given nodes) arguments)
+arguments_are nodes [] h numbers names = tt
+arguments_are nodes (a ∷ rest) h numbers names =
+    let number = and_true (has_number a) (list_all has_number rest) numbers in
+    let name = and_true (has_name a) (list_all has_name rest) names in
+    (argument_is nodes a h.0 number.0 name.0, arguments_are nodes rest h.1 number.1 name.1)
+
+pub command_is : (nodes : List NodeRow) (v : Verb) (arguments : List Said) → AreFormed (shape_of v) arguments → list_all has_number arguments ≡ true → list_all has_name arguments ≡ true → IsCommand (length nodes) (command_said nodes v arguments)
+command_is nodes v arguments h numbers names =
+    subst (AllByRecursion (IsArgument (length nodes))) (sym (arguments-given nodes v arguments h.kinds_are)) (arguments_are nodes arguments h.found numbers names)
+
+not_true : (b : Bool) → not b ≡ true → b ≡ false
+not_true true h = absurd cc
+not_true false h = refl
+
+-- an argument of which the process may speak
+argument_spoken : (s : Content) (proc : ProcName) (a : Said) → is_known s proc a ≡ true → is_fresh s a ≡ true → MaySpeakOf s.objects s.commands proc (given s.nodes a)
+argument_spoken s proc (Var name) known fresh = known
+argument_spoken s proc (NewVar name) known fresh = not_true (is_declared s.objects name) fresh
+argument_spoken s proc (Room found) known fresh = tt
+argument_spoken s proc (Offset found) known fresh = tt
+argument_spoken s proc (Count found) known fresh = tt
+argument_spoken s proc (Address found) known fresh = tt
+argument_spoken s proc (Text text) known fresh = tt
+argument_spoken s proc (Mode mode) known fresh = tt
+argument_spoken s proc (Home name) known fresh = tt
+
+arguments_spoken : (s : Content) (proc : ProcName) (arguments : List Said) → list_all (is_known s proc) arguments ≡ true → list_all (is_fresh s) arguments ≡ true → AllByRecursion (MaySpeakOf s.objects s.commands proc) (map (given s.nodes) arguments)
+arguments_spoken s proc [] known fresh = tt
+arguments_spoken s proc (a ∷ rest) known fresh =
+    let k = and_true (is_known s proc a) (list_all (is_known s proc) rest) known in
+    let f = and_true (is_fresh s a) (list_all (is_fresh s) rest) fresh in
+    (argument_spoken s proc a k.0 f.0, arguments_spoken s proc rest k.1 f.1)
+
+pub command_spoken : (s : Content) (proc : ProcName) (v : Verb) (arguments : List Said) → map kind_of arguments ≡ shape_of v → list_all (is_known s proc) arguments ≡ true → list_all (is_fresh s) arguments ≡ true → IsSpoken s.objects s.commands proc (command_said s.nodes v arguments)
+command_spoken s proc v arguments kinds known fresh =
+    subst (AllByRecursion (MaySpeakOf s.objects s.commands proc)) (sym (arguments-given s.nodes v arguments kinds)) (arguments_spoken s proc arguments known fresh)
+
+-- a test of all arguments of a line
+pub all_seen : (p : Said → Bool) (arguments : List ArgumentOfLine) (r : Bool) → (IsTrue r ↔ All (λ a. IsTrue (p (seen_argument a))) arguments) → r ≡ list_all p (seen_arguments arguments)
+all_seen p arguments r h = passes_all (λ a. p (seen_argument a)) arguments r h ∙ sym (list_all-map p seen_argument arguments)
