@@ -1,13 +1,16 @@
 -- The calls that are kept in slots, one slot for each process.
-use Rattle.std.proofs.Common.{◌≡◌, ℕ, suc, zero, ◌+◌, ◌<◌, ◌≢◌, Bool, true, false, List, [], ◌∷◌, length, get_or, set, replicate, refl, ap, subst, arith}
-use Rattle.std.specs.Prelude.{All, Option, Some, None, if◌then◌else◌}
+use Rattle.std.proofs.Common.{◌≡◌, ℕ, suc, zero, ◌+◌, ◌<◌, ◌≤◌, ◌≢◌, Bool, true, false, List, [], ◌∷◌, length, get_or, set, replicate, refl, ap, subst, arith}
+use Rattle.std.specs.Prelude.{All, IsTrue, Option, Some, None, if◌then◌else◌}
 use Rattle.std.proofs.lemmas.List.{get_or_default}
-use Rattle.std.proofs.lemmas.List.Elements.{All-cons, All-head, All-tail}
+use Rattle.std.proofs.lemmas.List.Elements.{All-nil, All-cons, All-head, All-tail}
 use Rattle.std.proofs.lemmas.Bool.Decides.{nat_tests}
-use Rattle.uid_names.proofs.InOrder.{chosen}
-use Rattle.uid_names.specs.Names.{ProcName, same_proc, proc_lt}
+use Rattle.std.proofs.lemmas.List.Kept.{AllPairs-cons}
+use Rattle.uid_names.proofs.InOrder.{chosen, AllPairs-nil}
+use Rattle.uid_names.specs.InOrder.{AreInOrder}
+use Rattle.uid_names.specs.Names.{ProcName, IsProcName, same_proc, proc_lt}
+use Rattle.uid_names.specs.declared.limits.TheConstants.{PROCESSES}
 use Rattle.call_once.specs.declared.served.Kept.{Kept}
-use Rattle.call_once.specs.Calls.{Call, call_of, with_call}
+use Rattle.call_once.specs.Calls.{Call, call_of, with_call, AreByProcess}
 use Rattle.call_once.specs.Slots.{proc_at, call_in, calls_in}
 
 -- each place has a process of its own
@@ -96,3 +99,30 @@ call_of-all P (call ∷ calls) p found all is = by (same_proc call.proc p) is (c
 pub call_of-read : {B : Type 0} (slots : List (Option (Kept B))) (calls : List (Call B)) (place : ℕ) (p : ProcName) (slot : Option (Kept B)) → calls_in 0 slots ≡ calls → proc_at place ≡ p → place < length slots → slot ≡ get_or slots place slot → call_of p calls ≡ call_in p slot
 call_of-read slots calls place p slot view process within read =
     rw (← view, ← process, read, get_or_default slots place slot None within) (call_of-calls_in 0 place place slots (omega arith))
+
+-- a process stands at each place
+proc_at-named : (place : ℕ) → place < PROCESSES → IsProcName (proc_at place)
+proc_at-named place below = record { node = (omega arith, omega arith); number = (omega arith, omega arith) }
+
+-- what holds of the processes from a place on holds of those of the calls in the slots from there on
+calls_in-all : {B : Type 0} (P : ProcName → Type 0) (first : ℕ) (slots : List (Option (Kept B))) → ((k : ℕ) → first ≤ k → k < first + length slots → P (proc_at k))
+    → All (λ (call : Call B). P call.proc) (calls_in first slots)
+calls_in-all {B} P first [] each = All-nil (λ (call : Call B). P call.proc)
+calls_in-all P first (None ∷ slots) each = calls_in-all P (suc first) slots (λ k from below. each k (omega arith) (omega arith))
+calls_in-all {B} P first (Some kept ∷ slots) each =
+    All-cons (λ (call : Call B). P call.proc) (record { proc = proc_at first; number = kept.number; body = kept.body }) (calls_in (suc first) slots)
+    (each first (omega arith) (omega arith))
+    (calls_in-all P (suc first) slots (λ k from below. each k (omega arith) (omega arith)))
+
+calls_in-rising : {B : Type 0} (first : ℕ) (slots : List (Option (Kept B))) → AreInOrder (λ (a b : Call B). proc_lt a.proc b.proc) (calls_in first slots)
+calls_in-rising {B} first [] = AllPairs-nil (λ (a b : Call B). IsTrue (proc_lt a.proc b.proc))
+calls_in-rising first (None ∷ slots) = calls_in-rising (suc first) slots
+calls_in-rising {B} first (Some kept ∷ slots) =
+    AllPairs-cons (λ (a b : Call B). IsTrue (proc_lt a.proc b.proc)) (record { proc = proc_at first; number = kept.number; body = kept.body }) (calls_in (suc first) slots)
+    (calls_in-all (λ q. IsTrue (proc_lt (proc_at first) q)) (suc first) slots (λ k from below. proc_lt-proc_at first k (omega arith)))
+    (calls_in-rising (suc first) slots)
+
+-- the calls in the slots of all processes
+pub calls_in-by_process : {B : Type 0} (slots : List (Option (Kept B))) → length slots ≡ PROCESSES → AreByProcess (calls_in 0 slots)
+calls_in-by_process slots all =
+    record { rising = calls_in-rising 0 slots; named = calls_in-all IsProcName 0 slots (λ k from below. proc_at-named k (omega arith)) }

@@ -1,6 +1,7 @@
 -- The last call of each process that was answered.
-use Rattle.std.specs.Prelude.{ℕ, ◌==◌, nat_lt, if◌then◌else◌, Option, Some, None, List, [], ◌∷◌}
-use Rattle.uid_names.specs.Names.{ProcName, same_proc, proc_lt}
+use Rattle.std.specs.Prelude.{ℕ, ◌==◌, nat_lt, if◌then◌else◌, Option, Some, None, List, [], ◌∷◌, All}
+use Rattle.uid_names.specs.InOrder.{AreInOrder}
+use Rattle.uid_names.specs.Names.{ProcName, IsProcName, same_proc, proc_lt}
 use Rattle.call_once.specs.declared.served.Looked.{Looked}
 use Rattle.call_once.specs.declared.served.Looked.TheVariants.{Fresh, Again, Old}
 
@@ -44,3 +45,8 @@ with_call new (call ∷ calls) =
     if proc_lt call.proc new.proc then call ∷ with_call new calls
     else if same_proc call.proc new.proc then new ∷ calls
     else new ∷ call ∷ calls
+
+-- calls by rising process, no two of one process
+pub record AreByProcess {B : Type 0} (calls : List (Call B)) : Type 0 where
+  pub rising : AreInOrder (λ a b. proc_lt a.proc b.proc) calls
+  pub named : All (λ call. IsProcName call.proc) calls

@@ -1,7 +1,7 @@
 //! The last answer to each process.
 ghost use Rattle.std.specs.Prelude.{◌≡◌, ◌<◌, [], IfOk};
 ghost use Rattle.std.specs.Option.{option_copied};
-ghost use Rattle.call_once.specs.Calls.{call_of, last_of, body_of, looked, with_call};
+ghost use Rattle.call_once.specs.Calls.{call_of, last_of, body_of, looked, with_call, AreByProcess};
 ghost use Rattle.call_once.specs.Slots.{proc_at, call_in};
 
 use std::alloc::Global;
@@ -99,7 +99,8 @@ impl<B: Drop> Served<B> {
 
     /// Makes this the process's last call, and drops the answer that was kept before. Takes no memory.
     pub fn keep(&mut self, proc: ProcId, number: u64, body: B)
-        ensures { self.new ≡ with_call (record { proc = proc; number = number; body = body }) self.old }
+        ensures kept { self.new ≡ with_call (record { proc = proc; number = number; body = body }) self.old }
+        ensures by_process { AreByProcess self.old }
     {
         self.slots[place_of(proc)] = Some(Kept { number, body });
     }

@@ -8,4 +8,5 @@ pub mod Given
 pub mod Again
 pub mod Begun
 pub mod Sides
+pub mod KeptAnswers
 pub mod Writes

@@ -1,4 +1,5 @@
 pub mod Answers
+pub mod KeptAnswers
 pub mod Decisions
 pub mod Serving
 pub mod ServerStates

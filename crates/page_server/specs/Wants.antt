@@ -1,7 +1,6 @@
 -- At which requests a home may want memory.
 use Rattle.std.specs.Prelude.{ℕ, Bool, true, false, ◌&&◌, nat_le, length, Option, Some, None}
 use Rattle.uid_names.specs.Names.{ProcName}
-use Rattle.object_store.specs.HomeStates.{HomeState}
 use Rattle.lock_manager.specs.declared.locks.TheConstants.{ROOM}
 use Rattle.lock_manager.specs.Tables.{Table}
 use Rattle.call_once.specs.declared.served.Looked.{Looked}

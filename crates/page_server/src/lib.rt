@@ -2,6 +2,7 @@
 #![tactic(auto)]
 
 mod answers;
+mod kept;
 pub mod laws;
 mod requests;
 pub mod server;

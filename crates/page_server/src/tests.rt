@@ -528,3 +528,24 @@ fn a_repeated_answer_differs_in_its_tick_alone(rt: HostRuntime) -> Result<(), Fa
     }
     Ok(())
 }
+
+#[test]
+fn each_process_is_told_its_own_page_again(rt: HostRuntime) -> Result<(), Fail> {
+    let mut bench = make_bench(rt.alloc())?;
+    let read = Asked::PageIn(FILE, 0);
+    let calls = [
+        ((2, 1), 1, read, Told::Page(1, 0)),
+        ((1, 1), 1, Asked::Lock(FILE, WRITE), Told::Granted(1, 1, 0)),
+        ((1, 1), 2, Asked::PageOut(FILE, 0, 1, 1), Told::Stored(2)),
+        ((2, 2), 1, read, Told::Page(2, 7)),
+        ((2, 1), 1, read, Told::Page(1, 0)),
+        ((2, 1), 2, Asked::PageIn(FILE, 1), Told::NoObject),
+        ((2, 2), 1, read, Told::Page(2, 7)),
+        ((2, 1), 2, read, Told::NoObject),
+    ];
+    for (at, number, asked, told) in calls {
+        let answer = bench.call(rt.alloc(), at, number, asked)?;
+        assert_eq!(rt; answer, told, "{at:?} {number}");
+    }
+    Ok(())
+}
