@@ -1,46 +1,105 @@
--- Each load and store keeps what each desk keeps, asks what a home can be asked, and leaves its process idle or waiting
--- for an answer.
-use Rattle.std.proofs.Common.{◌≡◌, ℕ, ◌+◌, ◌<◌, ◌≤◌, nat_lt, Bool, true, false, List, [], ◌∷◌, length, drop, Option, Some, None, IfSome, IsSome, refl, subst, ◌∙◌, arith, length-drop}
+-- A load or store at its page: what it comes to, however room is made, leaves a desk, asks what a home can be asked, replies
+-- what its operation can have, and leaves its process idle or with a call that stands.
+use Rattle.std.proofs.Common.{◌≡◌, ℕ, ◌+◌, ◌<◌, ◌≤◌, nat_lt, Bool, true, false, List, [], ◌∷◌, length, reverse, drop, Option, Some, None, IfSome, IsSome, refl, sym, subst, ◌∙◌, arith, length-drop}
 use Rattle.std.specs.Prelude.{not, ◌&&◌}
 use Rattle.std.specs.List.{list_any}
 use Rattle.std.specs.Option.{unwrap_or}
+use Rattle.std.proofs.lemmas.Bool.Decides.{nat_tests}
 use Rattle.std.proofs.lemmas.List.{length-take}
 use Rattle.uid_names.specs.Names.{ObjectName}
 use Rattle.uid_names.specs.declared.limits.TheConstants.{MAX_LENGTH, MAX_ROOM, PAGE_BYTES}
 use Rattle.dom_history.specs.declared.deed.LockState.{LockState}
 use Rattle.dom_history.specs.declared.deed.LockState.TheVariants.{Free, Held, Taking, Releasing, Deleting}
+use Rattle.dom_history.specs.declared.op.Op.{Op}
+use Rattle.dom_history.specs.declared.op.Op.TheVariants as ops
+use Rattle.dom_history.specs.declared.op.Reply.{Reply}
+use Rattle.dom_history.specs.declared.op.Reply.TheVariants.{Fine, Bytes}
+use Rattle.dom_history.specs.Fitting.{Fits}
 use Rattle.dom_history.specs.Replies.{may_write}
 use Rattle.page_cache.specs.Caches.{Resident, page_at, free_count}
 use Rattle.page_cache.specs.Changes.{without_page}
-use Rattle.page_cache.specs.Victims.{victim_of}
+use Rattle.page_cache.specs.Victims.{is_dirty_choice, oldest}
+use Rattle.page_cache.proofs.PageLemmas.{page_at-oldest}
+use Rattle.uid_names.proofs.Finds.{find-passes}
 use Rattle.uid_names.proofs.ListLemmas.{by_cases}
 use Rattle.version_stamps.specs.Stamps.{stamp_of}
+use Rattle.ring_messages.specs.Bodies.{Ask, body_of_ask}
 use Rattle.ring_messages.specs.Ranges.{IsBody}
 use Rattle.fault_handler.specs.declared.entries.LockEntry.{LockEntry}
+use Rattle.fault_handler.specs.declared.open_call.OpenCall.{OpenCall}
+use Rattle.fault_handler.specs.declared.open_call.OpenCall.TheVariants.{Access}
 use Rattle.fault_handler.specs.declared.tasks.Work.{Work}
 use Rattle.fault_handler.specs.declared.tasks.Work.TheVariants.{Load, Store}
 use Rattle.fault_handler.specs.declared.tasks.Task.{Task}
 use Rattle.fault_handler.specs.Entries.{grant_in, keeps, keeps_writing}
+use Rattle.fault_handler.specs.Transits.{coming, going}
 use Rattle.fault_handler.specs.Tasks.{page_of, start_of, size_of}
 use Rattle.fault_handler.specs.ShownPages.{is_in_transit}
-use Rattle.fault_handler.specs.Desks.{DeskState, entry_at, any_keeps, any_writes, others_fetch, grant_among, writing_grant, base_of}
-use Rattle.fault_handler.specs.Changes.{with_stored, with_dropped}
-use Rattle.fault_handler.specs.Accesses.{Accessed, page_out, waiting, performed, fetched, room_made, room_by, frame_by, missed_by, page_by, page_access}
-use Rattle.fault_handler.specs.Invariant.{IsProc, is_dirty, MayWork, IsAllowed, IsLockEntryState, IsLockEntry, IsDesk}
+use Rattle.fault_handler.specs.Desks.{DeskState, IsNode, entry_at, any_keeps, any_writes, open_call_of, task_of, moving_of, others_fetch, grant_among, writing_grant, base_of}
+use Rattle.fault_handler.specs.Changes.{with_used, with_stored, with_dropped, with_end, with_fetch, with_eviction}
+use Rattle.fault_handler.specs.Outcomes.{Moved, ended, waiting}
+use Rattle.fault_handler.specs.Victims.{Victim, MayMakeRoom, is_idle_page}
+use Rattle.fault_handler.specs.Accesses.{page_out, performed, fetched, room_made, frame_by, missed_by, page_by, page_access}
+use Rattle.fault_handler.specs.Invariant.{IsProc, is_dirty, is_marked, MayWork, IsAllowed, IsLockEntryState, IsLockEntry, IsDesk}
 use Rattle.fault_handler.specs.Conditions.{IsIdle}
-use Rattle.fault_handler.specs.Outcomes.{FitsWork, IsAsked, AfterAccess}
-use Rattle.fault_handler.proofs.Fours.{first, second, third, fourth, any-of}
+use Rattle.fault_handler.specs.Ready.{IsReady, IsReadyAt}
+use Rattle.fault_handler.specs.Next.{IsTaskOf, IsCallOf, IsRequest, MayGoOn}
+use Rattle.fault_handler.proofs.Fours.{first, second, third, fourth, at-put_same, any-at, any-of}
 use Rattle.fault_handler.proofs.PageLists.{is_same, same-uid, same-page, page_at-without_same, page_at-without_other}
 use Rattle.fault_handler.proofs.PageKeeps.{IsDesk-with_used, IsDesk-with_stored, IsDesk-with_dropped}
 use Rattle.fault_handler.proofs.KnownKeeps.{IsDesk-with_end}
-use Rattle.fault_handler.proofs.TransitKeeps.{any_writes-keeps, dirty-writes, IsDesk-with_fetch, IsDesk-with_eviction, IsAccessing-with_fetch, IsAccessing-with_eviction}
-use Rattle.fault_handler.proofs.Choice.{victim-resident, victim-still}
+use Rattle.fault_handler.proofs.TransitKeeps.{keeps_writing-keeps, any_writes-keeps, dirty-writes, IsDesk-with_fetch, IsDesk-with_eviction}
+use Rattle.fault_handler.proofs.Choice.{named-there, victim-there}
+use Rattle.fault_handler.proofs.Outcomes.{IsAfter, IsServed, Holds}
 
--- what holds after an access of a process
-pub record IsGood (p : ℕ) (a : Accessed) : Type 0 where
-  pub desk : IsDesk a.desk
-  pub asks : IsAsked a.answer
-  pub next : AfterAccess a.desk p a.answer
+-- what holds after a load or store whose local tests passed
+abbrev pub IsDoneAfter : ℕ → ℕ → ℕ → Op → Moved → Type 0
+IsDoneAfter own all p op m = IsAfter own all p op m × IsServed m.turn
+
+-- an entry that is kept is there
+kept-there : (o : Option LockEntry) → keeps o ≡ true → IsSome o
+kept-there None is = absurd (cc)
+kept-there (Some e) is = refl
+
+-- an object that a process keeps has a home that is a node
+pub home-kept : (d : DeskState) (q : ℕ) (u : ObjectName) → IsDesk d → IsProc q → keeps (entry_at d.entries q u) ≡ true → IsNode d.nodes u.home
+home-kept d q u is proc kept = is.at_nodes.locked q proc u (kept-there (entry_at d.entries q u) kept)
+
+-- so has one that a process of the node keeps in a mode that writes
+pub home-written : (d : DeskState) (u : ObjectName) → IsDesk d → any_writes d.entries u ≡ true → IsNode d.nodes u.home
+home-written d u is writes =
+    let found = any-of (λ q. keeps_writing (entry_at d.entries q u)) writes in
+    home-kept d found.0 u is found.1 (keeps_writing-keeps (entry_at d.entries found.0 u) found.2)
+
+-- an idle process is ready
+pub ready-idle : (d : DeskState) (p : ℕ) → IsIdle d p → IsReady d p
+ready-idle d p idle = subst (IsReadyAt d p) (sym idle.no_call) idle
+
+-- so is one whose load or store is open
+pub ready-open : (d : DeskState) (p : ℕ) → open_call_of d p ≡ Some Access → IsReady d p
+ready-open d p call = subst (IsReadyAt d p) (sym call) tt
+
+-- an idle process's operation ended
+pub ended-after : (d : DeskState) (p : ℕ) (op : Op) (reply : Reply) → IsDesk d → IsIdle d p → Fits op reply → IsAfter d.node d.nodes p op (ended d reply)
+ended-after d p op reply is idle fits = record { desk = is; node = refl; nodes = refl; asks = tt; ready = ready-idle d p idle; fits = fits; next = idle }
+
+-- the reply to a load is one that its operation can have
+bytes-fit : (op : Op) (task : Task) (count : ℕ) (bytes : List ℕ) → IsTaskOf op (Some task) → task.work ≡ Load count → length bytes ≡ count → Fits op (Bytes bytes)
+bytes-fit (ops.Load spot n) task count bytes of is whole = let e : Load n ≡ Load count = sym of.1 ∙ is in let same : n ≡ count = cc in whole ∙ sym same
+bytes-fit (ops.Store spot bs) task count bytes of is whole = absurd (let e : Store bs ≡ Load count = sym of.1 ∙ is in cc)
+bytes-fit op task count bytes of is whole = absurd of
+
+-- so is that to a store
+fine-fits : (op : Op) (task : Task) (bytes : List ℕ) → IsTaskOf op (Some task) → task.work ≡ Store bytes → Fits op Fine
+fine-fits (ops.Load spot n) task bytes of is = absurd (let e : Load n ≡ Store bytes = sym of.1 ∙ is in cc)
+fine-fits (ops.Store spot bs) task bytes of is = tt
+fine-fits op task bytes of is = absurd of
+
+-- a load or store that waited may go on
+goes-on : (d : DeskState) (p : ℕ) (op : Op) (task : Task) → IsTaskOf op (Some task) → MayGoOn d p op
+goes-on d p (ops.Load spot n) task of = tt
+goes-on d p (ops.Store spot bs) task of = tt
+goes-on d p op task of = absurd of
 
 -- a grant under which an object is written is a number from 1
 grant-least : (o : Option LockEntry) → keeps_writing o ≡ true → IfSome o IsLockEntry → 1 ≤ grant_in o
@@ -81,7 +140,7 @@ module _ (d : DeskState) (is : IsDesk d) (u : ObjectName) where
           (λ not_here. rw not_here (rest (rw not_here at h)))
 
 -- a page that is sent home is one that a frame can carry
-pub page_out-asked : (d : DeskState) → IsDesk d → (u : ObjectName) (k : ℕ) (bytes : List ℕ) → k < MAX_ROOM → length bytes ≡ PAGE_BYTES → any_writes d.entries u ≡ true → IsBody u.home (page_out d u k bytes)
+pub page_out-asked : (d : DeskState) → IsDesk d → (u : ObjectName) (k : ℕ) (bytes : List ℕ) → k < MAX_ROOM → length bytes ≡ PAGE_BYTES → any_writes d.entries u ≡ true → IsBody u.home (body_of_ask (page_out d u k bytes))
 page_out-asked d is u k bytes within whole writes = (refl, within, writing_grant-least d is u writes, base-least d is u (any_writes-keeps d.entries u writes), whole)
 
 -- a page that is not resident stays so where another is dropped
@@ -97,102 +156,122 @@ absent-without pages u k v j none =
 end-within : (task : Task) (n : ℕ) → page_of task < MAX_ROOM → start_of task + n ≤ PAGE_BYTES → task.offset + n ≤ MAX_LENGTH
 end-within task n page within = omega (arith, page, within)
 
-module _ (d : DeskState) (p : ℕ) (task : Task) (is : IsDesk d) (proc : IsProc p) (idle : IsIdle d p) (allowed : IsAllowed d.entries p task) where
-  -- at its page
-  performed-good : (work : Work) (r : Resident) → task.work ≡ work → IsGood p (performed d task work r)
-  performed-good (Load count) r same = record {
-    desk = IsDesk-with_used d task.uid (page_of task) is;
-    asks = tt;
-    next = record { no_call = idle.no_call; no_page = idle.no_page; keeping = idle.keeping };
-  }
-  performed-good (Store bytes) r same =
-      let within : start_of task + length bytes ≤ PAGE_BYTES = subst (λ (w : Work). start_of task + size_of w ≤ PAGE_BYTES) same allowed.range.within in
-      let writes : keeps_writing (entry_at d.entries p task.uid) ≡ true = subst (λ (w : Work). MayWork w (entry_at d.entries p task.uid)) same allowed.mode in
-      record {
-        desk = IsDesk-with_end (with_stored d task.uid (page_of task) (start_of task) bytes) task.uid (task.offset + length bytes)
-            (IsDesk-with_stored d task.uid (page_of task) (start_of task) bytes p is proc within writes)
-            (end-within task (length bytes) allowed.range.page within);
-        asks = tt;
-        next = record { no_call = idle.no_call; no_page = idle.no_page; keeping = idle.keeping };
-      }
+-- an idle page is not on its way home
+idle-still : (o : Option Resident) → is_idle_page o ≡ true → is_marked o ≡ false
+idle-still None is = absurd (cc)
+idle-still (Some r) is = grind (arith, nat_tests, is)
 
-  -- the answer fits it
-  performed-fits : (work : Work) (r : Resident) → task.work ≡ work → length r.bytes ≡ PAGE_BYTES → FitsWork work (performed d task work r).answer
-  performed-fits (Load count) r same whole =
-      let within : start_of task + count ≤ PAGE_BYTES = subst (λ (w : Work). start_of task + size_of w ≤ PAGE_BYTES) same allowed.range.within in
-      omega (arith, length-take count (drop (start_of task) r.bytes), length-drop (start_of task) r.bytes)
-  performed-fits (Store bytes) r same whole = tt
+module _ (d : DeskState) (p : ℕ) (task : Task) (is : IsDesk d) (proc : IsProc p) (idle : IsIdle d p) (allowed : IsAllowed d.entries p task) (op : Op) (of : IsTaskOf op (Some task)) where
+  -- at its page
+  pub performed-after : (work : Work) (r : Resident) → task.work ≡ work → length r.bytes ≡ PAGE_BYTES → IsDoneAfter d.node d.nodes p op (performed d task work r)
+  performed-after (Load count) r same whole =
+      let within : start_of task + count ≤ PAGE_BYTES = subst (λ (w : Work). start_of task + size_of w ≤ PAGE_BYTES) same allowed.range.within in (
+        ended-after (with_used d task.uid (page_of task)) p op _ (IsDesk-with_used d task.uid (page_of task) is)
+            (record { no_call = idle.no_call; no_page = idle.no_page; keeping = idle.keeping })
+            (bytes-fit op task count _ of same (omega (arith, length-take count (drop (start_of task) r.bytes), length-drop (start_of task) r.bytes))),
+        refl,
+      )
+  performed-after (Store bytes) r same whole =
+      let within : start_of task + length bytes ≤ PAGE_BYTES = subst (λ (w : Work). start_of task + size_of w ≤ PAGE_BYTES) same allowed.range.within in
+      let writes : keeps_writing (entry_at d.entries p task.uid) ≡ true = subst (λ (w : Work). MayWork w (entry_at d.entries p task.uid)) same allowed.mode in (
+        ended-after (with_end (with_stored d task.uid (page_of task) (start_of task) bytes) task.uid (task.offset + length bytes)) p op Fine
+            (IsDesk-with_end (with_stored d task.uid (page_of task) (start_of task) bytes) task.uid (task.offset + length bytes)
+            (IsDesk-with_stored d task.uid (page_of task) (start_of task) bytes p is proc within writes)
+            (end-within task (length bytes) allowed.range.page within)
+            (any-at (λ q. keeps_writing (entry_at d.entries q task.uid)) p proc writes))
+            (record { no_call = idle.no_call; no_page = idle.no_page; keeping = idle.keeping })
+            (fine-fits op task bytes of same),
+        refl,
+      )
 
   -- its process waits
-  waiting-good : IsGood p (waiting d task)
-  waiting-good = record { desk = is; asks = tt; next = idle }
+  waiting-after : (u : ObjectName) (k : ℕ) → IsDoneAfter d.node d.nodes p op (waiting d u k)
+  waiting-after u k = (record { desk = is; node = refl; nodes = refl; asks = tt; ready = ready-idle d p idle; fits = tt; next = (idle, goes-on d p op task of) }, tt)
 
   module _ (absent : page_at d.cache.pages task.uid (page_of task) ≡ None) (alone : others_fetch d.moving p task.uid (page_of task) ≡ false) where
-    fetched-good : (dropped : List (ObjectName × ℕ)) → IsGood p (fetched d p task dropped)
-    fetched-good dropped = record {
-      desk = IsDesk-with_fetch d p is proc task idle absent alone allowed;
-      asks = (refl, allowed.range.page);
-      next = IsAccessing-with_fetch d p is proc task;
-    }
+    call-fetch : open_call_of (with_fetch d p task) p ≡ Some Access
+    call-fetch = at-put_same d.calls p (Some Access) None is.four.calls proc
+
+    fetched-after : (dropped : List (ObjectName × ℕ)) → IsDoneAfter d.node d.nodes p op (fetched d p task dropped)
+    fetched-after dropped = (
+      record {
+        desk = IsDesk-with_fetch d p is proc task idle absent alone allowed;
+        node = refl;
+        nodes = refl;
+        asks = (home-kept d p task.uid is proc allowed.kept, (refl, allowed.range.page));
+        ready = ready-open (with_fetch d p task) p call-fetch;
+        fits = tt;
+        next = (
+          subst (λ (c : Option OpenCall). IsCallOf op (task_of (with_fetch d p task) p) c) (sym call-fetch)
+              (subst (λ (o : Option Task). IsTaskOf op o) (sym (at-put_same d.tasks p (Some task) None is.four.tasks proc)) of),
+          subst (λ (c : Option OpenCall). IsRequest (moving_of (with_fetch d p task) p) c (Ask.PageIn task.uid (page_of task))) (sym call-fetch)
+              (at-put_same d.moving p (coming task.uid (page_of task)) None is.four.moving proc),
+        );
+      },
+      tt,
+    )
 
 -- room is made, and the page is asked for
-module _ (d : DeskState) (p : ℕ) (task : Task) (is : IsDesk d) (proc : IsProc p) (idle : IsIdle d p) (allowed : IsAllowed d.entries p task)
+module _ (d : DeskState) (p : ℕ) (task : Task) (is : IsDesk d) (proc : IsProc p) (idle : IsIdle d p) (allowed : IsAllowed d.entries p task) (op : Op) (of : IsTaskOf op (Some task))
     (absent : page_at d.cache.pages task.uid (page_of task) ≡ None) (alone : others_fetch d.moving p task.uid (page_of task) ≡ false) where
-  room_made-good : (r : Resident) (dirty : Bool) → page_at d.cache.pages r.uid r.page ≡ Some r → is_in_transit r ≡ false → r.flags.dirty ≡ dirty → IsGood p (room_made d p task r dirty)
-  room_made-good r false found still clean =
-      fetched-good (with_dropped d r.uid r.page) p task (IsDesk-with_dropped d r.uid r.page is (rw found still)) proc
-      (record { no_call = idle.no_call; no_page = idle.no_page; keeping = idle.keeping }) allowed
-      (absent-without d.cache.pages r.uid r.page task.uid (page_of task) absent) alone ((r.uid, r.page) ∷ [])
-  room_made-good r true found still dirty =
+  evicted-after : (r : Resident) → page_at d.cache.pages r.uid r.page ≡ Some r → r.flags.dirty ≡ true → is_in_transit r ≡ false → IsDoneAfter d.node d.nodes p op (room_made d p task (Victim.SendsHome r))
+  evicted-after r found dirty still =
       let is_dirty_there : is_dirty (page_at d.cache.pages r.uid r.page) ≡ true = rw found dirty in
       let shown = rw found at (is.pages.each r.uid r.page) in
-      record {
-        desk = IsDesk-with_eviction d p is proc task r.uid r.page idle is_dirty_there (rw found still) allowed;
-        asks = page_out-asked d is r.uid r.page r.bytes shown.page shown.bytes (dirty-writes d p is proc r.uid r.page is_dirty_there);
-        next = IsAccessing-with_eviction d p is proc task r.uid r.page;
-      }
+      let writes = dirty-writes d p is proc r.uid r.page is_dirty_there in
+      let call : open_call_of (with_eviction d p task r.uid r.page) p ≡ Some Access = at-put_same d.calls p (Some Access) None is.four.calls proc in (
+        record {
+          desk = IsDesk-with_eviction d p is proc task r.uid r.page idle is_dirty_there (rw found still) allowed;
+          node = refl;
+          nodes = refl;
+          asks = (home-written d r.uid is writes, page_out-asked d is r.uid r.page r.bytes shown.page shown.bytes writes);
+          ready = ready-open (with_eviction d p task r.uid r.page) p call;
+          fits = tt;
+          next = (
+            subst (λ (c : Option OpenCall). IsCallOf op (task_of (with_eviction d p task r.uid r.page) p) c) (sym call)
+                (subst (λ (o : Option Task). IsTaskOf op o) (sym (at-put_same d.tasks p (Some task) None is.four.tasks proc)) of),
+            subst (λ (c : Option OpenCall). IsRequest (moving_of (with_eviction d p task r.uid r.page) p) c (page_out d r.uid r.page r.bytes)) (sym call)
+                (at-put_same d.moving p (going r.uid r.page) None is.four.moving proc),
+          );
+        },
+        tt,
+      )
 
-  room_by-good : (o : Option Resident) → victim_of d.cache.pages ≡ o → IsGood p (room_by d p task o)
-  room_by-good None chosen = waiting-good d p task is proc idle allowed
-  room_by-good (Some r) chosen = room_made-good r r.flags.dirty (victim-resident d.cache.pages r is.pages.once chosen) (victim-still d.cache.pages r chosen) refl
+  room_made-after : (victim : Victim) → MayMakeRoom d.cache.pages victim → IsDoneAfter d.node d.nodes p op (room_made d p task victim)
+  room_made-after (Victim.Drops u k) may =
+      fetched-after (with_dropped d u k) p task (IsDesk-with_dropped d u k is (idle-still (page_at d.cache.pages u k) may)) proc
+      (record { no_call = idle.no_call; no_page = idle.no_page; keeping = idle.keeping }) allowed op of
+      (absent-without d.cache.pages u k task.uid (page_of task) absent) alone ((u, k) ∷ [])
+  room_made-after (Victim.SendsHome r) may =
+      let chosen : is_dirty_choice r ≡ true = dirty-passes d.cache.pages r may.1 in
+      evicted-after r (page_at-oldest d.cache.pages is.pages.once is_dirty_choice r may.1) (choice-dirty r chosen) (choice-still r chosen)
+    where
+      dirty-passes : (pages : List Resident) (x : Resident) → oldest is_dirty_choice pages ≡ Some x → is_dirty_choice x ≡ true
+      dirty-passes pages x found = find-passes is_dirty_choice (reverse pages) x found
 
-  frame_by-good : (free : Bool) → IsGood p (frame_by d p task free)
-  frame_by-good true = fetched-good d p task is proc idle allowed absent alone []
-  frame_by-good false = room_by-good (victim_of d.cache.pages) refl
+      choice-dirty : (x : Resident) → is_dirty_choice x ≡ true → x.flags.dirty ≡ true
+      choice-dirty x chosen = grind (arith, nat_tests, chosen)
+
+      choice-still : (x : Resident) → is_dirty_choice x ≡ true → is_in_transit x ≡ false
+      choice-still x chosen = grind (arith, nat_tests, chosen)
+
+  frame_by-after : (free : Bool) → nat_lt 0 (free_count d.cache) ≡ free → Holds p (IsDoneAfter d.node d.nodes p op) (frame_by d p task free)
+  frame_by-after true some = fetched-after d p task is proc idle allowed op of absent alone []
+  frame_by-after false full = (
+    named-there d.cache.pages (victim-there d p is proc idle.no_page (grind (arith, nat_tests, full))),
+    is.pages.once,
+    room_made-after,
+  )
 
 -- a load or store, its local tests passed
-module _ (d : DeskState) (p : ℕ) (task : Task) (is : IsDesk d) (proc : IsProc p) (idle : IsIdle d p) (allowed : IsAllowed d.entries p task) where
-  missed_by-good : page_at d.cache.pages task.uid (page_of task) ≡ None → (fetches : Bool) → others_fetch d.moving p task.uid (page_of task) ≡ fetches → IsGood p (missed_by d p task fetches)
-  missed_by-good absent true others = waiting-good d p task is proc idle allowed
-  missed_by-good absent false alone = frame_by-good d p task is proc idle allowed absent alone (nat_lt 0 (free_count d.cache))
+module _ (d : DeskState) (p : ℕ) (task : Task) (is : IsDesk d) (proc : IsProc p) (idle : IsIdle d p) (allowed : IsAllowed d.entries p task) (op : Op) (of : IsTaskOf op (Some task)) where
+  missed_by-after : page_at d.cache.pages task.uid (page_of task) ≡ None → (fetches : Bool) → others_fetch d.moving p task.uid (page_of task) ≡ fetches → Holds p (IsDoneAfter d.node d.nodes p op) (missed_by d p task fetches)
+  missed_by-after absent true others = waiting-after d p task is proc idle allowed op of task.uid (page_of task)
+  missed_by-after absent false alone = frame_by-after d p task is proc idle allowed op of absent alone (nat_lt 0 (free_count d.cache)) refl
 
-  page_by-good : (o : Option Resident) → page_at d.cache.pages task.uid (page_of task) ≡ o → IsGood p (page_by d p task o)
-  page_by-good None absent = missed_by-good absent (others_fetch d.moving p task.uid (page_of task)) refl
-  page_by-good (Some r) found = performed-good d p task is proc idle allowed task.work r refl
+  page_by-after : (o : Option Resident) → page_at d.cache.pages task.uid (page_of task) ≡ o → Holds p (IsDoneAfter d.node d.nodes p op) (page_by d p task o)
+  page_by-after None absent = missed_by-after absent (others_fetch d.moving p task.uid (page_of task)) refl
+  page_by-after (Some r) found = let shown = rw found at (is.pages.each task.uid (page_of task)) in performed-after d p task is proc idle allowed op of task.work r refl shown.bytes
 
-  pub page_access-good : IsGood p (page_access d p task)
-  page_access-good = page_by-good (page_at d.cache.pages task.uid (page_of task)) refl
-
-  -- it is never refused, and a load gives as many bytes as were asked for
-  room_made-fits : (r : Resident) (dirty : Bool) → FitsWork task.work (room_made d p task r dirty).answer
-  room_made-fits r true = tt
-  room_made-fits r false = tt
-
-  room_by-fits : (o : Option Resident) → FitsWork task.work (room_by d p task o).answer
-  room_by-fits None = tt
-  room_by-fits (Some r) = room_made-fits r r.flags.dirty
-
-  frame_by-fits : (free : Bool) → FitsWork task.work (frame_by d p task free).answer
-  frame_by-fits true = tt
-  frame_by-fits false = room_by-fits (victim_of d.cache.pages)
-
-  missed_by-fits : (fetches : Bool) → FitsWork task.work (missed_by d p task fetches).answer
-  missed_by-fits true = tt
-  missed_by-fits false = frame_by-fits (nat_lt 0 (free_count d.cache))
-
-  page_by-fits : (o : Option Resident) → page_at d.cache.pages task.uid (page_of task) ≡ o → FitsWork task.work (page_by d p task o).answer
-  page_by-fits None absent = missed_by-fits (others_fetch d.moving p task.uid (page_of task))
-  page_by-fits (Some r) found = let shown = rw found at (is.pages.each task.uid (page_of task)) in performed-fits d p task is proc idle allowed task.work r refl shown.bytes
-
-  pub page_access-fits : FitsWork task.work (page_access d p task).answer
-  page_access-fits = page_by-fits (page_at d.cache.pages task.uid (page_of task)) refl
+  pub page_access-after : Holds p (IsDoneAfter d.node d.nodes p op) (page_access d p task)
+  page_access-after = page_by-after (page_at d.cache.pages task.uid (page_of task)) refl

@@ -1,7 +1,7 @@
 -- A page can always be chosen to make room, and the chosen one is not on its way home.
-use Rattle.std.proofs.Common.{◌≡◌, ℕ, ◌+◌, ◌≤◌, Bool, true, false, cond, List, [], ◌∷◌, ◌++◌, length, reverse, Option, Some, None, IsSome, count_by, refl, sym, ◌∙◌, arith}
+use Rattle.std.proofs.Common.{◌≡◌, ℕ, ◌+◌, ◌≤◌, Bool, true, false, cond, List, [], ◌∷◌, ◌++◌, length, reverse, Option, Some, None, IsSome, count_by, refl, sym, ap, subst, ◌∙◌, arith}
 use Rattle.std.specs.Prelude.{not, ◌&&◌}
-use Rattle.std.specs.Option.{option_or}
+use Rattle.std.specs.Option.{option_or, option_map}
 use Rattle.std.proofs.lemmas.List.{reverse-append}
 use Rattle.std.proofs.lemmas.Bool.Decides.{nat_tests}
 use Rattle.page_cache.specs.Caches.{Resident, page_at, free_count}
@@ -11,6 +11,7 @@ use Rattle.uid_names.proofs.ListLemmas.{count_by-cons, count_by-push, count_by-n
 use Rattle.page_cache.proofs.PageLemmas.{page_at-oldest}
 use Rattle.fault_handler.specs.declared.transits.Transit.{Transit}
 use Rattle.fault_handler.specs.ShownPages.{is_in_transit}
+use Rattle.fault_handler.specs.Victims.{Victim, MayMakeRoom, victim_by, named_victim}
 use Rattle.fault_handler.specs.Transits.{inward_count, outward_count}
 use Rattle.fault_handler.specs.Desks.{DeskState, at, count_of, moving_of}
 use Rattle.fault_handler.specs.Invariant.{IsProc, IsDesk}
@@ -101,3 +102,42 @@ victim-there d p is proc none full = by_victim (victim_of d.cache.pages) refl
         let marked : count_by is_in_transit d.cache.pages ≡ count_of outward_count d.moving = is.moved.marked in
         let frames : 5 ≤ d.cache.frames = is.frames in
         omega arith)
+
+-- the page that a cache names may make room
+pub named-may : (pages : List Resident) (v : Victim) → AreOnce pages → named_victim pages ≡ Some v → MayMakeRoom pages v
+named-may pages v once = by_victim (victim_of pages) refl
+  where
+    clean_is : (r : Resident) → is_clean_choice r ≡ true → r.flags.dirty ≡ false
+    clean_is r is = grind (arith, nat_tests, is)
+
+    -- a dirty one is named only where there is no clean one
+    by_dirty : (r : Resident) → victim_of pages ≡ Some r → r.flags.dirty ≡ true → (o : Option Resident) → oldest is_clean_choice pages ≡ o → (o ≡ None) × (oldest is_dirty_choice pages ≡ Some r)
+    by_dirty r chosen dirty None none = (refl, rw none at chosen)
+    by_dirty r chosen dirty (Some s) found =
+        let same : ◌≡◌ {A = Option Resident} (Some s) (Some r) = rw found at chosen in
+        let is : s ≡ r = cc in
+        let clean : s.flags.dirty ≡ false = clean_is s (find-passes is_clean_choice (reverse pages) s found) in
+        absurd (let e : true ≡ false = sym dirty ∙ ap (λ (x : Resident). x.flags.dirty) (sym is) ∙ clean in cc)
+
+    by_kind : (r : Resident) → victim_of pages ≡ Some r → (dirty : Bool) → r.flags.dirty ≡ dirty → MayMakeRoom pages (victim_by r dirty)
+    by_kind r chosen true dirty = let both = by_dirty r chosen dirty (oldest is_clean_choice pages) refl in both
+    by_kind r chosen false clean =
+        let still = victim-still pages r chosen in
+        rw (victim-resident pages r once chosen) (idle r clean still)
+      where
+        idle : (x : Resident) → x.flags.dirty ≡ false → is_in_transit x ≡ false → is_clean_choice x ≡ true
+        idle x c s = grind (arith, nat_tests, c, s)
+
+    by_victim : (o : Option Resident) → victim_of pages ≡ o → option_map (λ r. victim_by r r.flags.dirty) o ≡ Some v → MayMakeRoom pages v
+    by_victim None none named = absurd (cc)
+    by_victim (Some r) chosen named =
+        let is : victim_by r r.flags.dirty ≡ v = cc in
+        subst (MayMakeRoom pages) is (by_kind r chosen r.flags.dirty refl)
+
+-- it names one where one can be chosen
+pub named-there : (pages : List Resident) → IsSome (victim_of pages) → IsSome (named_victim pages)
+named-there pages = by_victim (victim_of pages)
+  where
+    by_victim : (o : Option Resident) → IsSome o → IsSome (option_map (λ r. victim_by r r.flags.dirty) o)
+    by_victim None some = some
+    by_victim (Some r) some = refl

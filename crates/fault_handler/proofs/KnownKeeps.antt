@@ -11,17 +11,19 @@ use Rattle.version_stamps.specs.Stamps.{stamp_of, with_stamp, without_stamp, rai
 use Rattle.version_stamps.proofs.LookUps.{stamp_of-with_stamp, stamp_of-without_stamp}
 use Rattle.fault_handler.specs.declared.entries.LockEntry.{LockEntry}
 use Rattle.fault_handler.specs.declared.lengths.Known.{Known}
-use Rattle.fault_handler.specs.Lengths.{known_of, with_known, known_after, grown, sent_length}
+use Rattle.fault_handler.specs.Lengths.{known_of, with_known, is_changed, known_after, grown, sent_if, sent_length}
 use Rattle.fault_handler.specs.Entries.{keeps}
-use Rattle.fault_handler.specs.Desks.{DeskState, entry_at, any_keeps}
-use Rattle.fault_handler.specs.Changes.{with_end, with_sent_length, with_known_row, with_seen, with_raised, with_forgotten}
-use Rattle.fault_handler.specs.Invariant.{IsKnown, AreKnown, IsDesk}
+use Rattle.fault_handler.specs.Desks.{DeskState, entry_at, any_keeps, any_writes}
+use Rattle.fault_handler.specs.Changes.{with_end, with_length_done, with_known_row, with_seen, with_raised, with_forgotten}
+use Rattle.fault_handler.specs.Invariant.{IsKnown, AreKnown, AreLengthsWritten, IsDesk}
 use Rattle.fault_handler.proofs.Fours.{any-at}
-use Rattle.fault_handler.proofs.KnownRows.{known_of-with_known}
+use Rattle.uid_names.proofs.Tables.{row_of-named}
+use Rattle.fault_handler.specs.Lengths.{known_name}
+use Rattle.fault_handler.proofs.KnownRows.{known_of-with_known, uid-grown, uid-sent}
 
 -- other rows and stamps
-pub IsDesk-known : (d : DeskState) (seen : List Stamp) (known : List Known) → IsDesk d → AreKnown seen known d.entries → IsDesk (record d { seen = seen; known = known })
-IsDesk-known d seen known is new = record {
+pub IsDesk-known : (d : DeskState) (seen : List Stamp) (known : List Known) → IsDesk d → AreKnown seen known d.entries → AreLengthsWritten known d.entries → IsDesk (record d { seen = seen; known = known })
+IsDesk-known d seen known is new written = record {
   four = record { entries = is.four.entries; maps = is.four.maps; calls = is.four.calls; tasks = is.four.tasks; moving = is.four.moving };
   frames = is.frames;
   maps = is.maps;
@@ -30,6 +32,8 @@ IsDesk-known d seen known is new = record {
   calls = is.calls;
   entries = is.entries;
   known = new;
+  lengths = written;
+  at_nodes = is.at_nodes;
 }
 
 -- what holds of the row that was chosen
@@ -107,31 +111,64 @@ IsKnown-sent n k is =
     (λ same. rw same (record { room = is.room; length = is.length }))
     (λ h. rw h is)
 
--- a store ended there
-pub IsDesk-with_end : (d : DeskState) (u : ObjectName) (end : ℕ) → IsDesk d → end ≤ MAX_LENGTH → IsDesk (with_end d u end)
-IsDesk-with_end d u end is within =
+-- changed lengths have writers where a row was set that is unchanged, or of an object with one
+AreLengthsWritten-row : (known : List Known) (entries : List (List LockEntry)) (row : Known) → AreLengthsWritten known entries → (row.changed ≡ true → any_writes entries row.uid ≡ true) → AreLengthsWritten (with_known row known) entries
+AreLengthsWritten-row known entries row are written u changed =
+    by_test (same_uid u row.uid) refl (subst (λ (o : Option Known). is_changed o ≡ true) (known_of-with_known row known u) changed)
+  where
+    by_test : (b : Bool) → same_uid u row.uid ≡ b → is_changed (if b then Some row else known_of u known) ≡ true → any_writes entries u ≡ true
+    by_test true same here = subst (λ (w : ObjectName). any_writes entries w ≡ true) (sym (same_uid_is u row.uid same)) (written here)
+    by_test false differ there = are u there
+
+-- a store ended there, of a process that keeps the object in a mode that writes
+pub IsDesk-with_end : (d : DeskState) (u : ObjectName) (end : ℕ) → IsDesk d → end ≤ MAX_LENGTH → any_writes d.entries u ≡ true → IsDesk (with_end d u end)
+IsDesk-with_end d u end is within writes =
     IsDesk-known d d.seen (known_after (grown end) (known_of u d.known) d.known) is
     (AreKnown-after d.seen d.known d.entries is.known (grown end) (IsKnown-grown end within) (known_of u d.known) (is.known.rows u))
+    (by_row (known_of u d.known) refl)
+  where
+    by_row : (o : Option Known) → known_of u d.known ≡ o → AreLengthsWritten (known_after (grown end) o d.known) d.entries
+    by_row None found = is.lengths
+    by_row (Some k) found =
+        AreLengthsWritten-row d.known d.entries (grown end k) is.lengths
+        (λ changed. subst (λ (w : ObjectName). any_writes d.entries w ≡ true) (sym (uid-grown end k ∙ row_of-named known_name u d.known k found)) writes)
 
--- the home took this length
-pub IsDesk-with_sent_length : (d : DeskState) (u : ObjectName) (n : ℕ) → IsDesk d → IsDesk (with_sent_length d u n)
-IsDesk-with_sent_length d u n is =
+-- a length that was sent was settled
+pub IsDesk-with_length_done : (d : DeskState) (u : ObjectName) (n : ℕ) (taken : Bool) → IsDesk d → IsDesk (with_length_done d u n taken)
+IsDesk-with_length_done d u n false is = IsDesk-known d d.seen d.known is is.known is.lengths
+IsDesk-with_length_done d u n true is =
     IsDesk-known d d.seen (known_after (sent_length n) (known_of u d.known) d.known) is
     (AreKnown-after d.seen d.known d.entries is.known (sent_length n) (IsKnown-sent n) (known_of u d.known) (is.known.rows u))
+    (by_row (known_of u d.known) refl)
+  where
+    -- a row that is changed after a length was sent was so before
+    was_changed : (k : Known) (b : Bool) → (sent_if b k).changed ≡ true → k.changed ≡ true
+    was_changed k true changed = absurd (cc)
+    was_changed k false changed = changed
 
--- a row of what is known of an object was set
-pub IsDesk-with_known_row : (d : DeskState) (row : Known) → IsDesk d → IsKnown row → IsDesk (with_known_row d row)
-IsDesk-with_known_row d row is known = IsDesk-known d d.seen (with_known row d.known) is (AreKnown-row d.seen d.known d.entries is.known row known)
+    by_row : (o : Option Known) → known_of u d.known ≡ o → AreLengthsWritten (known_after (sent_length n) o d.known) d.entries
+    by_row None found = is.lengths
+    by_row (Some k) found =
+        AreLengthsWritten-row d.known d.entries (sent_length n k) is.lengths
+        (λ changed.
+        subst (λ (w : ObjectName). any_writes d.entries w ≡ true) (sym (uid-sent n k ∙ row_of-named known_name u d.known k found))
+        (is.lengths u (rw found (was_changed k (k.length == n) changed))))
+
+-- a row of what is known of an object was set, of which the length is unchanged
+pub IsDesk-with_known_row : (d : DeskState) (row : Known) → IsDesk d → IsKnown row → row.changed ≡ false → IsDesk (with_known_row d row)
+IsDesk-with_known_row d row is known unchanged =
+    IsDesk-known d d.seen (with_known row d.known) is (AreKnown-row d.seen d.known d.entries is.known row known)
+    (AreLengthsWritten-row d.known d.entries row is.lengths (λ changed. absurd (let e : true ≡ false = sym changed ∙ unchanged in cc)))
 
 -- a stamp was set, of an object of which the room and the length are known
 pub IsDesk-with_seen : (d : DeskState) (u : ObjectName) (stamp : ℕ) → IsDesk d → 1 ≤ stamp → IsSome (known_of u d.known) → IsDesk (with_seen d u stamp)
 IsDesk-with_seen d u stamp is least row =
-    IsDesk-known d (with_stamp (record { uid = u; stamp = stamp }) d.seen) d.known is (AreKnown-stamp d.seen d.known d.entries is.known u stamp least row)
+    IsDesk-known d (with_stamp (record { uid = u; stamp = stamp }) d.seen) d.known is (AreKnown-stamp d.seen d.known d.entries is.known u stamp least row) is.lengths
 
 -- a stamp was set together with the room and the length
-pub IsDesk-learned : (d : DeskState) (row : Known) (stamp : ℕ) → IsDesk d → 1 ≤ stamp → IsKnown row → IsDesk (with_seen (with_known_row d row) row.uid stamp)
-IsDesk-learned d row stamp is least known =
-    IsDesk-with_seen (with_known_row d row) row.uid stamp (IsDesk-with_known_row d row is known) least
+pub IsDesk-learned : (d : DeskState) (row : Known) (stamp : ℕ) → IsDesk d → 1 ≤ stamp → IsKnown row → row.changed ≡ false → IsDesk (with_seen (with_known_row d row) row.uid stamp)
+IsDesk-learned d row stamp is least known unchanged =
+    IsDesk-with_seen (with_known_row d row) row.uid stamp (IsDesk-with_known_row d row is known unchanged) least
     (subst (λ (o : Option Known). IsSome o) (sym (known_of-with_known row d.known row.uid)) (let own : same_uid row.uid row.uid ≡ true = grind (arith, nat_tests) in rw own refl))
 
 -- the seen stamp became the greater of both
@@ -140,4 +177,4 @@ IsDesk-with_raised d u stamp is some least = IsDesk-with_seen d u (raised stamp 
 
 -- a stamp was forgotten, of an object that no process keeps
 pub IsDesk-with_forgotten : (d : DeskState) (u : ObjectName) → IsDesk d → any_keeps d.entries u ≡ false → IsDesk (with_forgotten d u)
-IsDesk-with_forgotten d u is none = IsDesk-known d (without_stamp u d.seen) d.known is (AreKnown-forgotten d.seen d.known d.entries is.known u none)
+IsDesk-with_forgotten d u is none = IsDesk-known d (without_stamp u d.seen) d.known is (AreKnown-forgotten d.seen d.known d.entries is.known u none) is.lengths

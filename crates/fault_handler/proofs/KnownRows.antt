@@ -11,14 +11,14 @@ pub known_of-with_known : (new : Known) (rows : List Known) (u : ObjectName) →
 known_of-with_known new rows u = row_of-with_row known_name new rows u
 
 -- a row that was changed is of the same object, of which something is known
-uid-grown : (end : ℕ) (k : Known) → (grown end k).uid ≡ k.uid
+pub uid-grown : (end : ℕ) (k : Known) → (grown end k).uid ≡ k.uid
 uid-grown end k = by_test (nat_lt k.length end)
   where
     by_test : (b : Bool) → (grown_if b end k).uid ≡ k.uid
     by_test true = refl
     by_test false = refl
 
-uid-sent : (length : ℕ) (k : Known) → (sent_length length k).uid ≡ k.uid
+pub uid-sent : (length : ℕ) (k : Known) → (sent_length length k).uid ≡ k.uid
 uid-sent length k = by_test (k.length == length)
   where
     by_test : (b : Bool) → (sent_if b k).uid ≡ k.uid

@@ -26,9 +26,10 @@ use Rattle.address_map.specs.Maps.{IsLayout}
 use Rattle.address_map.proofs.Keeps.{IsLayout-none}
 use Rattle.fault_handler.specs.Transits.{is_moving}
 use Rattle.fault_handler.specs.Conditions.{IsNotAccessing, IsOther, empty_desk}
-use Rattle.fault_handler.specs.Desks.{DeskState, procs, at, put_at, entry_at, any_keeps, any_writes, others_write, entries_of, open_call_of, task_of, moving_of}
+use Rattle.fault_handler.specs.Lengths.{known_of, is_changed}
+use Rattle.fault_handler.specs.Desks.{DeskState, IsNode, procs, at, put_at, entry_at, any_keeps, any_writes, others_write, entries_of, open_call_of, task_of, moving_of}
 use Rattle.fault_handler.specs.Changes.{with_state, with_note, with_call, with_maps}
-use Rattle.fault_handler.specs.Invariant.{IsProc, IsShownPage, is_dirty, FitsWay, FitsTransit, is_access, MayWork, IsAllowed, KeepsAll, FitsOpen, IsLockEntry, AreEntries, IsDesk}
+use Rattle.fault_handler.specs.Invariant.{IsProc, IsShownPage, is_dirty, FitsWay, FitsTransit, is_access, MayWork, IsAllowed, KeepsAll, FitsOpen, IsLockEntry, AreEntries, AreLengthsWritten, IsCallAtNode, IsDesk}
 use Rattle.fault_handler.proofs.Fours.{at-put_same, at-put_other, by_proc, length-put, each-put, any-at, any-of, any-more}
 use Rattle.fault_handler.proofs.PageLists.{found-uid}
 use Rattle.fault_handler.proofs.Moves.{FitsOpen-task, not_access}
@@ -151,7 +152,9 @@ module _ (d : DeskState) (new : List (List LockEntry)) (is : IsDesk d) where
       (writes : (v : ObjectName) (k : ℕ) → is_dirty (page_at d.cache.pages v k) ≡ true → any_writes d.entries v ≡ true → any_writes new v ≡ true)
       (stays : (q : ℕ) → IsProc q → IsSome (moving_of d q) → Stays d.entries new q)
       (keeping : (q : ℕ) → IsProc q → is_access (open_call_of d q) ≡ true → KeepsAll d.entries q → KeepsAll new q)
-      (stamped : (q : ℕ) → IsProc q → (v : ObjectName) → keeps (entry_at new q v) ≡ true → IsSome (stamp_of v d.seen)) where
+      (stamped : (q : ℕ) → IsProc q → (v : ObjectName) → keeps (entry_at new q v) ≡ true → IsSome (stamp_of v d.seen))
+      (lengths : AreLengthsWritten d.known new)
+      (located : (q : ℕ) → IsProc q → (v : ObjectName) → IsSome (entry_at new q v) → IsNode d.nodes v.home) where
     shown : (v : ObjectName) (k : ℕ) (o : Option Resident) → page_at d.cache.pages v k ≡ o → IfSome o (IsShownPage d.entries) → IfSome o (IsShownPage new)
     shown v k None found was = tt
     shown v k (Some r) found was = record {
@@ -201,6 +204,8 @@ module _ (d : DeskState) (new : List (List LockEntry)) (is : IsDesk d) where
       calls = opened;
       entries = entries;
       known = record { rows = is.known.rows; stamps = is.known.stamps; kept = stamped; both = is.known.both };
+      lengths = lengths;
+      at_nodes = record { locked = located; asked = is.at_nodes.asked };
     }
 
 -- a process's new entries, as all see them
@@ -225,7 +230,8 @@ by_entry P entries p new u four proc here others elsewhere q proc_q v = elim (ca
 
 -- a state was set
 module _ (d : DeskState) (p : ℕ) (u : ObjectName) (s : LockState) (grant : ℕ) (is : IsDesk d) (proc : IsProc p)
-    (given_up : keeps (entry_at d.entries p u) ≡ false) (seen : is_held s ≡ true → IsSome (stamp_of u d.seen)) (least : is_held s ≡ true → 1 ≤ grant) where
+    (given_up : keeps (entry_at d.entries p u) ≡ false) (seen : is_held s ≡ true → IsSome (stamp_of u d.seen)) (least : is_held s ≡ true → 1 ≤ grant)
+    (home : is_free s ≡ false → IsNode d.nodes u.home) where
   abbrev new : List LockEntry
   new = entries_after u s grant (entries_of d p)
 
@@ -263,6 +269,10 @@ module _ (d : DeskState) (p : ℕ) (u : ObjectName) (s : LockState) (grant : ℕ
       (λ is_kept. absurd (let e : true ≡ false = sym is_kept ∙ given_up in cc))
       (λ q proc_q v is_kept. refl)
 
+  -- an object that has an entry afterwards is not Free
+  not_free : IsSome (entry_after u s grant) → is_free s ≡ false
+  not_free some = by_cases (is_free s) (is_free s ≡ false) (λ free. absurd (let e : IsSome {T = LockEntry} None = rw free at some in cc)) (λ h. h)
+
   pub IsDesk-with_state : IsDesk (with_state d p u s grant)
   IsDesk-with_state =
       IsDesk-entries d (put_at d.entries p new) is (length-put d.entries p new is.four.entries)
@@ -271,11 +281,17 @@ module _ (d : DeskState) (p : ℕ) (u : ObjectName) (s : LockState) (grant : ℕ
       (λ q proc_q some. stays-after q proc_q)
       (λ q proc_q access all v. by_new (λ r w o. KeepsAll d.entries r → is_held (state_in o) ≡ true → keeps o ≡ true) (λ every. keeps-after.1) (λ r proc_r w every. every w) q proc_q v all)
       (by_new (λ q v o. keeps o ≡ true → IsSome (stamp_of v d.seen)) (λ is_kept. seen (keeps-after.0 is_kept)) (λ q proc_q v. is.known.kept q proc_q v))
+      (λ v changed. any_writes-stays d.entries (put_at d.entries p new) stays-after v (is.lengths v changed))
+      (by_new (λ q v o. IsSome o → IsNode d.nodes v.home) (λ some. home (not_free some)) is.at_nodes.locked)
 
 -- a noted entry is an entry, and is not kept
 IsLockEntry-noted : (o : Option LockEntry) → IfSome o IsLockEntry → IfSome (option_map (noted_if true) o) IsLockEntry
 IsLockEntry-noted None is = tt
 IsLockEntry-noted (Some e) is = is
+
+some-noted : (o : Option LockEntry) → IsSome (option_map (noted_if true) o) → IsSome o
+some-noted None some = absurd (cc)
+some-noted (Some e) some = refl
 
 keeps-noted : (o : Option LockEntry) → keeps (option_map (noted_if true) o) ≡ true → ⊥
 keeps-noted None is = cc
@@ -284,7 +300,8 @@ keeps-noted (Some e) is = grind (arith, nat_tests, is)
 -- a release or a removal was sent
 module _ (d : DeskState) (p : ℕ) (u : ObjectName) (is : IsDesk d) (proc : IsProc p) (other : IsNotAccessing d p)
     (dirty : (k : ℕ) → is_dirty (page_at d.cache.pages u k) ≡ true → others_write d.entries p u ≡ true)
-    (still : moving_of d p ≡ None) where
+    (still : moving_of d p ≡ None)
+    (changed : is_changed (known_of u d.known) ≡ true → others_write d.entries p u ≡ true) where
   abbrev noted : List (List LockEntry)
   noted = put_at d.entries p (entries_noted u (entries_of d p))
 
@@ -342,10 +359,12 @@ module _ (d : DeskState) (p : ℕ) (u : ObjectName) (is : IsDesk d) (proc : IsPr
       (λ q proc_q some v is_kept. noted-elsewhere q proc_q (mover q some) v)
       (λ q proc_q access all v. subst (λ (o : Option LockEntry). is_held (state_in o) ≡ true → keeps o ≡ true) (sym (noted-elsewhere q proc_q (another q access) v)) (all v))
       (by_noted (λ q v o. keeps o ≡ true → IsSome (stamp_of v d.seen)) (λ h. absurd (keeps-noted (entry_at d.entries p u) h)) (λ q proc_q v. is.known.kept q proc_q v))
+      (λ v h. passes-noted keeps_writing v (λ same. changed (subst (λ (w : ObjectName). is_changed (known_of w d.known) ≡ true) (same_uid_is v u same) h)) (is.lengths v h))
+      (by_noted (λ q v o. IsSome o → IsNode d.nodes v.home) (λ some. is.at_nodes.locked p proc u (some-noted (entry_at d.entries p u) some)) is.at_nodes.locked)
 
 -- an open call was set that neither is nor was that of a load or store
-pub IsDesk-with_call : (d : DeskState) (p : ℕ) (call : Option OpenCall) → IsDesk d → IsProc p → IsNotAccessing d p → IsOther call → IsDesk (with_call d p call)
-IsDesk-with_call d p call is proc other new_other = record {
+pub IsDesk-with_call : (d : DeskState) (p : ℕ) (call : Option OpenCall) → IsDesk d → IsProc p → IsNotAccessing d p → IsOther call → IfSome call (IsCallAtNode d.nodes) → IsDesk (with_call d p call)
+IsDesk-with_call d p call is proc other new_other located = record {
   four = record { entries = is.four.entries; maps = is.four.maps; calls = length-put d.calls p call is.four.calls; tasks = is.four.tasks; moving = is.four.moving };
   frames = is.frames;
   maps = is.maps;
@@ -356,6 +375,8 @@ IsDesk-with_call d p call is proc other new_other = record {
       (λ q proc_q differs. is.calls q proc_q);
   entries = is.entries;
   known = is.known;
+  lengths = is.lengths;
+  at_nodes = record { locked = is.at_nodes.locked; asked = each-put (λ q c. IfSome c (IsCallAtNode d.nodes)) d.calls p call None is.four.calls proc located (λ q proc_q differs. is.at_nodes.asked q proc_q) };
 }
 
 -- mappings were set, which are laid out
@@ -369,6 +390,8 @@ IsDesk-with_maps d p maps is proc layout = record {
   calls = is.calls;
   entries = is.entries;
   known = is.known;
+  lengths = is.lengths;
+  at_nodes = is.at_nodes;
 }
 
 -- a desk without pages, locks and mappings
@@ -391,6 +414,11 @@ IsDesk-empty_desk node nodes frames least = record {
     stamps = λ u. tt;
     kept = λ q proc u. by_proc (λ r. keeps (entry_at (empty_desk node nodes frames).entries r u) ≡ true → IsSome (stamp_of u [])) (λ h. h) (λ h. h) (λ h. h) (λ h. h) q proc;
     both = λ u h. h;
+  };
+  lengths = λ u h. absurd (cc);
+  at_nodes = record {
+    locked = λ q proc u. by_proc (λ r. IsSome (entry_at (empty_desk node nodes frames).entries r u) → IsNode nodes u.home) (λ h. absurd (cc)) (λ h. absurd (cc)) (λ h. absurd (cc)) (λ h. absurd (cc)) q proc;
+    asked = by_proc (λ q. IfSome (at (empty_desk node nodes frames).calls q None) (IsCallAtNode nodes)) tt tt tt tt;
   };
 }
   where

@@ -31,6 +31,8 @@ IsDesk-pages d new is are same alike = record {
   calls = AreOpen-alike d.cache.reserved d.cache.pages new d.entries d.calls d.tasks d.moving is.moved is.calls (λ q proc v j moves. alike v j);
   entries = is.entries;
   known = is.known;
+  lengths = is.lengths;
+  at_nodes = is.at_nodes;
 }
 
 -- a page was used

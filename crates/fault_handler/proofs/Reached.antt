@@ -1,22 +1,23 @@
 -- What the code of a desk meets: pages that are on their way are there, and how room is made.
-use Rattle.std.proofs.Common.{◌≡◌, ◌∙◌, ℕ, ◌+◌, ◌<◌, ◌≤◌, length, not, arith, true, false, Option, Some, None, IsSome, IfSome, List, [], ◌∷◌, refl, ap}
+use Rattle.std.proofs.Common.{◌≡◌, ◌∙◌, ℕ, ◌+◌, ◌<◌, ◌≤◌, Bool, length, not, arith, true, false, Option, Some, None, IsSome, IfSome, List, [], ◌∷◌, refl, sym, ap, subst}
 use Rattle.std.specs.Option.{option_map}
 use Rattle.uid_names.specs.Names.{ObjectName}
 use Rattle.page_cache.specs.Caches.{Resident, page_at, is_page, free_count}
 use Rattle.page_cache.specs.Changes.{without_page}
 use Rattle.page_cache.specs.Victims.{victim_of, name_of}
-use Rattle.uid_names.proofs.Finds.{find-passes}
 use Rattle.uid_names.proofs.ListLemmas.{find-count_none, count_by-none, count_by-found, count_by-filter-le, length-filter_not}
+use Rattle.ring_messages.specs.Bodies.{body_of_ask}
 use Rattle.ring_messages.specs.declared.body.Body.{Body}
 use Rattle.fault_handler.specs.declared.tasks.Task.{Task}
 use Rattle.fault_handler.specs.declared.access.Access.{Access}
 use Rattle.fault_handler.specs.declared.access.Access.TheVariants.{Need}
 use Rattle.fault_handler.specs.Desks.{DeskState}
 use Rattle.fault_handler.specs.Changes.{with_eviction, with_dropped}
-use Rattle.fault_handler.specs.Accesses.{page_out, fetched, room_made, room_by}
-use Rattle.fault_handler.specs.Answered.{Gives}
+use Rattle.fault_handler.specs.Victims.{Victim, victim_by, named_victim}
+use Rattle.fault_handler.specs.Accesses.{Accessed, page_out, fetched, room_made}
+use Rattle.fault_handler.specs.Unseen.{GivesTo, ComesTo}
 use Rattle.fault_handler.specs.Invariant.{is_marked, is_dirty}
-use Rattle.fault_handler.proofs.PageLists.{AreOnce, same-uid, same-page}
+use Rattle.fault_handler.proofs.PageLists.{AreOnce, found-uid, found-page}
 use Rattle.fault_handler.proofs.TransitKeeps.{there_is}
 use Rattle.fault_handler.proofs.Choice.{victim-resident, victim-still}
 
@@ -51,15 +52,14 @@ no-victim pages there none = let found = there_is (victim_of pages) there in let
 
 -- a page was sent home to make room
 pub gives-evicted : (old new : DeskState) (p : ℕ) (task : Task) (u : ObjectName) (k home : ℕ) (body : Body) (dropped : List (ObjectName × ℕ)) → new ≡ with_eviction old p task u k → home ≡ u.home
-    → option_map (λ r. page_out old u k r.bytes) (page_at old.cache.pages u k) ≡ Some body → dropped ≡ [] → IfSome (page_at old.cache.pages u k) (λ r. Gives new (room_made old p task r true) (Need home body dropped))
+    → option_map (λ r. body_of_ask (page_out old u k r.bytes)) (page_at old.cache.pages u k) ≡ Some body → dropped ≡ [] → IfSome (page_at old.cache.pages u k) (λ r. GivesTo new (room_made old p task (Victim.SendsHome r)) (Need home body dropped))
 gives-evicted old new p task u k home body dropped desk at asks none = by_page (page_at old.cache.pages u k) refl asks
   where
-    by_page : (o : Option Resident) → page_at old.cache.pages u k ≡ o → option_map (λ r. page_out old u k r.bytes) o ≡ Some body → IfSome o (λ r. Gives new (room_made old p task r true) (Need home body dropped))
+    by_page : (o : Option Resident) → page_at old.cache.pages u k ≡ o → option_map (λ r. body_of_ask (page_out old u k r.bytes)) o ≡ Some body → IfSome o (λ r. GivesTo new (room_made old p task (Victim.SendsHome r)) (Need home body dropped))
     by_page None found asked = tt
     by_page (Some r) found asked =
-        let is : is_page u k r ≡ true = find-passes (is_page u k) old.cache.pages r found in
-        let sent : page_out old u k r.bytes ≡ body = cc in
-        rw (same-uid r.uid r.page u k is, same-page r.uid r.page u k is, desk, at, none, ← sent) refl
+        let sent : body_of_ask (page_out old u k r.bytes) ≡ body = cc in
+        rw (found-uid old.cache.pages u k r found, found-page old.cache.pages u k r found) (desk, rw (at, none, ← sent) refl)
 
 -- a frame is free after a page was dropped, and what was not resident is not
 module _ (d : DeskState) (u : ObjectName) (k : ℕ) where
@@ -73,13 +73,28 @@ module _ (d : DeskState) (u : ObjectName) (k : ℕ) where
       find-count_none (is_page v j) (without_page d.cache.pages u k)
       (omega (arith, count_by-none (is_page v j) d.cache.pages none, count_by-filter-le (is_page v j) (λ r. not (is_page u k r)) d.cache.pages))
 
--- a clean page was dropped to make room
-pub gives-dropped : (old mid new : DeskState) (p : ℕ) (task : Task) (u : ObjectName) (k : ℕ) (dropped : List (ObjectName × ℕ)) (answer : Access) → mid ≡ with_dropped old u k → dropped ≡ (u, k) ∷ [] → Gives new (fetched mid p task dropped) answer
-    → page_at old.cache.pages u k ≡ victim_of old.cache.pages → IsSome (page_at old.cache.pages u k) → is_dirty (page_at old.cache.pages u k) ≡ false → Gives new (room_by old p task (victim_of old.cache.pages)) answer
-gives-dropped old mid new p task u k dropped answer desk list gives chosen there clean = rw (← chosen) (by_page (page_at old.cache.pages u k) refl there clean)
-  where
-    by_page : (o : Option Resident) → page_at old.cache.pages u k ≡ o → IsSome o → is_dirty o ≡ false → Gives new (room_by old p task o) answer
-    by_page None found some is = absurd (cc)
-    by_page (Some r) found some is =
-        let named : is_page u k r ≡ true = find-passes (is_page u k) old.cache.pages r found in
-        rw (is, same-uid r.uid r.page u k named, same-page r.uid r.page u k named) (rw (desk, list) at gives)
+-- the page that is named is the chosen one
+named-is : (pages : List Resident) (r : Resident) (v : Victim) (dirty : Bool) → victim_of pages ≡ Some r → r.flags.dirty ≡ dirty → named_victim pages ≡ Some v → victim_by r dirty ≡ v
+named-is pages r v dirty chosen is named =
+    let h : ◌≡◌ {A = Option Victim} (Some (victim_by r r.flags.dirty)) (Some v) = rw chosen at named in
+    let same : victim_by r r.flags.dirty ≡ v = cc in
+    subst (λ (b : Bool). victim_by r b ≡ v) is same
+
+module _ (old new : DeskState) (p : ℕ) (task : Task) (u : ObjectName) (k : ℕ) (answer : Access) (chosen : page_at old.cache.pages u k ≡ victim_of old.cache.pages) (there : IsSome (page_at old.cache.pages u k)) where
+  -- a dirty page was sent home
+  pub comes-evicted : is_dirty (page_at old.cache.pages u k) ≡ true → IfSome (page_at old.cache.pages u k) (λ r. GivesTo new (room_made old p task (Victim.SendsHome r)) answer) → ComesTo p new (Accessed.NeedsRoom old task) answer
+  comes-evicted dirty gives victim named = by_page (page_at old.cache.pages u k) refl there dirty gives
+    where
+      by_page : (o : Option Resident) → page_at old.cache.pages u k ≡ o → IsSome o → is_dirty o ≡ true → IfSome o (λ r. GivesTo new (room_made old p task (Victim.SendsHome r)) answer) → GivesTo new (room_made old p task victim) answer
+      by_page None found some is given = absurd (cc)
+      by_page (Some r) found some is given = subst (λ (v : Victim). GivesTo new (room_made old p task v) answer) (named-is old.cache.pages r victim true (sym chosen ∙ found) is named) given
+
+  -- a clean page was dropped
+  pub comes-dropped : (mid : DeskState) (dropped : List (ObjectName × ℕ)) → mid ≡ with_dropped old u k → dropped ≡ (u, k) ∷ [] → is_dirty (page_at old.cache.pages u k) ≡ false → GivesTo new (fetched mid p task dropped) answer → ComesTo p new (Accessed.NeedsRoom old task) answer
+  comes-dropped mid dropped desk list clean gives victim named = by_page (page_at old.cache.pages u k) refl there clean
+    where
+      by_page : (o : Option Resident) → page_at old.cache.pages u k ≡ o → IsSome o → is_dirty o ≡ false → GivesTo new (room_made old p task victim) answer
+      by_page None found some is = absurd (cc)
+      by_page (Some r) found some is =
+          subst (λ (v : Victim). GivesTo new (room_made old p task v) answer) (named-is old.cache.pages r victim false (sym chosen ∙ found) is named)
+          (rw (found-uid old.cache.pages u k r found, found-page old.cache.pages u k r found) (rw (desk, list) at gives))

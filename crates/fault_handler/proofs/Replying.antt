@@ -1,37 +1,37 @@
 -- What the code of a desk meets where an answer comes to the call of a load or store.
-use Rattle.std.proofs.Common.{◌≡◌, ◌∙◌, ℕ, nat_lt, Bool, true, false, ap, Option, Some, None, IsSome, IfSome, Result, Ok, Err, IfOk, List, [], ◌∷◌, take, drop, refl, sym, subst, arith}
+use Rattle.std.proofs.Common.{◌≡◌, ◌∙◌, ℕ, nat_lt, Bool, true, false, not, ap, Option, Some, None, IsSome, IfSome, Result, IfOk, List, [], ◌∷◌, take, drop, refl, sym, subst, arith}
 use Rattle.std.specs.Option.{option_map}
+use Rattle.std.proofs.lemmas.Option.{same_Some}
 use Rattle.uid_names.specs.Names.{ObjectName}
 use Rattle.std.proofs.lemmas.Bool.Decides.{nat_tests}
+use Rattle.uid_names.proofs.ListLemmas.{by_cases}
 use Rattle.page_cache.specs.Caches.{Resident, is_page, page_at}
+use Rattle.page_cache.specs.Changes.{used, without_page}
 use Rattle.version_stamps.specs.Stamps.{stamp_of}
-use Rattle.dom_history.specs.declared.op.Op.{Op}
 use Rattle.dom_history.specs.declared.op.Reply.TheVariants.{Bytes}
+use Rattle.ring_messages.specs.Bodies.{Answer, body_of_ask}
 use Rattle.ring_messages.specs.declared.body.Body.{Body}
-use Rattle.fault_handler.specs.ShownPages.{fresh_page}
+use Rattle.ring_messages.specs.declared.body.Body.TheVariants as bodies
+use Rattle.fault_handler.specs.ShownPages.{fresh_page, changed_page, settled}
 use Rattle.fault_handler.specs.Tasks.{page_of, start_of}
-use Rattle.fault_handler.specs.Unseen.{loaded_from}
+use Rattle.fault_handler.specs.Unseen.{loaded_from, loaded_at, said_to, GivesTo, ComesTo}
 use Rattle.fault_handler.specs.declared.tasks.Work.{Work}
 use Rattle.fault_handler.specs.declared.tasks.Work.TheVariants.{Load, Store}
 use Rattle.fault_handler.specs.declared.tasks.Task.{Task}
+use Rattle.fault_handler.specs.declared.transits.Transit.{Transit}
 use Rattle.fault_handler.specs.declared.access.Access.{Access}
 use Rattle.fault_handler.specs.declared.access.Access.TheVariants.{Hit, Need}
 use Rattle.fault_handler.specs.Transits.{coming, going}
 use Rattle.fault_handler.specs.Desks.{DeskState, task_of, moving_of, base_of}
 use Rattle.fault_handler.specs.Changes.{with_used, with_raised, with_arrival, with_room_settled, with_sent_again}
-use Rattle.fault_handler.specs.Accesses.{Accessed, performed, page_by, page_access, page_out}
-use Rattle.fault_handler.specs.PageReplies.{page_by_stamp, room_taken, room_stale, room_sent_again}
-use Rattle.fault_handler.specs.Conditions.{IsIdle, IsAccessing}
-use Rattle.fault_handler.specs.Answered.{Gives}
-use Rattle.fault_handler.specs.Outcomes.{FitsAnswer, FitsWork, IsAsked, AfterAccess}
+use Rattle.fault_handler.specs.Accesses.{performed, page_by, page_access, page_out}
+use Rattle.fault_handler.specs.PageReplies.{PageAnswer, answer_outward, answer_by, answer_with, page_by_stamp, page_came_of, room_taken, room_sent_again}
+use Rattle.fault_handler.specs.Conditions.{IsIdle, IsAccessing, MayWantAt}
 use Rattle.fault_handler.specs.Invariant.{IsProc, IsDesk, IsAllowed, is_marked}
+use Rattle.fault_handler.proofs.PageLists.{is_same, same-uid, same-page, found-uid, found-page, without_page-none, page_at-changed_same, page_at-changed_other}
 use Rattle.fault_handler.proofs.TransitKeeps.{open_task, page-comes, coming-absent, going-marked}
+use Rattle.fault_handler.proofs.Outcomes.{IfOk-more}
 use Rattle.fault_handler.proofs.Accessing.{stamp-seen}
-
--- what holds of an answer, where there is one
-pub IfOk-more : {A E : Type 0} (r : Result A E) (P Q : A → Type 0) → ((a : A) → P a → Q a) → IfOk r P → IfOk r Q
-IfOk-more (Ok a) P Q more holds = more a holds
-IfOk-more (Err e) P Q more holds = tt
 
 -- what holds of the load or store that is open holds of it, whichever it is
 of_task : (P : Task → Type 0) (o : Option Task) (a : Task) → o ≡ Some a → P a → IfSome o P
@@ -83,26 +83,69 @@ module _ (d : DeskState) (p : ℕ) (is : IsDesk d) (proc : IsProc p) (u : Object
         (ap (λ t. t.uid) (sym is_task) ∙ found.2, ap page_of (sym is_task) ∙ found.3)
 
     -- another one is installed, and the load or store is done
-    gives-arrived : (new : DeskState) (answer : Access) (task : Task) (stamp : ℕ) (bytes : List ℕ) → nat_lt stamp (base_of d.seen u) ≡ false → task.uid ≡ u → page_of task ≡ k → Gives new (page_access (with_arrival (with_raised d u stamp) p u k bytes) p task) answer
-        → Gives new (page_by_stamp d p task stamp bytes (nat_lt stamp (base_of d.seen task.uid))) answer
+    gives-arrived : (new : DeskState) (answer : Access) (task : Task) (stamp : ℕ) (bytes : List ℕ) → nat_lt stamp (base_of d.seen u) ≡ false → task.uid ≡ u → page_of task ≡ k
+        → GivesTo new (performed (with_arrival (with_raised d u stamp) p u k bytes) task task.work (fresh_page u k bytes)) answer
+        → GivesTo new (page_by_stamp d p task stamp bytes (nat_lt stamp (base_of d.seen task.uid))) answer
     gives-arrived new answer task stamp bytes fresh uid page gives =
-        let at_uid = subst (λ (v : ObjectName). Gives new (page_access (with_arrival (with_raised d v stamp) p v k bytes) p task) answer) (sym uid) gives in
-        let at_page = subst (λ (j : ℕ). Gives new (page_access (with_arrival (with_raised d task.uid stamp) p task.uid j bytes) p task) answer) (sym page) at_uid in
+        let at_uid = subst (λ (v : ObjectName). GivesTo new (performed (with_arrival (with_raised d v stamp) p v k bytes) task task.work (fresh_page v k bytes)) answer) (sym uid) gives in
+        let at_page = subst (λ (j : ℕ). GivesTo new (performed (with_arrival (with_raised d task.uid stamp) p task.uid j bytes) task task.work (fresh_page task.uid j bytes)) answer) (sym page) at_uid in
         let fresh_there : nat_lt stamp (base_of d.seen task.uid) ≡ false = ap (λ v. nat_lt stamp (base_of d.seen v)) uid ∙ fresh in
-        subst (λ (older : Bool). Gives new (page_by_stamp d p task stamp bytes older) answer) (sym fresh_there) at_page
+        subst (λ (older : Bool). GivesTo new (page_by_stamp d p task stamp bytes older) answer) (sym fresh_there) at_page
 
-    pub gives-arrival : (new : DeskState) (answer : Access) (task : Task) (stamp : ℕ) (bytes : List ℕ) → nat_lt stamp (base_of d.seen u) ≡ false → task_of d p ≡ Some task → Gives new (page_access (with_arrival (with_raised d u stamp) p u k bytes) p task) answer
-        → IfSome (task_of d p) (λ t. Gives new (page_by_stamp d p t stamp bytes (nat_lt stamp (base_of d.seen t.uid))) answer)
+    pub gives-arrival : (new : DeskState) (answer : Access) (task : Task) (stamp : ℕ) (bytes : List ℕ) → nat_lt stamp (base_of d.seen u) ≡ false → task_of d p ≡ Some task
+        → GivesTo new (performed (with_arrival (with_raised d u stamp) p u k bytes) task task.work (fresh_page u k bytes)) answer
+        → IfSome (task_of d p) (λ t. GivesTo new (page_by_stamp d p t stamp bytes (nat_lt stamp (base_of d.seen t.uid))) answer)
     gives-arrival new answer task stamp bytes fresh there gives =
         let needed = task-comes task there in
-        of_task (λ t. Gives new (page_by_stamp d p t stamp bytes (nat_lt stamp (base_of d.seen t.uid))) answer) (task_of d p) task there (gives-arrived new answer task stamp bytes fresh needed.0 needed.1 gives)
+        of_task (λ t. GivesTo new (page_by_stamp d p t stamp bytes (nat_lt stamp (base_of d.seen t.uid))) answer) (task_of d p) task there (gives-arrived new answer task stamp bytes fresh needed.0 needed.1 gives)
 
-    -- the page that the load or store needs is there then
+    -- an old one is asked for again
+    pub gives-old : (home stamp : ℕ) (bytes : List ℕ) (body : Body) (dropped : List (ObjectName × ℕ)) → nat_lt stamp (base_of d.seen u) ≡ true → home ≡ u.home → body ≡ bodies.PageIn u k → dropped ≡ []
+        → IfSome (task_of d p) (λ t. GivesTo d (page_by_stamp d p t stamp bytes (nat_lt stamp (base_of d.seen t.uid))) (Need home body dropped))
+    gives-old home stamp bytes body dropped older at asks none = by_task (task_of d p) refl
+      where
+        by_task : (o : Option Task) → task_of d p ≡ o → IfSome o (λ t. GivesTo d (page_by_stamp d p t stamp bytes (nat_lt stamp (base_of d.seen t.uid))) (Need home body dropped))
+        by_task None there = tt
+        by_task (Some t) there =
+            let needed = task-comes t there in
+            let older_there : nat_lt stamp (base_of d.seen t.uid) ≡ true = ap (λ v. nat_lt stamp (base_of d.seen v)) needed.0 ∙ older in
+            subst (λ (b : Bool). GivesTo d (page_by_stamp d p t stamp bytes b) (Need home body dropped)) (sym older_there)
+            (refl, rw (at, asks, none, needed.0, needed.1) refl)
+
+    -- the page that the load or store needs is there then, and was used last
     pub arrived-there : (bytes : List ℕ) (task : Task) → task_of d p ≡ Some task → page_at (fresh_page u k bytes ∷ d.cache.pages) task.uid (page_of task) ≡ Some (fresh_page u k bytes)
     arrived-there bytes task there =
         let needed = task-comes task there in
         let here : is_page task.uid (page_of task) (fresh_page u k bytes) ≡ true = rw (needed.0, needed.1) (grind (arith, nat_tests)) in
         rw here refl
+
+    pub arrived-last : (bytes : List ℕ) (task : Task) → task_of d p ≡ Some task → used (fresh_page u k bytes ∷ d.cache.pages) task.uid (page_of task) ≡ fresh_page u k bytes ∷ d.cache.pages
+    arrived-last bytes task there = let needed = task-comes task there in at_name task.uid (page_of task) needed.0 needed.1
+      where
+        own : is_page u k (fresh_page u k bytes) ≡ true
+        own = grind (arith, nat_tests)
+
+        here : used (fresh_page u k bytes ∷ d.cache.pages) u k ≡ fresh_page u k bytes ∷ without_page d.cache.pages u k
+        here = rw own refl
+
+        at_name : (v : ObjectName) (j : ℕ) → v ≡ u → j ≡ k → used (fresh_page u k bytes ∷ d.cache.pages) v j ≡ fresh_page u k bytes ∷ d.cache.pages
+        at_name v j uid page =
+            subst (λ (w : ObjectName). used (fresh_page u k bytes ∷ d.cache.pages) w j ≡ fresh_page u k bytes ∷ d.cache.pages) (sym uid)
+            (subst (λ (n : ℕ). used (fresh_page u k bytes ∷ d.cache.pages) u n ≡ fresh_page u k bytes ∷ d.cache.pages) (sym page)
+            (here ∙ ap (λ (ps : List Resident). fresh_page u k bytes ∷ ps) (without_page-none d.cache.pages u k (coming-absent d p is proc u k comes).0)))
+
+    -- at a page that came memory may be wanted, where it is no old one
+    pub wants-page : (stamp : ℕ) (bytes : List ℕ) → nat_lt stamp (base_of d.seen u) ≡ false → IfSome (said_to d p (Some (Answer.Page stamp bytes))) (MayWantAt d)
+    wants-page stamp bytes fresh = by_open (task_of d p) refl (moving_of d p) comes
+      where
+        by_way : (task : Task) → task_of d p ≡ Some task → (x : Transit) (b : Bool) → b ≡ true → IfSome (answer_by d.cache.pages task x b (Answer.Page stamp bytes)) (MayWantAt d)
+        by_way task there x true inward = ap (λ v. nat_lt stamp (base_of d.seen v)) (task-comes task there).0 ∙ fresh
+        by_way task there x false inward = absurd (cc)
+
+        by_open : (o : Option Task) → task_of d p ≡ o → (m : Option Transit) → m ≡ coming u k → IfSome (answer_with d.cache.pages o m (Answer.Page stamp bytes)) (MayWantAt d)
+        by_open None there m is_m = tt
+        by_open (Some task) there None is_m = absurd (cc)
+        by_open (Some task) there (Some x) is_m = by_way task there x x.inward (ap (λ (t : Transit). t.inward) (same_Some x (record { uid = u; page = k; inward = true }) is_m))
 
   -- a page went home
   module _ (access : IsAccessing d p) (goes : moving_of d p ≡ going u k) where
@@ -112,55 +155,133 @@ module _ (d : DeskState) (p : ℕ) (is : IsDesk d) (proc : IsProc p) (u : Object
     pub marked-going : is_marked (page_at d.cache.pages u k) ≡ true
     marked-going = (going-marked d p is proc u k goes).0
 
-    pub gives-again : (new : DeskState) (stamp home : ℕ) (body : Body) (dropped : List (ObjectName × ℕ)) → new ≡ with_sent_again (with_raised d u stamp) u k → home ≡ u.home → option_map (λ r. page_out (with_raised d u stamp) u k r.bytes) (page_at d.cache.pages u k) ≡ Some body → dropped ≡ []
-        → IfSome (task_of d p) (λ task. Gives new (room_stale d task u k stamp) (Need home body dropped))
-    gives-again new stamp home body dropped sent at asks none =
-        let found = open_task d p is proc access in
-        of_task (λ task. Gives new (room_stale d task u k stamp) (Need home body dropped)) (task_of d p) found.0 found.2
-        (by_page found.0 (page_at d.cache.pages u k) asks)
+    pub gives-again : (new : DeskState) (stamp home : ℕ) (body : Body) (dropped : List (ObjectName × ℕ)) → new ≡ with_sent_again (with_raised d u stamp) u k → home ≡ u.home
+        → option_map (λ r. body_of_ask (page_out (with_raised d u stamp) u k r.bytes)) (page_at d.cache.pages u k) ≡ Some body → dropped ≡ []
+        → IfSome (page_at d.cache.pages u k) (λ r. GivesTo new (room_sent_again (with_raised d r.uid stamp) r) (Need home body dropped))
+    gives-again new stamp home body dropped sent at asks none = by_page (page_at d.cache.pages u k) refl asks
       where
-        by_page : (task : Task) (o : Option Resident) → option_map (λ r. page_out (with_raised d u stamp) u k r.bytes) o ≡ Some body → Gives new (room_sent_again (with_raised d u stamp) task u k o) (Need home body dropped)
-        by_page task None asked = absurd (cc)
-        by_page task (Some r) asked = let is_body : page_out (with_raised d u stamp) u k r.bytes ≡ body = cc in rw (sent, at, none, ← is_body) refl
+        by_page : (o : Option Resident) → page_at d.cache.pages u k ≡ o → option_map (λ r. body_of_ask (page_out (with_raised d u stamp) u k r.bytes)) o ≡ Some body
+            → IfSome o (λ r. GivesTo new (room_sent_again (with_raised d r.uid stamp) r) (Need home body dropped))
+        by_page None found asked = tt
+        by_page (Some r) found asked =
+            let is_body : body_of_ask (page_out (with_raised d u stamp) u k r.bytes) ≡ body = cc in
+            rw (found-uid d.cache.pages u k r found, found-page d.cache.pages u k r found) (sent, rw (at, none, ← is_body) refl)
 
--- a load whose bytes were taken from its page
-pub gives-loaded : (d : DeskState) (p : ℕ) (task : Task) (bytes : List ℕ) → IsSome (page_at d.cache.pages task.uid (page_of task)) → IfSome (page_at d.cache.pages task.uid (page_of task)) (λ r. ◌≡◌ {A = Option (List ℕ)} (Some bytes) (loaded_from r.bytes (start_of task) task.work))
-    → Gives (with_used d task.uid (page_of task)) (page_access d p task) (Hit (Bytes bytes) [])
-gives-loaded d p task bytes there takes = by_page (page_at d.cache.pages task.uid (page_of task)) there takes
+    -- the home took it: the access is made anew
+    pub gives-taken : (new : DeskState) (stamp : ℕ) (answer : Access) (task : Task) → task_of d p ≡ Some task → ComesTo p new (page_access (with_raised (with_room_settled d p u k true) u stamp) p task) answer
+        → IfSome (task_of d p) (λ t. IfSome (page_at d.cache.pages u k) (λ r. ComesTo p new (page_access (room_taken d p r stamp) p t) answer))
+    gives-taken new stamp answer task there gives =
+        of_task (λ t. IfSome (page_at d.cache.pages u k) (λ r. ComesTo p new (page_access (room_taken d p r stamp) p t) answer)) (task_of d p) task there (by_page (page_at d.cache.pages u k) refl)
+      where
+        by_page : (o : Option Resident) → page_at d.cache.pages u k ≡ o → IfSome o (λ r. ComesTo p new (page_access (room_taken d p r stamp) p task) answer)
+        by_page None found = tt
+        by_page (Some r) found =
+            subst (λ (v : ObjectName). ComesTo p new (page_access (with_raised (with_room_settled d p v r.page true) v stamp) p task) answer) (sym (found-uid d.cache.pages u k r found))
+            (subst (λ (j : ℕ). ComesTo p new (page_access (with_raised (with_room_settled d p u j true) u stamp) p task) answer) (sym (found-page d.cache.pages u k r found)) gives)
+
+-- a load takes as much from its page once another's way home was settled, and as many frames are free
+pub loaded-settled : (pages : List Resident) (u : ObjectName) (k : ℕ) (taken : Bool) (task : Task) → loaded_at (page_at (changed_page u k (settled taken) pages) task.uid (page_of task)) task ≡ loaded_at (page_at pages task.uid (page_of task)) task
+loaded-settled pages u k taken task =
+    by_cases
+    (is_same task.uid (page_of task) u k)
+    (loaded_at (page_at (changed_page u k (settled taken) pages) task.uid (page_of task)) task ≡ loaded_at (page_at pages task.uid (page_of task)) task)
+    (λ same.
+    at_same task.uid (page_of task) (same-uid task.uid (page_of task) u k same) (same-page task.uid (page_of task) u k same))
+    (λ differ. ap (λ (o : Option Resident). loaded_at o task) (page_at-changed_other u k (settled taken) (λ v j r. refl) pages task.uid (page_of task) differ))
   where
-    by_work : (r : Resident) (work : Work) → ◌≡◌ {A = Option (List ℕ)} (Some bytes) (loaded_from r.bytes (start_of task) work) → Gives (with_used d task.uid (page_of task)) (performed d task work r) (Hit (Bytes bytes) [])
-    by_work r (Load count) taken = let same : bytes ≡ take count (drop (start_of task) r.bytes) = cc in rw same refl
+    by_page : (o : Option Resident) → loaded_at (option_map (settled taken) o) task ≡ loaded_at o task
+    by_page None = refl
+    by_page (Some r) = refl
+
+    at_same : (v : ObjectName) (j : ℕ) → v ≡ u → j ≡ k → loaded_at (page_at (changed_page u k (settled taken) pages) v j) task ≡ loaded_at (page_at pages v j) task
+    at_same v j uid page = rw (uid, page) (ap (λ (o : Option Resident). loaded_at o task) (page_at-changed_same u k (settled taken) (λ w i r. refl) pages) ∙ by_page (page_at pages u k))
+
+-- what the process moves, by its way
+pub moves-coming : (d : DeskState) (p : ℕ) (t : Transit) → moving_of d p ≡ Some t → t.inward ≡ true → moving_of d p ≡ coming t.uid t.page
+moves-coming d p t moves comes = moves ∙ (λ i. Some (record { uid = t.uid; page = t.page; inward = comes i }))
+
+pub not-true : (b : Bool) → not b ≡ true → b ≡ false
+not-true true is = sym is
+not-true false is = refl
+
+pub moves-going : (d : DeskState) (p : ℕ) (t : Transit) → moving_of d p ≡ Some t → not t.inward ≡ true → moving_of d p ≡ going t.uid t.page
+moves-going d p t moves goes = moves ∙ (λ i. Some (record { uid = t.uid; page = t.page; inward = not-true t.inward goes i }))
+
+-- a load whose bytes were taken from its page, which was used last
+pub gives-loaded : (d : DeskState) (task : Task) (bytes : List ℕ) → with_used d task.uid (page_of task) ≡ d → IfSome (page_at d.cache.pages task.uid (page_of task)) (λ r. ◌≡◌ {A = Option (List ℕ)} (Some bytes) (loaded_from r.bytes (start_of task) task.work))
+    → IfSome (page_at d.cache.pages task.uid (page_of task)) (λ r. GivesTo d (performed d task task.work r) (Hit (Bytes bytes) []))
+gives-loaded d task bytes last takes = by_page (page_at d.cache.pages task.uid (page_of task)) takes
+  where
+    by_work : (r : Resident) (work : Work) → ◌≡◌ {A = Option (List ℕ)} (Some bytes) (loaded_from r.bytes (start_of task) work) → GivesTo d (performed d task work r) (Hit (Bytes bytes) [])
+    by_work r (Load count) taken = let same : bytes ≡ take count (drop (start_of task) r.bytes) = cc in (sym last, rw same refl)
     by_work r (Store stored) taken = absurd (cc)
 
-    by_page : (o : Option Resident) → IsSome o → IfSome o (λ r. ◌≡◌ {A = Option (List ℕ)} (Some bytes) (loaded_from r.bytes (start_of task) task.work)) → Gives (with_used d task.uid (page_of task)) (page_by d p task o) (Hit (Bytes bytes) [])
-    by_page None some taken = absurd (cc)
-    by_page (Some r) some taken = by_work r task.work taken
+    by_page : (o : Option Resident) → IfSome o (λ r. ◌≡◌ {A = Option (List ℕ)} (Some bytes) (loaded_from r.bytes (start_of task) task.work)) → IfSome o (λ r. GivesTo d (performed d task task.work r) (Hit (Bytes bytes) []))
+    by_page None taken = tt
+    by_page (Some r) taken = by_work r task.work taken
 
 -- a load takes bytes
 pub not-loaded : (o : Option Resident) (start count : ℕ) (work : Work) → work ≡ Load count → IsSome o → IfSome o (λ r. ◌≡◌ {A = Option (List ℕ)} None (loaded_from r.bytes start work)) → ⊥
 not-loaded None start count work is some taken = cc
 not-loaded (Some r) start count work is some taken = let none : ◌≡◌ {A = Option (List ℕ)} None (loaded_from r.bytes start (Load count)) = rw is at taken in cc
 
--- the home took the page that makes room
-pub gives-taken : {E : Type 0} (d new : DeskState) (p : ℕ) (u : ObjectName) (k stamp : ℕ) (r : Result Access E) (task : Task) → task_of d p ≡ Some task → IfOk r (Gives new (page_access (with_raised (with_room_settled d p u k true) u stamp) p task))
-    → IfOk r (λ answer. IfSome (task_of d p) (λ t. Gives new (room_taken d p t u k stamp) answer))
-gives-taken d new p u k stamp r task there =
-    IfOk-more r (Gives new (page_access (with_raised (with_room_settled d p u k true) u stamp) p task)) (λ answer. IfSome (task_of d p) (λ t. Gives new (room_taken d p t u k stamp) answer))
-    (λ answer gives. of_task (λ t. Gives new (room_taken d p t u k stamp) answer) (task_of d p) task there gives)
+-- where a load takes none its page is not resident
+pub absent-unloaded : (o : Option Resident) (task : Task) (count : ℕ) → task.work ≡ Load count → ◌≡◌ {A = Option (List ℕ)} None (loaded_at o task) → o ≡ None
+absent-unloaded None task count is none = refl
+absent-unloaded (Some r) task count is none = absurd (let h : ◌≡◌ {A = Option (List ℕ)} None (loaded_from r.bytes (start_of task) (Load count)) = rw is at none in cc)
+
+-- a load from its page, whose bytes were taken
+pub comes-loaded : (d new : DeskState) (p : ℕ) (task : Task) (bytes : List ℕ) → new ≡ with_used d task.uid (page_of task) → ◌≡◌ {A = Option (List ℕ)} (Some bytes) (loaded_at (page_at d.cache.pages task.uid (page_of task)) task)
+    → ComesTo p new (page_access d p task) (Hit (Bytes bytes) [])
+comes-loaded d new p task bytes is takes = by_page (page_at d.cache.pages task.uid (page_of task)) takes
+  where
+    by_work : (r : Resident) (work : Work) → ◌≡◌ {A = Option (List ℕ)} (Some bytes) (loaded_from r.bytes (start_of task) work) → GivesTo new (performed d task work r) (Hit (Bytes bytes) [])
+    by_work r (Load count) taken = let same : bytes ≡ take count (drop (start_of task) r.bytes) = cc in (is, rw same refl)
+    by_work r (Store stored) taken = absurd (cc)
+
+    by_page : (o : Option Resident) → ◌≡◌ {A = Option (List ℕ)} (Some bytes) (loaded_at o task) → ComesTo p new (page_by d p task o) (Hit (Bytes bytes) [])
+    by_page None taken = absurd (cc)
+    by_page (Some r) taken = by_work r task.work taken
+
+module _ (d new : DeskState) (p : ℕ) (t : Transit) (answer : Access) (moves : moving_of d p ≡ Some t) where
+  -- what a page that came says
+  pub comes-page : (stamp : ℕ) (bytes : List ℕ) → t.inward ≡ true → IfSome (task_of d p) (λ task. GivesTo new (page_by_stamp d p task stamp bytes (nat_lt stamp (base_of d.seen task.uid))) answer)
+      → IfSome (said_to d p (Some (Answer.Page stamp bytes))) (λ a. ComesTo p new (page_came_of d p a) answer)
+  comes-page stamp bytes inward gives = by_open (task_of d p) (moving_of d p) moves gives
+    where
+      by_way : (task : Task) (x : Transit) (b : Bool) → b ≡ true → GivesTo new (page_by_stamp d p task stamp bytes (nat_lt stamp (base_of d.seen task.uid))) answer
+          → IfSome (answer_by d.cache.pages task x b (Answer.Page stamp bytes)) (λ a. ComesTo p new (page_came_of d p a) answer)
+      by_way task x true is given = given
+      by_way task x false is given = absurd (cc)
+
+      by_open : (o : Option Task) (m : Option Transit) → m ≡ Some t → IfSome o (λ task. GivesTo new (page_by_stamp d p task stamp bytes (nat_lt stamp (base_of d.seen task.uid))) answer)
+          → IfSome (answer_with d.cache.pages o m (Answer.Page stamp bytes)) (λ a. ComesTo p new (page_came_of d p a) answer)
+      by_open None m is given = tt
+      by_open (Some task) None is given = absurd (cc)
+      by_open (Some task) (Some x) is given = let same : x ≡ t = cc in by_way task x x.inward (ap (λ (y : Transit). y.inward) same ∙ inward) given
+
+  -- what is said where the home took the page that makes room, or did not
+  module _ (answered : Answer) (to : Task → Resident → PageAnswer) (says : (task : Task) (r : Resident) → answer_outward task (Some r) answered ≡ Some (to task r)) (silent : (task : Task) → answer_outward task None answered ≡ None) where
+    pub comes-sent : t.inward ≡ false → IfSome (task_of d p) (λ task. IfSome (page_at d.cache.pages t.uid t.page) (λ r. ComesTo p new (page_came_of d p (to task r)) answer))
+        → IfSome (said_to d p (Some answered)) (λ a. ComesTo p new (page_came_of d p a) answer)
+    comes-sent outward gives = by_open (task_of d p) (moving_of d p) moves gives
+      where
+        by_page : (task : Task) (o : Option Resident) → IfSome o (λ r. ComesTo p new (page_came_of d p (to task r)) answer) → IfSome (answer_outward task o answered) (λ a. ComesTo p new (page_came_of d p a) answer)
+        by_page task None given = subst (λ (o : Option PageAnswer). IfSome o (λ a. ComesTo p new (page_came_of d p a) answer)) (sym (silent task)) tt
+        by_page task (Some r) given = subst (λ (o : Option PageAnswer). IfSome o (λ a. ComesTo p new (page_came_of d p a) answer)) (sym (says task r)) given
+
+        by_way : (task : Task) (x : Transit) (b : Bool) → b ≡ false → x ≡ t → IfSome (page_at d.cache.pages t.uid t.page) (λ r. ComesTo p new (page_came_of d p (to task r)) answer)
+            → IfSome (answer_by d.cache.pages task x b answered) (λ a. ComesTo p new (page_came_of d p a) answer)
+        by_way task x true is same given = absurd (cc)
+        by_way task x false is same given =
+            by_page task (page_at d.cache.pages x.uid x.page) (subst (λ (y : Transit). IfSome (page_at d.cache.pages y.uid y.page) (λ r. ComesTo p new (page_came_of d p (to task r)) answer)) (sym same) given)
+
+        by_open : (o : Option Task) (m : Option Transit) → m ≡ Some t → IfSome o (λ task. IfSome (page_at d.cache.pages t.uid t.page) (λ r. ComesTo p new (page_came_of d p (to task r)) answer))
+            → IfSome (answer_with d.cache.pages o m answered) (λ a. ComesTo p new (page_came_of d p a) answer)
+        by_open None m is given = tt
+        by_open (Some task) None is given = absurd (cc)
+        by_open (Some task) (Some x) is given = let same : x ≡ t = cc in by_way task x x.inward (ap (λ (y : Transit). y.inward) same ∙ outward) same given
 
 -- a process that may go on may do so where a stamp was raised
 pub IsIdle-raised : (d : DeskState) (p : ℕ) (u : ObjectName) (stamp : ℕ) → IsIdle d p → IsIdle (with_raised d u stamp) p
 IsIdle-raised d p u stamp idle = record { no_call = idle.no_call; no_page = idle.no_page; keeping = idle.keeping }
-
--- what is known of the answer that a definition gives is known of the answer that the code gives
-pub asks-given : {E : Type 0} (new : DeskState) (a : Accessed) (r : Result Access E) → IsAsked a.answer → IfOk r (Gives new a) → IfOk r IsAsked
-asks-given new a r asks = IfOk-more r (Gives new a) IsAsked (λ answer gives. subst (λ (x : Accessed). IsAsked x.answer) gives asks)
-
-pub next-given : {E : Type 0} (new : DeskState) (p : ℕ) (a : Accessed) (r : Result Access E) → AfterAccess a.desk p a.answer → IfOk r (Gives new a) → IfOk r (AfterAccess new p)
-next-given new p a r next = IfOk-more r (Gives new a) (AfterAccess new p) (λ answer gives. subst (λ (x : Accessed). AfterAccess x.desk p x.answer) gives next)
-
-pub fits-given : {E : Type 0} (new : DeskState) (op : Op) (a : Accessed) (r : Result Access E) → FitsAnswer op a.answer → IfOk r (Gives new a) → IfOk r (FitsAnswer op)
-fits-given new op a r fits = IfOk-more r (Gives new a) (FitsAnswer op) (λ answer gives. subst (λ (x : Accessed). FitsAnswer op x.answer) gives fits)
-
-pub never-given : {E : Type 0} (new : DeskState) (o : Option Task) (a : Accessed) (r : Result Access E) → IfSome o (λ task. FitsWork task.work a.answer) → IfOk r (Gives new a) → IfOk r (λ answer. IfSome o (λ task. FitsWork task.work answer))
-never-given new o a r fits = IfOk-more r (Gives new a) (λ answer. IfSome o (λ task. FitsWork task.work answer)) (λ answer gives. subst (λ (x : Accessed). IfSome o (λ task. FitsWork task.work x.answer)) gives fits)

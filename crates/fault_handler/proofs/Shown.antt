@@ -1,5 +1,6 @@
 -- What calls on pages in frames do to the pages as they are shown, by their names.
-use Rattle.std.proofs.Common.{◌≡◌, ◌∙◌, ℕ, ◌≤◌, Bool, true, false, not, List, [], ◌∷◌, map, filter, reverse, take, drop, Option, Some, None, IsSome, IfSome, Result, Ok, Err, IfOk, count_by, refl, sym, ap, arith}
+use Rattle.std.proofs.Common.{◌≡◌, ◌∙◌, ℕ, ◌≤◌, Bool, true, false, not, List, [], ◌∷◌, map, filter, reverse, take, drop, Option, Some, None, IsSome, IfSome, IfNone, Result, Ok, Err, IfOk, OnErr, is_some, count_by, refl, sym, ap, subst, arith}
+use Rattle.std.specs.Bool.{OnTrue, OnFalse}
 use Rattle.std.proofs.lemmas.List.{reverse-append, map-append}
 use Rattle.std.specs.List.{find}
 use Rattle.std.specs.Option.{option_map, option_or}
@@ -13,7 +14,10 @@ use Rattle.uid_names.proofs.Finds.{find-passes}
 use Rattle.uid_names.proofs.ListLemmas.{by_cases, count_by-cons_passes, count_by-cons_fails, find-map, filter-map}
 use Rattle.page_cache.proofs.PageLemmas.{changed_in-none}
 use Rattle.fault_handler.specs.ShownPages.{changed_page}
-use Rattle.fault_handler.specs.Unseen.{unframed}
+use Rattle.fault_handler.specs.declared.tasks.Task.{Task}
+use Rattle.fault_handler.specs.Tasks.{start_of}
+use Rattle.fault_handler.specs.Unseen.{unframed, loaded_from, loaded_at}
+use Rattle.fault_handler.proofs.PageLists.{without_page-none}
 
 -- a page is resident where it is shown, and the other way round
 pub page_at-shown : (pages : List Resident) (u : ObjectName) (k : ℕ) → page_at (map unframed pages) u k ≡ option_map unframed (page_at pages u k)
@@ -196,14 +200,50 @@ IfSome-named pages (Some name) is = IsResident-shown pages name.0 name.1 is
 pub absent-shown : (pages : List Resident) (u : ObjectName) (k : ℕ) → page_at pages u k ≡ None → page_at (map unframed pages) u k ≡ None
 absent-shown pages u k none = page_at-shown pages u k ∙ ap (option_map unframed) none
 
--- the bytes that were loaded from a page
-pub loaded : {E : Type 0} (r : Result (List ℕ) E) (o : Option Resident) (start count : ℕ) (given middle : List ℕ) → option_map (λ p. p.bytes) o ≡ Some given → middle ≡ take count (drop start given) → IfOk r (λ bytes. bytes ≡ middle) → IfOk r (λ bytes. option_map (λ p. take count (drop start p.bytes)) o ≡ Some bytes)
-loaded (Err e) o start count given middle has part is = tt
-loaded (Ok bytes) None start count given middle has part is = absurd (cc)
-loaded (Ok bytes) (Some p) start count given middle has part is =
-    let same : p.bytes ≡ given = cc in
-    ap Some (ap (λ xs. take count (drop start xs)) same ∙ sym part ∙ sym is)
-
--- caches of the same parts
 pub cache_by_parts : (f g m n : ℕ) (ps qs : List Resident) → f ≡ g → m ≡ n → ps ≡ qs → ◌≡◌ {A = Cached} (record { frames = f; reserved = m; pages = ps }) (record { frames = g; reserved = n; pages = qs })
 cache_by_parts f g m n ps qs frames reserved pages = λ i. record { frames = frames i; reserved = reserved i; pages = pages i }
+
+-- what holds before holds after a load that uses its page or finds none
+pub loaded-keeps : {E : Type 0} (P : Cached → Type 0) (old new : Cached) (u : ObjectName) (k : ℕ) (r : Result (Option (List ℕ)) E) → P old → P (record old { pages = used old.pages u k })
+    → IfOk r (λ loaded. IfSome loaded (λ bytes. new ≡ record old { pages = used old.pages u k })) → IfOk r (λ loaded. IfNone loaded (new ≡ old)) → OnErr r (new ≡ old) → P new
+loaded-keeps P old new u k (Ok (Some bytes)) before after is left unchanged = subst P (sym is) after
+loaded-keeps P old new u k (Ok None) before after is left unchanged = subst P (sym left) before
+loaded-keeps P old new u k (Err e) before after is left unchanged = subst P (sym unchanged) before
+
+-- and after a store that changes its page or finds none
+pub stored-keeps : (P : Cached → Type 0) (old new changed : Cached) (b : Bool) → P old → P changed → OnTrue b (new ≡ changed) → OnFalse b (new ≡ old) → P new
+stored-keeps P old new changed true before after is left = subst P (sym is) after
+stored-keeps P old new changed false before after is left = subst P (sym left) before
+
+-- the bytes that were taken from a page
+pub taken-there : (o : Option Resident) (start count : ℕ) (given bytes : List ℕ) → option_map (λ p. p.bytes) o ≡ Some given → bytes ≡ take count (drop start given) → ◌≡◌ {A = Option (List ℕ)} (Some bytes) (option_map (λ p. take count (drop start p.bytes)) o)
+taken-there None start count given bytes has is = absurd (cc)
+taken-there (Some r) start count given bytes has is = let same : r.bytes ≡ given = cc in rw (is, ← same) refl
+
+-- none is taken where it is not resident
+pub taken-absent : (pages : List Resident) (u : ObjectName) (k start count : ℕ) → page_at pages u k ≡ None → ◌≡◌ {A = Option (List ℕ)} None (option_map (λ p. take count (drop start p.bytes)) (page_at (map unframed pages) u k))
+taken-absent pages u k start count none = rw (absent-shown pages u k none) refl
+
+-- what a load or store takes from its page
+pub loaded-there : {E : Type 0} (o : Option Resident) (task : Task) (given : List ℕ) (r : Result (Option (List ℕ)) E) → option_map (λ p. p.bytes) o ≡ Some given → IfOk r (λ loaded. loaded ≡ loaded_from given (start_of task) task.work) → IfOk r (λ loaded. loaded ≡ loaded_at o task)
+loaded-there None task given r has is = absurd (cc)
+loaded-there (Some p) task given r has is = let same : p.bytes ≡ given = cc in rw same is
+
+-- nothing changes where a page is used that is not resident
+pub used-absent : (pages : List Resident) (u : ObjectName) (k : ℕ) → page_at pages u k ≡ None → used pages u k ≡ pages
+used-absent pages u k none = rw (none, without_page-none pages u k none) refl
+
+-- a page is resident where its frame was found
+pub resident-found : (pages : List Resident) (u : ObjectName) (k frame : ℕ) → Some frame ≡ option_map (λ r. r.frame) (page_at pages u k) → IsResident pages u k
+resident-found pages u k frame = by_page (page_at pages u k)
+  where
+    by_page : (o : Option Resident) → Some frame ≡ option_map (λ r. r.frame) o → IsSome o
+    by_page None found = absurd (cc)
+    by_page (Some r) found = refl
+
+pub IsSome-is : {A : Type 0} (o : Option A) → IsSome o → true ≡ is_some o
+IsSome-is None some = absurd (cc)
+IsSome-is (Some x) some = refl
+
+pub None-is : {A : Type 0} (o : Option A) → o ≡ None → false ≡ is_some o
+None-is o none = rw none refl

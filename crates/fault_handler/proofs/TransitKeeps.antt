@@ -22,10 +22,10 @@ use Rattle.fault_handler.specs.ShownPages.{fresh_page, changed_page, as_sent, se
 use Rattle.fault_handler.specs.Transits.{is_moving, inward_count, outward_count, coming, going}
 use Rattle.fault_handler.specs.Tasks.{page_of}
 use Rattle.fault_handler.specs.Desks.{DeskState, at, put_at, entry_at, any_keeps, any_writes, open_call_of, task_of, moving_of, others_fetch, count_of}
-use Rattle.fault_handler.specs.Changes.{with_fetch, with_sent_page, with_eviction, with_arrival, with_loss, with_room_settled, with_page_done, page_done_by, page_done_of}
-use Rattle.fault_handler.specs.Invariant.{IsProc, IsShownPage, ArePages, is_marked, is_dirty, FitsTransit, is_access, IsAllowed, KeepsAll, IsOpenTask, FitsOpen, IsDesk}
+use Rattle.fault_handler.specs.Changes.{with_fetch, with_sent_page, with_eviction, with_arrival, with_loss, with_room_settled, settled_by, with_page_done}
+use Rattle.fault_handler.specs.Invariant.{IsProc, IsShownPage, ArePages, is_marked, is_dirty, FitsTransit, is_access, IsAllowed, KeepsAll, IsOpenTask, FitsOpen, IsCallAtNode, IsDesk}
 use Rattle.fault_handler.specs.Conditions.{IsIdle, IsAccessing, IsNotAccessing}
-use Rattle.fault_handler.proofs.Fours.{at-put_same, count_of-at, any-at, any-more, length-put}
+use Rattle.fault_handler.proofs.Fours.{at-put_same, count_of-at, any-at, any-more, each-put, length-put}
 use Rattle.fault_handler.proofs.PageLists.{is_same, AreOnce, same-uid, same-page, found-uid, page_at-changed_same, count_by-changed_one}
 use Rattle.fault_handler.proofs.Alike.{Alike-same, AreAlike, ArePages-changed, Alike-other, Alike-changed}
 use Rattle.fault_handler.proofs.Moves.{AreMoved-put, AreOpen-put, AreOpen-moved, moving-uid, moving-page, moving-marked, not_access, is_access-is, access-is, FitsOpen-goes, FitsOpen-going, FitsOpen-still, FitsOpen-task, FitsOpen-comes, alone-absent}
@@ -64,11 +64,11 @@ module _ (d : DeskState) (p : ℕ) (is : IsDesk d) (proc : IsProc p) where
   IsDesk-opened : (reserved : ℕ) (new : List Resident) (call : Option OpenCall) (task : Option Task) (t : Option Transit) → ArePages new d.entries
       → reserved + inward_count (moving_of d p) ≡ d.cache.reserved + inward_count t
       → count_by is_in_transit new + outward_count (moving_of d p) ≡ count_by is_in_transit d.cache.pages + outward_count t
-      → FitsTransit new d.entries p t → FitsOpen new d.entries p (is_access call) task t
+      → FitsTransit new d.entries p t → FitsOpen new d.entries p (is_access call) task t → IfSome call (IsCallAtNode d.nodes)
       → ((q : ℕ) → IsProc q → q ≢ p → AreAlike d.cache.pages new (at d.moving q None))
       → ((q : ℕ) → IsProc q → q ≢ p → (v : ObjectName) (j : ℕ) → is_moving v j t ≡ true → is_moving v j (at d.moving q None) ≡ true → ⊥)
       → IsDesk (record d { cache = record d.cache { reserved = reserved; pages = new }; calls = put_at d.calls p call; tasks = put_at d.tasks p task; moving = put_at d.moving p t })
-  IsDesk-opened reserved new call task t are inward outward fits opened alike alone = record {
+  IsDesk-opened reserved new call task t are inward outward fits opened located alike alone = record {
     four = record {
       entries = is.four.entries;
       maps = is.four.maps;
@@ -83,6 +83,11 @@ module _ (d : DeskState) (p : ℕ) (is : IsDesk d) (proc : IsProc p) where
     calls = AreOpen-put d.cache.reserved d.cache.pages new d.entries d.calls d.tasks d.moving p call task t is.four.calls is.four.tasks is.four.moving proc is.moved is.calls opened alike;
     entries = is.entries;
     known = is.known;
+    lengths = is.lengths;
+    at_nodes = record {
+      locked = is.at_nodes.locked;
+      asked = each-put (λ q c. IfSome c (IsCallAtNode d.nodes)) d.calls p call None is.four.calls proc located (λ q other differs. is.at_nodes.asked q other);
+    };
   }
 
   -- a process moves another page than before
@@ -102,6 +107,8 @@ module _ (d : DeskState) (p : ℕ) (is : IsDesk d) (proc : IsProc p) where
     calls = AreOpen-moved d.cache.reserved d.cache.pages new d.entries d.calls d.tasks d.moving p t is.four.moving proc is.moved is.calls opened alike;
     entries = is.entries;
     known = is.known;
+    lengths = is.lengths;
+    at_nodes = is.at_nodes;
   }
 
   -- another process moves another page
@@ -135,6 +142,7 @@ module _ (d : DeskState) (p : ℕ) (is : IsDesk d) (proc : IsProc p) where
       IsDesk-opened (d.cache.reserved + 1) d.cache.pages (Some Access) (Some task) (coming task.uid (page_of task)) is.pages
       (rw idle.no_page (omega arith)) (rw idle.no_page refl) (absent, allowed.kept)
       (record { allowed = allowed; keeping = idle.keeping; comes = λ e. grind (arith, nat_tests); goes = λ e. absurd (cc) })
+      tt
       (λ q other differs v j moves. Alike-same d.cache.pages d.cache.pages v j refl)
       (λ q other differs v j own moves.
       alone-absent d.cache.pages d.entries d.cache.reserved d.moving p task.uid (page_of task) is.moved absent alone q other differs
@@ -224,6 +232,7 @@ module _ (d : DeskState) (p : ℕ) (is : IsDesk d) (proc : IsProc p) where
       (let one = count_by-sent u k there still in rw idle.no_page (omega arith))
       (sent-marked u k there, any_writes-keeps d.entries u (dirty-writes u k dirty))
       (record { allowed = allowed; keeping = idle.keeping; comes = λ e. absurd (cc); goes = λ e. sent-dirty u k dirty })
+      tt
       (λ q other differs v j moves. Alike-changed u k as_sent (λ v j r. refl) d.cache.pages (λ r h. refl) (λ r h. h) v j)
       (λ q other differs v j own moves. unmoved u k there still q other v j own moves)
 
@@ -255,7 +264,7 @@ module _ (d : DeskState) (p : ℕ) (is : IsDesk d) (proc : IsProc p) where
       (record { once = once; each = shown })
       (let one = reserved-least u k comes in rw comes (omega arith))
       (let same = count_by-cons_fails is_in_transit (fresh_page u k bytes) d.cache.pages refl in rw comes (omega arith))
-      tt tt
+      tt tt tt
       (λ q other differs v j moves. Alike-same d.cache.pages (fresh_page u k bytes ∷ d.cache.pages) v j (rw (apart-from q other differs v j moves) refl))
       (λ q other differs v j own moves. absurd (cc))
     where
@@ -292,7 +301,7 @@ module _ (d : DeskState) (p : ℕ) (is : IsDesk d) (proc : IsProc p) where
       IsDesk-opened (d.cache.reserved - 1) d.cache.pages None None None is.pages
       (let one = reserved-least u k comes in rw comes (omega arith))
       (rw comes refl)
-      tt tt
+      tt tt tt
       (λ q other differs v j moves. Alike-same d.cache.pages d.cache.pages v j refl)
       (λ q other differs v j own moves. absurd (cc))
 
@@ -315,12 +324,12 @@ module _ (d : DeskState) (p : ℕ) (is : IsDesk d) (proc : IsProc p) where
     -- the page that made room is on its way no more
     pub IsDesk-with_room_settled : IsDesk (with_room_settled d p u k taken)
     IsDesk-with_room_settled =
-        IsDesk-opened d.cache.reserved (changed_page u k (settled taken) d.cache.pages) None None None ArePages-settled (rw goes refl) (let one = count_by-settled in rw goes (omega arith)) tt tt alike-settled
+        IsDesk-opened d.cache.reserved (changed_page u k (settled taken) d.cache.pages) None None None ArePages-settled (rw goes refl) (let one = count_by-settled in rw goes (omega arith)) tt tt tt alike-settled
         (λ q other differs v j own moves. absurd (cc))
 
     -- the page that a process sent home is on its way no more
-    pub IsDesk-with_page_done : IsNotAccessing d p → IsDesk (with_page_done d p u k taken)
-    IsDesk-with_page_done other =
+    IsDesk-sent_settled : IsNotAccessing d p → IsDesk (record d { cache = record d.cache { pages = changed_page u k (settled taken) d.cache.pages }; moving = put_at d.moving p None })
+    IsDesk-sent_settled other =
         IsDesk-moved (changed_page u k (settled taken) d.cache.pages) None ArePages-settled (rw goes refl) (let one = count_by-settled in rw goes (omega arith)) tt
         (FitsOpen-still d.cache.pages d.entries p (changed_page u k (settled taken) d.cache.pages) (is_access (open_call_of d p)) (task_of d p) (moving_of d p) (not_access (open_call_of d p) other) (is.calls p proc))
         alike-settled
@@ -333,12 +342,16 @@ module _ (d : DeskState) (p : ℕ) (is : IsDesk d) (proc : IsProc p) where
       moves ∙ (λ i. Some (record { uid = t.uid; page = t.page; inward = away i }))
 
   -- the transit of the page that a process sent home ended
-  pub IsDesk-page_done_of : (taken : Bool) → IsNotAccessing d p → IsDesk (page_done_of d p taken)
-  IsDesk-page_done_of taken other = by_moving (moving_of d p) refl
+  pub IsDesk-with_page_done : (taken : Bool) → IsNotAccessing d p → IsDesk (with_page_done d p taken)
+  IsDesk-with_page_done taken other = by_moving (moving_of d p) refl
     where
-      by_moving : (o : Option Transit) → moving_of d p ≡ o → IsDesk (page_done_by d p taken o)
-      by_moving None moves = is
-      by_moving (Some t) moves = IsDesk-with_page_done t.uid t.page taken (going-of other t moves) other
+      by_moving : (o : Option Transit) → moving_of d p ≡ o → IsDesk (record d { cache = record d.cache { pages = settled_by o taken d.cache.pages }; moving = put_at d.moving p None })
+      by_moving None moves =
+          IsDesk-moved d.cache.pages None is.pages (rw moves refl) (rw moves refl) tt
+          (FitsOpen-still d.cache.pages d.entries p d.cache.pages (is_access (open_call_of d p)) (task_of d p) (moving_of d p) (not_access (open_call_of d p) other) (is.calls p proc))
+          (λ q other_q differs v j moved. Alike-same d.cache.pages d.cache.pages v j refl)
+          (λ q other_q differs v j own moved. absurd (cc))
+      by_moving (Some t) moves = IsDesk-sent_settled t.uid t.page taken (going-of other t moves) other
 
   -- a process whose load or store is open no more may go on
   ended-call : at (put_at d.calls p None) p None ≡ None

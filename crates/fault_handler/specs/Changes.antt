@@ -1,5 +1,5 @@
 -- What changes in a desk. Each machine call is made of these.
-use Rattle.std.specs.Prelude.{ℕ, ◌+◌, ◌-◌, Bool, Option, Some, None, List, ◌∷◌}
+use Rattle.std.specs.Prelude.{ℕ, ◌+◌, ◌-◌, Bool, true, false, Option, Some, None, List, ◌∷◌}
 use Rattle.uid_names.specs.Names.{ObjectName}
 use Rattle.dom_history.specs.declared.deed.LockState.{LockState}
 use Rattle.page_cache.specs.Caches.{Resident}
@@ -42,9 +42,14 @@ with_no_page d u = with_pages d (without_object d.cache.pages u)
 abbrev pub with_end : DeskState → ObjectName → ℕ → DeskState
 with_end d u end = record d { known = known_after (grown end) (known_of u d.known) d.known }
 
--- the home took this length
-abbrev pub with_sent_length : DeskState → ObjectName → ℕ → DeskState
-with_sent_length d u length = record d { known = known_after (sent_length length) (known_of u d.known) d.known }
+-- the rows of what is known once a length was sent: the home took it, or not
+abbrev pub known_sent : Bool → ObjectName → ℕ → List Known → List Known
+known_sent true u length known = known_after (sent_length length) (known_of u known) known
+known_sent false u length known = known
+
+-- a length that was sent is settled
+abbrev pub with_length_done : DeskState → ObjectName → ℕ → Bool → DeskState
+with_length_done d u length taken = record d { known = known_sent taken u length d.known }
 
 -- a row of what is known of an object was set
 abbrev pub with_known_row : DeskState → Known → DeskState
@@ -107,18 +112,15 @@ abbrev pub with_room_settled : DeskState → ℕ → ObjectName → ℕ → Bool
 with_room_settled d p u k taken =
     record (with_task_ended d p) { cache = record d.cache { pages = changed_page u k (settled taken) d.cache.pages } }
 
--- the page that a process sent home is on its way no more
-abbrev pub with_page_done : DeskState → ℕ → ObjectName → ℕ → Bool → DeskState
-with_page_done d p u k taken =
-    record d { cache = record d.cache { pages = changed_page u k (settled taken) d.cache.pages }; moving = put_at d.moving p None }
+-- the pages once that which a process sent home is on its way no more
+abbrev pub settled_by : Option Transit → Bool → List Resident → List Resident
+settled_by None taken pages = pages
+settled_by (Some t) taken pages = changed_page t.uid t.page (settled taken) pages
 
-abbrev pub page_done_by : DeskState → ℕ → Bool → Option Transit → DeskState
-page_done_by d p taken None = d
-page_done_by d p taken (Some t) = with_page_done d p t.uid t.page taken
-
--- the transit of the page that a process sent home ended: the home took it, or not
-abbrev pub page_done_of : DeskState → ℕ → Bool → DeskState
-page_done_of d p taken = page_done_by d p taken (moving_of d p)
+-- the transit of the page that a process sent home ended, if it had one: the home took it, or not
+abbrev pub with_page_done : DeskState → ℕ → Bool → DeskState
+with_page_done d p taken =
+    record d { cache = record d.cache { pages = settled_by (moving_of d p) taken d.cache.pages }; moving = put_at d.moving p None }
 
 -- a process's open call, other than that of a load or store
 abbrev pub with_call : DeskState → ℕ → Option OpenCall → DeskState

@@ -1,16 +1,13 @@
 -- The conditions of a desk's calls.
-use Rattle.std.specs.Prelude.{◌≡◌, ◌≢◌, ℕ, nat_lt, Bool, true, false, not, ◌&&◌, is_none, Option, Some, None, [], ◌∷◌}
+use Rattle.std.specs.Prelude.{◌≡◌, ◌≢◌, ℕ, nat_lt, Bool, true, false, ◌&&◌, is_none, Option, Some, None, [], ◌∷◌}
 use Rattle.uid_names.specs.Names.{ProcName, ObjectName}
-use Rattle.dom_history.specs.declared.op.Op.{Op}
-use Rattle.dom_history.specs.declared.op.Op.TheVariants.{Load, Store, Length, Map, Unmap}
 use Rattle.dom_history.specs.Locks.{is_held}
-use Rattle.ring_messages.specs.declared.body.Body.{Body}
-use Rattle.ring_messages.specs.declared.body.Body.TheVariants.{Page, Stored, Stale}
-use Rattle.fault_handler.specs.declared.transits.Transit.{Transit}
 use Rattle.fault_handler.specs.declared.open_call.OpenCall.{OpenCall}
 use Rattle.fault_handler.specs.declared.open_call.OpenCall.TheVariants.{Access}
 use Rattle.fault_handler.specs.Entries.{keeps, keeps_all}
 use Rattle.fault_handler.specs.Desks.{DeskState, state_of, entry_at, entries_of, open_call_of, moving_of, base_of}
+use Rattle.fault_handler.specs.Accesses.{DeskOp}
+use Rattle.fault_handler.specs.PageReplies.{PageAnswer}
 
 -- a process of the desk's node
 abbrev pub IsOf : DeskState → ProcName → Type 0
@@ -27,27 +24,20 @@ pub record IsIdle (d : DeskState) (p : ℕ) : Type 0 where
 abbrev pub is_idle : DeskState → ℕ → Bool
 is_idle d p = is_none (open_call_of d p) && (is_none (moving_of d p) && keeps_all (entries_of d p))
 
--- an operation that the process's own node answers, by its pages and mappings
-abbrev pub IsAccess : Op → Type 0
-IsAccess (Load spot count) = Unit {0}
-IsAccess (Store spot bytes) = Unit {0}
-IsAccess (Length u) = Unit {0}
-IsAccess (Map u) = Unit {0}
-IsAccess (Unmap u) = Unit {0}
-IsAccess _ = ⊥
+-- an access that may want memory
+abbrev pub MayWant : DeskOp → Type 0
+MayWant (DeskOp.Loads spot count) = Unit {0}
+MayWant (DeskOp.Stores spot bytes) = Unit {0}
+MayWant (DeskOp.Measures u) = ⊥
+MayWant (DeskOp.Maps u) = ⊥
+MayWant (DeskOp.Unmaps u) = ⊥
 
--- one that may want memory
-abbrev pub MayWant : Op → Type 0
-MayWant (Load spot count) = Unit {0}
-MayWant (Store spot bytes) = Unit {0}
-MayWant _ = ⊥
-
--- an answer to a load or store that may want memory: a page comes that is not an old one, or a home took the page that
--- makes room
-abbrev pub MayWantAt : DeskState → Option Transit → Body → Type 0
-MayWantAt d (Some t) (Page stamp bytes) = nat_lt stamp (base_of d.seen t.uid) ≡ false
-MayWantAt d (Some t) (Stored stamp) = Unit {0}
-MayWantAt d t body = ⊥
+-- an answer to a load or store at which it may want memory: a page comes that is not an old one, or a home took the page
+-- that makes room
+abbrev pub MayWantAt : DeskState → PageAnswer → Type 0
+MayWantAt d (PageAnswer.Came task stamp bytes) = nat_lt stamp (base_of d.seen task.uid) ≡ false
+MayWantAt d (PageAnswer.Taken task r stamp) = Unit {0}
+MayWantAt d (PageAnswer.NotTaken task r stamp) = ⊥
 
 -- the open call of the process is that of a load or store
 abbrev pub IsAccessing : DeskState → ℕ → Type 0
@@ -56,18 +46,6 @@ IsAccessing d p = open_call_of d p ≡ Some Access
 -- it is not
 abbrev pub IsNotAccessing : DeskState → ℕ → Type 0
 IsNotAccessing d p = open_call_of d p ≢ Some Access
-
--- whether a body answers a page-in, where a page comes, or else a page-out
-abbrev pub fits_way : Bool → Body → Bool
-fits_way inward (Page stamp bytes) = inward
-fits_way inward (Stored stamp) = not inward
-fits_way inward (Stale stamp) = not inward
-fits_way inward _ = false
-
--- whether a body fits the call of the load or store that moves this page
-abbrev pub fits_move : Option Transit → Body → Bool
-fits_move None body = false
-fits_move (Some t) body = fits_way t.inward body
 
 -- a desk without pages, locks and mappings
 abbrev pub empty_desk : ℕ → ℕ → ℕ → DeskState

@@ -1,6 +1,6 @@
 -- The desk of a node: its cached pages, the stamps that it has seen, what it knows of objects, and for each of its
 -- four processes the locks, the mappings, the open call, the load or store that is open, and the page that it moves.
-use Rattle.std.specs.Prelude.{ℕ, ◌-◌, ◌==◌, Bool, not, ◌&&◌, if◌then◌else◌, Option, None, List, [], ◌∷◌, slice_index_or, slice_set, unwrap_or, sum_by}
+use Rattle.std.specs.Prelude.{ℕ, ◌-◌, ◌≤◌, nat_le, ◌==◌, Bool, not, ◌&&◌, if◌then◌else◌, Option, None, List, [], ◌∷◌, slice_index_or, slice_set, unwrap_or, sum_by}
 use Rattle.std.specs.List.{list_any}
 use Rattle.uid_names.specs.Names.{ObjectName}
 use Rattle.dom_history.specs.declared.deed.LockState.{LockState}
@@ -15,7 +15,7 @@ use Rattle.fault_handler.specs.declared.transits.Transit.{Transit}
 use Rattle.fault_handler.specs.declared.tasks.Task.{Task}
 use Rattle.fault_handler.specs.declared.open_call.OpenCall.{OpenCall}
 use Rattle.fault_handler.specs.Entries.{entry_of, state_in, grant_in, keeps, keeps_writing}
-use Rattle.fault_handler.specs.Transits.{is_coming, moved_page}
+use Rattle.fault_handler.specs.Transits.{is_moving, is_coming, moved_page}
 
 pub record DeskState : Type 0 where
   pub node : ℕ
@@ -102,6 +102,17 @@ transit_among moving p u (q ∷ qs) =
 
 abbrev pub other_transit : List (Option Transit) → ℕ → ObjectName → Option ℕ
 other_transit moving p u = transit_among moving p u procs
+
+-- whether a process of the node has this page in transit, either way
+abbrev pub is_in_transit_there : List (Option Transit) → ObjectName → ℕ → Bool
+is_in_transit_there moving u k = list_any (λ q. is_moving u k (at moving q None)) procs
+
+-- the number is that of one of so many nodes
+abbrev pub IsNode : ℕ → ℕ → Type 0
+IsNode nodes home = (1 ≤ home) × (home ≤ nodes)
+
+abbrev pub is_node : ℕ → ℕ → Bool
+is_node nodes home = nat_le 1 home && nat_le home nodes
 
 -- the stamp on which a write of u is based: the seen one
 abbrev pub base_of : List Stamp → ObjectName → ℕ

@@ -18,13 +18,13 @@ use Rattle.fault_handler.specs.declared.tasks.Work.{Work}
 use Rattle.fault_handler.specs.declared.tasks.Work.TheVariants.{Load, Store}
 use Rattle.fault_handler.specs.declared.tasks.Task.{Task}
 use Rattle.fault_handler.specs.declared.open_call.OpenCall.{OpenCall}
-use Rattle.fault_handler.specs.declared.open_call.OpenCall.TheVariants.{Access}
+use Rattle.fault_handler.specs.declared.open_call.OpenCall.TheVariants.{Access, Lock, PageOut, AttrOut, Unlock, Remove}
 use Rattle.fault_handler.specs.Entries.{state_in, keeps, keeps_writing}
-use Rattle.fault_handler.specs.Lengths.{known_of}
+use Rattle.fault_handler.specs.Lengths.{known_of, is_changed}
 use Rattle.fault_handler.specs.ShownPages.{is_in_transit}
 use Rattle.fault_handler.specs.Transits.{is_moving, inward_count, outward_count}
 use Rattle.fault_handler.specs.Tasks.{page_of, IsTask}
-use Rattle.fault_handler.specs.Desks.{DeskState, at, entry_at, any_keeps, any_writes, count_of}
+use Rattle.fault_handler.specs.Desks.{DeskState, IsNode, at, entry_at, any_keeps, any_writes, count_of}
 
 -- the number of a process of a node
 abbrev pub IsProc : ℕ → Type 0
@@ -139,6 +139,28 @@ pub record AreKnown (seen : List Stamp) (known : List Known) (entries : List (Li
   pub kept : (q : ℕ) → IsProc q → (u : ObjectName) → keeps (entry_at entries q u) ≡ true → IsSome (stamp_of u seen)
   pub both : (u : ObjectName) → IsSome (stamp_of u seen) → IsSome (known_of u known)
 
+-- a changed length is of an object that a process of the node keeps in a mode that writes
+abbrev pub AreLengthsWritten : List Known → List (List LockEntry) → Type 0
+AreLengthsWritten known entries = (u : ObjectName) → is_changed (known_of u known) ≡ true → any_writes entries u ≡ true
+
+-- the object that a call speaks of; a load's or store's speaks of none
+abbrev pub call_object : OpenCall → Option ObjectName
+call_object Access = None
+call_object (Lock u m) = Some u
+call_object (PageOut u k delete) = Some u
+call_object (AttrOut u n delete) = Some u
+call_object (Unlock u) = Some u
+call_object (Remove u) = Some u
+
+-- the home of an open call's object is a node
+abbrev pub IsCallAtNode : ℕ → OpenCall → Type 0
+IsCallAtNode nodes call = IfSome (call_object call) (λ u. IsNode nodes u.home)
+
+-- entries and open calls are of objects whose home is a node
+pub record AreAtNodes (nodes : ℕ) (entries : List (List LockEntry)) (calls : List (Option OpenCall)) : Type 0 where
+  pub locked : (q : ℕ) → IsProc q → (u : ObjectName) → IsSome (entry_at entries q u) → IsNode nodes u.home
+  pub asked : (q : ℕ) → IsProc q → IfSome (at calls q None) (IsCallAtNode nodes)
+
 -- each process's mappings are laid out in its address space
 abbrev pub AreMaps : List (List Mapping) → Type 0
 AreMaps maps = (q : ℕ) → IsProc q → IsLayout (at maps q [])
@@ -159,3 +181,5 @@ pub record IsDesk (d : DeskState) : Type 0 where
   pub entries : AreEntries d.entries
   pub maps : AreMaps d.maps
   pub known : AreKnown d.seen d.known d.entries
+  pub lengths : AreLengthsWritten d.known d.entries
+  pub at_nodes : AreAtNodes d.nodes d.entries d.calls

@@ -1,46 +1,71 @@
--- What an access comes to, and what holds after it.
-use Rattle.std.specs.Prelude.{◌≡◌, ℕ, length}
-use Rattle.dom_history.specs.declared.op.Op.{Op}
+-- What a call of a desk comes to.
+use Rattle.std.specs.Prelude.{◌≡◌, ℕ, Bool, true, false, Option, Some, List, []}
+use Rattle.std.specs.Option.{option_map}
+use Rattle.uid_names.specs.Names.{ObjectName}
 use Rattle.dom_history.specs.declared.op.Reply.{Reply}
-use Rattle.dom_history.specs.declared.op.Reply.TheVariants.{Fine, Bytes}
-use Rattle.dom_history.specs.Fitting.{Fits}
-use Rattle.ring_messages.specs.Ranges.{IsBody}
-use Rattle.fault_handler.specs.declared.tasks.Work.{Work}
-use Rattle.fault_handler.specs.declared.tasks.Work.TheVariants.{Load, Store}
+use Rattle.dom_history.specs.declared.end_word.EndWord.{EndWord}
+use Rattle.dom_history.specs.declared.end_word.EndWord.TheVariants as word
+use Rattle.dom_history.specs.EndWords.{word_of}
+use Rattle.ring_messages.specs.Bodies.{Ask, ask_of, body_of_ask}
 use Rattle.fault_handler.specs.declared.access.Access.{Access}
 use Rattle.fault_handler.specs.declared.access.Access.TheVariants.{Hit, Need, Wait, Refuse}
 use Rattle.fault_handler.specs.Desks.{DeskState}
-use Rattle.fault_handler.specs.Conditions.{IsIdle, IsAccessing}
 
--- a reply is one that the operation can have
-abbrev pub FitsAnswer : Op → Access → Type 0
-FitsAnswer op (Hit reply dropped) = Fits op reply
-FitsAnswer op (Need home body dropped) = Unit {0}
-FitsAnswer op (Wait u k dropped) = Unit {0}
-FitsAnswer op (Refuse reply dropped) = Fits op reply
+-- its operation ends with a reply, asks a home, or waits for a page that another process has in transit
+pub data Turn : Type 0 where
+  Ends : (reply : Reply) → Turn
+  Asks : (home : ℕ) (ask : Ask) → Turn
+  Waits : (uid : ObjectName) (page : ℕ) → Turn
 
--- a load or store that is past its local tests is never refused: a load gives as many bytes as were asked for
-abbrev pub FitsReply : Work → Reply → Type 0
-FitsReply (Load count) (Bytes bytes) = length bytes ≡ count
-FitsReply (Store bytes) Fine = Unit {0}
-FitsReply work reply = ⊥
+-- that, with the pages that the call dropped
+pub record Outcome : Type 0 where
+  pub turn : Turn
+  pub dropped : List (ObjectName × ℕ)
 
-abbrev pub FitsWork : Work → Access → Type 0
-FitsWork work (Hit reply dropped) = FitsReply work reply
-FitsWork work (Need home body dropped) = Unit {0}
-FitsWork work (Wait u k dropped) = Unit {0}
-FitsWork work (Refuse reply dropped) = ⊥
+-- that, with the desk after the call
+pub record Moved : Type 0 where
+  pub desk : DeskState
+  pub turn : Turn
+  pub dropped : List (ObjectName × ℕ)
 
--- a request is one that a frame to that home can carry
-abbrev pub IsAsked : Access → Type 0
-IsAsked (Hit reply dropped) = Unit {0}
-IsAsked (Need home body dropped) = IsBody home body
-IsAsked (Wait u k dropped) = Unit {0}
-IsAsked (Refuse reply dropped) = Unit {0}
+abbrev pub outcome_of : Moved → Outcome
+outcome_of m = record { turn = m.turn; dropped = m.dropped }
 
--- where a home was asked, the process's open call is that of a load or store; else the process may go on
-abbrev pub AfterAccess : DeskState → ℕ → Access → Type 0
-AfterAccess d p (Hit reply dropped) = IsIdle d p
-AfterAccess d p (Need home body dropped) = IsAccessing d p
-AfterAccess d p (Wait u k dropped) = IsIdle d p
-AfterAccess d p (Refuse reply dropped) = IsIdle d p
+-- the operation ends, and nothing is dropped
+abbrev pub ended : DeskState → Reply → Moved
+ended d reply = record { desk = d; turn = Turn.Ends reply; dropped = [] }
+
+-- the operation waits for a page
+abbrev pub waiting : DeskState → ObjectName → ℕ → Moved
+waiting d u k = record { desk = d; turn = Turn.Waits u k; dropped = [] }
+
+-- whether the operation was done
+abbrev pub is_done : EndWord → Bool
+is_done word.Fine = true
+is_done _ = false
+
+abbrev pub reply_as : Bool → Reply → List (ObjectName × ℕ) → Access
+reply_as true reply dropped = Hit reply dropped
+reply_as false reply dropped = Refuse reply dropped
+
+-- an outcome as the call of a load or store answers it
+abbrev pub as_access : Turn → List (ObjectName × ℕ) → Access
+as_access (Turn.Ends reply) dropped = reply_as (is_done (word_of reply)) reply dropped
+as_access (Turn.Asks home ask) dropped = Need home (body_of_ask ask) dropped
+as_access (Turn.Waits u k) dropped = Wait u k dropped
+
+-- the outcome that an answer tells: None only where it asks with a body that asks nothing
+abbrev pub seen_access : Access → Option Outcome
+seen_access (Hit reply dropped) = Some (record { turn = Turn.Ends reply; dropped = dropped })
+seen_access (Need home body dropped) = option_map (λ ask. record { turn = Turn.Asks home ask; dropped = dropped }) (ask_of body)
+seen_access (Wait u k dropped) = Some (record { turn = Turn.Waits u k; dropped = dropped })
+seen_access (Refuse reply dropped) = Some (record { turn = Turn.Ends reply; dropped = dropped })
+
+-- the call's desk and answer are those of the definition, its outcome in the form of the call's answers
+abbrev pub Gives : {A : Type 0} → (Turn → List (ObjectName × ℕ) → A) → DeskState → Moved → A → Type 0
+Gives form new m answer = (new ≡ m.desk) × (answer ≡ form m.turn m.dropped)
+
+-- it is no refusal
+abbrev pub IsNoRefusal : Access → Type 0
+IsNoRefusal (Refuse reply dropped) = ⊥
+IsNoRefusal _ = Unit {0}

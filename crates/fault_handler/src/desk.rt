@@ -7,7 +7,8 @@ ghost use Rattle.page_cache.specs.Numbers.{dirty_page};
 ghost use Rattle.version_stamps.specs.Stamps.{stamp_of};
 ghost use Rattle.fault_handler.specs.Lengths.{known_of, changed_length, length_of, room_of};
 ghost use Rattle.fault_handler.specs.Entries.{grant_in};
-ghost use Rattle.fault_handler.specs.Desks.{entries_of, state_of, entry_at, open_call_of, others_keep, other_transit};
+ghost use Rattle.fault_handler.specs.Desks.{entries_of, state_of, entry_at, open_call_of, others_keep, other_transit, is_in_transit_there};
+ghost use Rattle.fault_handler.specs.LockCalls.{answers};
 ghost use Rattle.fault_handler.specs.Invariant.{IsProc, IsDesk};
 ghost use Rattle.fault_handler.specs.Conditions.{IsOf, IsIdle, is_idle, empty_desk, held_grant};
 
@@ -17,7 +18,7 @@ mod changes;
 mod replies;
 
 use crate::entries::EntryTable;
-use crate::four::{index_of, other_transit, others_keep};
+use crate::four::{in_transit, index_of, other_transit, others_keep, transit_of};
 use crate::lengths::Known;
 use crate::open_call::OpenCall;
 use crate::pages::ResidentPages;
@@ -25,6 +26,8 @@ use crate::tasks::Task;
 use crate::transits::Transit;
 use address_map::AddressMap;
 use dom_history::LockState;
+use page_frames::{FEWEST_FRAMES, MOST_FRAMES};
+use ring_messages::Body;
 use std::alloc::Global;
 use std::marker::Model;
 use uid_names::{
@@ -37,7 +40,6 @@ use version_stamps::Seen;
 /// open, and the page that it moves.
 #[derive(Drop)]
 pub struct Desk {
-    alloc: Global,
     node: NodeId,
     nodes: u8,
     pages: ResidentPages,
@@ -68,13 +70,12 @@ impl Desk {
     pub fn new(alloc: Global, node: NodeId, nodes: u8, frames: u16) -> Result<Desk, NoMemory>
         requires nodes_low { 1 ≤ nodes }
         requires nodes_high { nodes ≤ MAX_NODES }
-        requires frames_low { 5 ≤ frames }
-        requires frames_high { frames ≤ 256 }
+        requires frames_low { FEWEST_FRAMES ≤ frames }
+        requires frames_high { frames ≤ MOST_FRAMES }
         ensures { IfOk result (λ desk. desk ≡ empty_desk node nodes frames) }
     {
         let pages = ResidentPages::new(alloc, frames)?;
         Ok(Desk {
-            alloc,
             node,
             nodes,
             pages,
@@ -178,6 +179,39 @@ impl Desk {
         other_transit(&self.moving, proc.number(), uid)
     }
 
+    /// Whether a process of the node has a page in transit, either way. Takes no memory.
+    pub fn in_transit(&self, uid: Uid, page: u32) -> bool
+        ensures { result ≡ is_in_transit_there self.now.moving uid page }
+    {
+        in_transit(&self.moving, uid, page)
+    }
+
+    /// Whether a body is an answer to the open call of a process. Takes no memory.
+    pub fn answers(&self, proc: ProcId, body: &Body) -> bool
+        requires { IsOf self.now proc }
+        ensures { result ≡ answers self.now proc.number body.now }
+    {
+        match self.calls[index_of(proc)] {
+            Some(call) => self.is_answered(proc, call, body),
+            None => false,
+        }
+    }
+
+    /// Whether it is an answer to this open call.
+    fn is_answered(&self, proc: ProcId, call: OpenCall, body: &Body) -> bool
+        requires { open_call_of self.now proc.number ≡ Some call }
+        ensures { result ≡ answers self.now proc.number body.now }
+    {
+        self.kept(proc);
+        if !call.is_access() {
+            return call.takes(body);
+        }
+        match transit_of(&self.moving, proc) {
+            Some(transit) => transit.takes(body),
+            None => unreachable!(),
+        }
+    }
+
     /// The lowest dirty page of an object. Takes no memory.
     pub fn dirty_page(&self, uid: Uid) -> Option<u32>
         ensures lowest { result ≡ dirty_page self.now.cache.pages uid }
@@ -217,7 +251,7 @@ impl Desk {
         ensures desk { IsDesk self.now }
         ensures process { IsProc proc.number }
     {
-        let _alloc = &self.alloc;
+        let _node = self.node;
         let _number = proc.number();
     }
 

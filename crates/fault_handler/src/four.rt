@@ -2,9 +2,9 @@
 ghost use Rattle.std.specs.Prelude.{◌≡◌, ◌+◌, ◌<◌, ◌≤◌, ◌==◌, not, ◌&&◌, None, if◌then◌else◌};
 ghost use Rattle.page_cache.specs.Numbers.{lesser};
 ghost use Rattle.fault_handler.specs.Entries.{keeps, keeps_writing, grant_in};
-ghost use Rattle.fault_handler.specs.Transits.{is_coming, moved_page};
+ghost use Rattle.fault_handler.specs.Transits.{is_moving, is_coming, moved_page};
 ghost use Rattle.fault_handler.specs.Invariant.{IsProc};
-ghost use Rattle.fault_handler.specs.Desks.{at, entry_at, others_keep, any_keeps, others_fetch, writing_grant, other_transit};
+ghost use Rattle.fault_handler.specs.Desks.{at, entry_at, others_keep, any_keeps, others_fetch, writing_grant, other_transit, is_in_transit_there};
 
 use crate::entries::EntryTable;
 use crate::transits::Transit;
@@ -145,4 +145,26 @@ pub(crate) fn other_transit(
     let third = lower_beside(moving, 3, p, uid, fourth);
     let second = lower_beside(moving, 2, p, uid, third);
     lower_beside(moving, 1, p, uid, second)
+}
+
+/// Whether process q has a page in transit, either way.
+fn moves(moving: &[Option<Transit>; NODE_PROCESSES], q: u8, uid: Uid, page: u32) -> bool
+    requires least { 1 ≤ q }
+    requires most { q ≤ NODE_PROCESSES }
+    ensures { result ≡ is_moving uid page (at moving.now q None) }
+{
+    match &moving[usize::from(q) - 1] {
+        Some(t) => t.uid.is(uid) && t.page == page,
+        None => false,
+    }
+}
+
+/// Whether a process has a page in transit, either way.
+pub(crate) fn in_transit(moving: &[Option<Transit>; NODE_PROCESSES], uid: Uid, page: u32) -> bool
+    ensures { result ≡ is_in_transit_there moving.now uid page }
+{
+    moves(moving, 1, uid, page)
+        || moves(moving, 2, uid, page)
+        || moves(moving, 3, uid, page)
+        || moves(moving, 4, uid, page)
 }

@@ -5,7 +5,6 @@ pub mod access;
 pub mod desk;
 pub mod entries;
 mod four;
-pub mod laws;
 pub mod lengths;
 pub mod open_call;
 mod pages;

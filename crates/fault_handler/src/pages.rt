@@ -1,15 +1,18 @@
 //! A node's resident pages by their names. Which frame a page is in stays in here.
-ghost use Rattle.std.specs.Prelude.{◌≡◌, ℕ, ◌+◌, ◌-◌, ◌<◌, ◌≤◌, List, [], ◌∷◌, length, take, drop, false, not, ◌&&◌, Some, None, IfOk, IfSome, OnOk, OnErr};
+ghost use Rattle.std.specs.Prelude.{◌≡◌, ℕ, ◌+◌, ◌-◌, ◌<◌, ◌≤◌, List, [], ◌∷◌, length, take, drop, false, not, ◌&&◌, is_some, Some, None, IfOk, IfSome, IfNone, OnOk, OnErr};
+ghost use Rattle.std.specs.Bool.{OnTrue, OnFalse};
 ghost use Rattle.std.specs.Option.{option_map};
 ghost use Rattle.page_cache.specs.Caches.{IsCache, IsResident, IsFrame, page_at, page_in, free_count};
 ghost use Rattle.page_cache.specs.Changes.{used, without_page, without_object};
 ghost use Rattle.page_cache.specs.Victims.{victim_of, name_of};
 ghost use Rattle.page_cache.specs.Numbers.{dirty_page, resident_pages};
 ghost use Rattle.fault_handler.specs.ShownPages.{fresh_page, changed_page, stored, as_sent, settled};
+ghost use Rattle.fault_handler.specs.Tasks.{page_of, start_of, size_of};
+ghost use Rattle.fault_handler.specs.Unseen.{loaded_at};
 
-use crate::tasks::part;
+use crate::tasks::{Task, part};
 use page_cache::{Cache, PageList};
-use page_frames::{Flags, FrameNo};
+use page_frames::{FEWEST_FRAMES, Flags, FrameNo, MOST_FRAMES};
 use std::alloc::Global;
 use std::marker::Model;
 use uid_names::{ByteList, NoMemory, PAGE_BYTES, Uid};
@@ -58,8 +61,8 @@ impl Model for ResidentPages {
 impl ResidentPages {
     /// No page is resident, and no frame is reserved.
     pub(crate) fn new(alloc: Global, frames: u16) -> Result<ResidentPages, NoMemory>
-        requires few { 5 ≤ frames }
-        requires many { frames ≤ 256 }
+        requires few { FEWEST_FRAMES ≤ frames }
+        requires many { frames ≤ MOST_FRAMES }
         ensures { IfOk result (λ pages. pages ≡ record { frames = frames; reserved = 0; pages = [] }) }
     {
         let cache = Cache::new(alloc, frames)?;
@@ -84,22 +87,31 @@ impl ResidentPages {
         }
     }
 
-    /// So many bytes of a resident page, from one on.
+    /// So many bytes of a page, from one on, which becomes the last used one; None where it is not
+    /// resident. Without memory nothing changes.
     pub(crate) fn load(
-        &self,
+        &mut self,
         alloc: Global,
         uid: Uid,
         page: u32,
         start: u32,
         count: u32,
-    ) -> Result<ByteList, NoMemory>
-        requires resident { IsResident self.now.pages uid page }
+    ) -> Result<Option<ByteList>, NoMemory>
         requires within { start + count ≤ PAGE_BYTES }
-        ensures bytes { IfOk result (λ bytes. option_map (λ r. take count (drop start r.bytes)) (page_at self.now.pages uid page) ≡ Some bytes) }
-        ensures size { IfOk result (λ bytes. length bytes ≡ count) }
+        ensures bytes { IfOk result (λ loaded. loaded ≡ option_map (λ r. take count (drop start r.bytes)) (page_at self.old.pages uid page)) }
+        ensures used { IfOk result (λ loaded. IfSome loaded (λ _. self.new ≡ record self.old { pages = used self.old.pages uid page })) }
+        ensures absent { IfOk result (λ loaded. IfNone loaded (page_at self.old.pages uid page ≡ None)) }
+        ensures left { IfOk result (λ loaded. IfNone loaded (self.new ≡ self.old)) }
+        ensures unchanged { OnErr result (self.new ≡ self.old) }
     {
-        let bytes = self.cache.bytes(frame_of(&self.cache, uid, page));
-        part(alloc, bytes, start, count)
+        match self.cache.find(uid, page) {
+            Some(frame) => {
+                let bytes = part(alloc, self.cache.bytes(frame), start, count)?;
+                self.cache.touch(uid, page);
+                Ok(Some(bytes))
+            }
+            None => Ok(None),
+        }
     }
 
     /// The bytes of a resident page.
@@ -118,24 +130,41 @@ impl ResidentPages {
         self.cache.touch(uid, page);
     }
 
-    /// Stores bytes in a resident page, which becomes the last used one.
-    pub(crate) fn store(&mut self, uid: Uid, page: u32, start: u32, bytes: &[u8])
-        requires resident { IsResident self.old.pages uid page }
-        requires within { start + length bytes.now ≤ PAGE_BYTES }
-        ensures { self.new ≡ record self.old { pages = stored uid page start bytes.now self.old.pages } }
+    /// The bytes that a load takes from its page, where that is resident; None of a store.
+    pub(crate) fn loaded(&self, alloc: Global, task: &Task) -> Result<Option<ByteList>, NoMemory>
+        requires { start_of task.now + size_of task.now.work ≤ PAGE_BYTES }
+        ensures { IfOk result (λ loaded. loaded ≡ loaded_at (page_at self.now.pages task.now.uid (page_of task.now)) task.now) }
     {
-        self.cache.touch(uid, page);
-        let frame = frame_of(&self.cache, uid, page);
-        let flags = self.cache.flags(frame);
-        self.cache.write(frame, start, bytes);
-        self.cache.set_flags(
-            frame,
-            Flags {
-                dirty: true,
-                sent: false,
-                transit: flags.transit,
-            },
-        );
+        match self.cache.find(task.uid, task.page()) {
+            Some(frame) => task.loaded(alloc, self.cache.bytes(frame)),
+            None => Ok(None),
+        }
+    }
+
+    /// Stores bytes in a page, which becomes the last used one, if it is resident: tells whether it is.
+    pub(crate) fn store(&mut self, uid: Uid, page: u32, start: u32, bytes: &[u8]) -> bool
+        requires within { start + length bytes.now ≤ PAGE_BYTES }
+        ensures resident { result ≡ is_some (page_at self.old.pages uid page) }
+        ensures stored { OnTrue result (self.new ≡ record self.old { pages = stored uid page start bytes.now self.old.pages }) }
+        ensures absent { OnFalse result (page_at self.old.pages uid page ≡ None) }
+        ensures left { OnFalse result (self.new ≡ self.old) }
+    {
+        match self.cache.use_page(uid, page) {
+            Some(frame) => {
+                let flags = self.cache.flags(frame);
+                self.cache.write(frame, start, bytes);
+                self.cache.set_flags(
+                    frame,
+                    Flags {
+                        dirty: true,
+                        sent: false,
+                        transit: flags.transit,
+                    },
+                );
+                true
+            }
+            None => false,
+        }
     }
 
     /// The page is on its way home, and not changed since it was sent.

@@ -1,7 +1,7 @@
 //! A cache alone, and a desk of 64 frames with its cache.
-ghost use Rattle.std.specs.Prelude.{◌≡◌, IfOk};
+ghost use Rattle.std.specs.Prelude.{◌≡◌, IfOk, IsSome};
 ghost use Rattle.dom_history.specs.Ranges.{IsOp, IsSpot, IsInPage};
-ghost use Rattle.fault_handler.specs.Conditions.{IsAccess};
+ghost use Rattle.fault_handler.specs.Accesses.{desk_op};
 
 use crate::{object, process};
 use anyhow::Result;
@@ -65,6 +65,7 @@ pub fn evict(rt: &HostRuntime, frames: u16, count: u32) -> Result<(u64, u64)> {
 /// more pages than frames each load brings its page.
 #[derive(Drop)]
 struct Side {
+    alloc: Global,
     desk: Desk,
     proc: ProcId,
     pages: u32,
@@ -77,12 +78,20 @@ impl Side {
         let mut desk = Desk::new(alloc, proc.node(), 2, 64)?;
         desk.know(uid, 1, 1024, 1_048_576)?;
         match desk.state(proc, uid) {
-            LockState::Free if desk.seen(uid).is_some() && desk.not_free(proc) < 8 => {
+            LockState::Free
+                if desk.seen(uid).is_some()
+                    && desk.not_free(proc) < 8
+                    && uid.home().number() <= desk.nodes() => {
                 desk.set_state(proc, uid, LockState::Held(mode), 1)
             }
             _ => {}
         }
-        let mut side = Side { desk, proc, pages };
+        let mut side = Side {
+            alloc,
+            desk,
+            proc,
+            pages,
+        };
         for page in 0..pages {
             side.load(page)?;
         }
@@ -100,42 +109,43 @@ impl Side {
         Ok(Spot::Of(uid, page * 1024))
     }
 
-    fn access(&mut self, op: &Op) -> Result<Option<Access>>
-        requires access { IsAccess op.now }
-        requires range { IsOp op.now }
-    {
-        if !self.desk.is_idle(self.proc) {
-            return Ok(None);
-        }
-        Ok(Some(self.desk.access(self.proc, op)?))
-    }
-
-    /// The page comes that a load asked for.
-    fn come(&mut self, i: u32) -> Result<Option<Access>> {
+    /// The page comes that a load asked for: 1 where it is done.
+    fn come(&mut self, i: u32) -> Result<u32> {
         let (stamp, bytes) = (1, [(i % 251) as u8; 1024]);
         let body = Body::Page { stamp, bytes };
         match self.desk.open_call(self.proc) {
-            Some(OpenCall::Access) if self.desk.fits(self.proc, &body) => {
-                Ok(Some(self.desk.page_came(self.proc, &body)?))
+            Some(OpenCall::Access) if self.desk.answers(self.proc, &body) => {
+                let access = self.desk.page_came(self.alloc, self.proc, &body)?;
+                Ok(u32::from(matches!(&access, Access::Hit(..))))
             }
-            _ => Ok(None),
+            _ => Ok(0),
+        }
+    }
+
+    /// A load or store: 1 where it is done.
+    fn access(&mut self, op: &Op, i: u32) -> Result<u32>
+        requires access { IsSome (desk_op op.now) }
+        requires range { IsOp op.now }
+    {
+        if !self.desk.is_idle(self.proc) {
+            return Ok(0);
+        }
+        match &self.desk.access(self.alloc, self.proc, op)? {
+            Access::Hit(..) => Ok(1),
+            Access::Need(..) => self.come(i),
+            _ => Ok(0),
         }
     }
 
     fn load(&mut self, i: u32) -> Result<u32> {
         let (spot, count) = (self.spot(i)?, 1);
-        let answer = match self.access(&Op::Load { spot, count })? {
-            Some(Access::Need(..)) => self.come(i)?,
-            answer => answer,
-        };
-        Ok(u32::from(matches!(&answer, Some(Access::Hit(..)))))
+        self.access(&Op::Load { spot, count }, i)
     }
 
-    fn store(&mut self, alloc: Global, i: u32) -> Result<u32> {
+    fn store(&mut self, i: u32) -> Result<u32> {
         let spot = self.spot(i)?;
-        let bytes = ByteList::from_slice(alloc, &[(i % 251) as u8])?;
-        let answer = self.access(&Op::Store { spot, bytes })?;
-        Ok(u32::from(matches!(&answer, Some(Access::Hit(..)))))
+        let bytes = ByteList::from_slice(self.alloc, &[(i % 251) as u8])?;
+        self.access(&Op::Store { spot, bytes }, i)
     }
 }
 
@@ -147,5 +157,5 @@ pub fn load(rt: &HostRuntime, pages: u32, count: u32) -> Result<(u64, u64)> {
 
 pub fn store(rt: &HostRuntime, pages: u32, count: u32) -> Result<(u64, u64)> {
     let mut side = Side::new(rt.alloc(), pages)?;
-    timed!(rt, count, i => side.store(rt.alloc(), i)?)
+    timed!(rt, count, i => side.store(i)?)
 }

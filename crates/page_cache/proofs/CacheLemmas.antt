@@ -1,5 +1,5 @@
 -- The cache that its parts stand for, and what each change keeps of them.
-use Rattle.std.proofs.Common.{◌≡◌, ◌≢◌, ℕ, suc, ◌-◌, ◌<◌, ◌≤◌, Bool, true, false, not, cond, List, [], ◌∷◌, map, filter, length, Option, Some, None, is_some, IsSome, count_by, IfSome, IfNone, ◌↔◌, inl, inr, refl, sym, ap, ◌∙◌, arith, subst}
+use Rattle.std.proofs.Common.{◌≡◌, ◌≢◌, ℕ, suc, ◌-◌, ◌<◌, ◌≤◌, Bool, true, false, not, List, [], ◌∷◌, map, filter, length, Option, Some, None, is_some, IsSome, count_by, IfSome, IfNone, ◌↔◌, inl, inr, refl, sym, ap, ◌∙◌, arith, subst}
 use Rattle.std.proofs.lemmas.Bool.Decides.{nat_tests}
 use Rattle.std.proofs.lemmas.Bool.{cases_eq}
 use Rattle.std.proofs.lemmas.List.{length-map}
@@ -19,8 +19,9 @@ use Rattle.page_cache.specs.Caches.{Resident, Cached, IsCache, IsFrame, is_of, i
 use Rattle.page_cache.specs.Changes.{changed_if, changed_in, without_page, without_object, spliced, with_flags, with_bytes, used}
 use Rattle.page_cache.specs.Insides.{Slot, IsIndex, is_beyond, same_name, slot_is, slot_in, seen, cache_of, slot_limit, IsSound}
 use Rattle.uid_names.proofs.Finds.{find-passes}
-use Rattle.uid_names.proofs.ListLemmas.{none_is_no_some, by_cases, count_by-cons_passes, count_by-cons_fails, find-count_none, count_by-none, count_by-found, filter_not-none, length-filter_not, count_by-filter-le, count_by-filter_takes, filter-filter_leaves, find_once, count_by-found_by, count_by-filter_found, count_by-to_front, find-map, filter-map, count_by-map}
-use Rattle.page_cache.proofs.SlotLemmas.{same_number, slot_is-uid, slot_is-page, lookup-page}
+use Rattle.uid_names.proofs.ListLemmas.{by_cases, count_by-cons_passes, count_by-cons_fails, count_by-none, count_by-found, filter_not-none, length-filter_not, count_by-filter-le, filter-filter_leaves, find_once, count_by-found_by, count_by-filter_found, count_by-to_front, find-map, filter-map, count_by-map}
+use Rattle.lru.specs.LruCache.{promoted}
+use Rattle.page_cache.proofs.SlotLemmas.{same_number, slot_is-uid, slot_is-page, lookup-page, promoted-page, promoted-absent}
 
 -- a taken frame has one slot at most, a free one none
 slot_limit-le : (pool : Pool) (frame : ℕ) → slot_limit pool frame ≤ 1
@@ -362,6 +363,40 @@ module _ (pool : Pool) (slots : List Slot) (uid : ObjectName) (page : ℕ) (none
 -- caches of the same pages
 pub same_cache : (frames reserved : ℕ) (ps qs : List Resident) → ps ≡ qs → ◌≡◌ {A = Cached} (record { frames = frames; reserved = reserved; pages = ps }) (record { frames = frames; reserved = reserved; pages = qs })
 same_cache frames reserved ps qs same = rw same refl
+
+-- the name of a page
+abbrev name_of_page : ObjectName → ℕ → PageName
+name_of_page uid page = record { uid = uid; page = page }
+
+-- a page comes to the front where it is resident
+module _ (pool : Pool) (reserved : ℕ) (slots : List Slot) (places : ℕ) (index : List Slot) (sound : IsSound pool reserved slots places index) (uid : ObjectName) (page : ℕ) where
+  pub IsSound-promoted : IsSound pool reserved (promoted (same_name (name_of_page uid page)) slots) places index
+  IsSound-promoted = by_slot (find (slot_is uid page) slots) refl
+    where
+      by_slot : (o : Option Slot) → find (slot_is uid page) slots ≡ o → IsSound pool reserved (promoted (same_name (name_of_page uid page)) slots) places index
+      by_slot None none = rw (promoted-absent (name_of_page uid page) slots none) sound
+      by_slot (Some s) found = rw (promoted-page (name_of_page uid page) slots s found (sound.pages uid page)) (IsSound-used pool reserved slots places index sound uid page s found)
+
+  pub map-seen-promoted : map (seen pool) (promoted (same_name (name_of_page uid page)) slots) ≡ used (map (seen pool) slots) uid page
+  map-seen-promoted = by_slot (find (slot_is uid page) slots) refl
+    where
+      absent : find (slot_is uid page) slots ≡ None → page_at (map (seen pool) slots) uid page ≡ None
+      absent none = page_at-seen pool slots uid page ∙ ap (option_map (seen pool)) none
+
+      by_slot : (o : Option Slot) → find (slot_is uid page) slots ≡ o → map (seen pool) (promoted (same_name (name_of_page uid page)) slots) ≡ used (map (seen pool) slots) uid page
+      by_slot None none =
+          rw (promoted-absent (name_of_page uid page) slots none, absent none)
+          (sym (filter_not-none (is_page uid page) (map (seen pool) slots) (count_by-none (is_page uid page) (map (seen pool) slots) (absent none))))
+      by_slot (Some s) found = rw (promoted-page (name_of_page uid page) slots s found (sound.pages uid page)) (map-seen-used pool reserved slots places index sound uid page s found)
+
+  -- its slot is found as before
+  pub lookup-promoted : lookup (same_name (name_of_page uid page)) (promoted (same_name (name_of_page uid page)) slots) ≡ lookup (same_name (name_of_page uid page)) slots
+  lookup-promoted = by_slot (find (slot_is uid page) slots) refl
+    where
+      by_slot : (o : Option Slot) → find (slot_is uid page) slots ≡ o → lookup (same_name (name_of_page uid page)) (promoted (same_name (name_of_page uid page)) slots) ≡ lookup (same_name (name_of_page uid page)) slots
+      by_slot None none = rw (promoted-absent (name_of_page uid page) slots none) refl
+      by_slot (Some s) found =
+          rw (promoted-page (name_of_page uid page) slots s found (sound.pages uid page), lookup-page (name_of_page uid page) (s ∷ filter (λ x. not (slot_is uid page x)) slots), lookup-page (name_of_page uid page) slots, found, find-passes (slot_is uid page) slots s found) refl
 
 -- a cache is known by its three parts
 pub cache_from_fields : (c : Cached) (frames reserved : ℕ) (ps : List Resident) → c.frames ≡ frames → c.reserved ≡ reserved → c.pages ≡ ps → ◌≡◌ {A = Cached} c (record { frames = frames; reserved = reserved; pages = ps })

@@ -1,5 +1,5 @@
 -- The part of the index that an object's pages are, in the order of their numbers.
-use Rattle.std.proofs.Common.{◌≡◌, ℕ, ◌<◌, ◌≤◌, ◌==◌, Bool, true, false, not, ◌&&◌, cond, List, [], ◌∷◌, map, filter, length, Option, Some, None, IsSome, count_by, refl, sym, ap, ◌∙◌, arith}
+use Rattle.std.proofs.Common.{◌≡◌, ℕ, ◌<◌, ◌≤◌, ◌==◌, Bool, true, false, ◌&&◌, List, [], ◌∷◌, map, filter, length, Option, Some, None, IsSome, count_by, refl, sym, ap, ◌∙◌, arith}
 use Rattle.std.proofs.lemmas.Bool.Decides.{nat_tests}
 use Rattle.std.proofs.lemmas.List.Elements.{All-head, filter_passes}
 use Rattle.std.proofs.lemmas.List.Sums.{length-filter}
@@ -9,7 +9,6 @@ use Rattle.std.specs.List.Sorted.{IsStrictlySortedBy}
 use Rattle.std.specs.Map.{keys_of}
 use Rattle.std.specs.declared.cmp.Ordering.TheVariants.{Less}
 use Rattle.uid_names.specs.Names.{ObjectName, same_uid}
-use Rattle.uid_names.proofs.Orders.{same_uid_is}
 use Rattle.uid_names.proofs.ListLemmas.{by_cases, count_by-cons, count_by-cons_passes, count_by-cons_fails, count_by-none, find-count_none, count_by-filter-le, count_by-map, filter-map}
 use Rattle.page_frames.specs.Pools.{Pool, frame_in}
 use Rattle.page_cache.specs.declared.slots.PageName.{PageName}

@@ -1,5 +1,5 @@
 -- Lemmas on the loops over the slots, from the one used longest ago and from the one used last.
-use Rattle.std.proofs.Common.{◌≡◌, ℕ, Bool, true, false, not, ◌&&◌, cond, List, [], ◌∷◌, ◌++◌, map, Option, Some, None, refl, sym, ap, arith, count_by}
+use Rattle.std.proofs.Common.{◌≡◌, Bool, true, false, not, ◌&&◌, cond, List, [], ◌∷◌, ◌++◌, map, Some, refl, sym, ap, arith, count_by}
 use Rattle.std.specs.Bool.{beq}
 use Rattle.std.proofs.lemmas.List.{reverse-append, map-append}
 use Rattle.page_frames.specs.declared.frame.Flags.{Flags}

@@ -1,5 +1,5 @@
 -- Lemmas on a cache's pages, for its own calls and for its callers.
-use Rattle.std.proofs.Common.{◌≡◌, ℕ, ◌<◌, ◌≤◌, Bool, true, List, [], ◌∷◌, ◌++◌, map, reverse, min, nat_le, inl, inr, ◌⊎◌, Option, Some, None, IfSome, count_by, length, refl, sym, ap, ◌∙◌, arith}
+use Rattle.std.proofs.Common.{◌≡◌, ℕ, ◌<◌, ◌≤◌, Bool, true, List, [], ◌∷◌, ◌++◌, reverse, min, nat_le, inl, inr, ◌⊎◌, Option, Some, None, IfSome, count_by, refl, sym, ap, ◌∙◌, arith}
 use Rattle.std.proofs.lemmas.Bool.Decides.{nat_tests}
 use Rattle.std.proofs.lemmas.List.{reverse-append}
 use Rattle.std.specs.List.{find}

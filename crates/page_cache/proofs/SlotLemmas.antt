@@ -1,11 +1,11 @@
 -- Lemmas on slots by the names of their pages and by their frames, and on what each of the two collections of them does.
-use Rattle.std.proofs.Common.{◌≡◌, ℕ, ◌-◌, ◌<◌, ◌≤◌, ◌==◌, Bool, true, false, not, ◌&&◌, cond, List, [], ◌∷◌, filter, take, length, Option, Some, None, count_by, refl, sym, ap, ◌∙◌, arith}
+use Rattle.std.proofs.Common.{◌≡◌, ℕ, ◌-◌, ◌<◌, ◌≤◌, ◌==◌, Bool, true, false, not, ◌&&◌, cond, List, [], ◌∷◌, filter, take, length, Some, None, count_by, refl, sym, ap, ◌∙◌, arith}
 use Rattle.std.proofs.lemmas.Bool.Decides.{nat_tests}
 use Rattle.std.proofs.lemmas.List.{take_all}
 use Rattle.std.specs.List.{find}
 use Rattle.std.specs.Option.{option_map, option_map_or}
 use Rattle.std.specs.Cmp.{nat_eq_equiv, both_tied, unsigned_ties}
-use Rattle.std.specs.Ordering.{nat_cmp, ordering_then, is_eq, match_ordering}
+use Rattle.std.specs.Ordering.{nat_cmp, is_eq, match_ordering}
 use Rattle.std.specs.declared.cmp.Ordering.{Ordering}
 use Rattle.std.specs.declared.cmp.Ordering.TheVariants.{Less, Equal, Greater}
 use Rattle.std.specs.Map.{lookup, lookup_entry, remove_entry}
@@ -13,7 +13,7 @@ use Rattle.std.specs.BTreeMap.{insert_entry, is_at}
 use Rattle.lru.specs.LruCache.{lru_cache, promoted, put_entries}
 use Rattle.uid_names.specs.Names.{ObjectName, same_uid}
 use Rattle.uid_names.proofs.Orders.{same_uid_is}
-use Rattle.uid_names.proofs.ListLemmas.{by_cases, find-filter_leaves, find-count_none, count_by-none, count_by-cons, count_by-cons_passes, count_by-cons_fails, filter_not-none}
+use Rattle.uid_names.proofs.ListLemmas.{by_cases, find-count_none, count_by-none, count_by-cons, count_by-cons_passes, count_by-cons_fails, filter_not-none}
 use Rattle.page_cache.specs.declared.slots.PageName.{PageName}
 use Rattle.page_cache.specs.Insides.{Slot, same_name, name_cmp, slot_is, IsIndex}
 

@@ -1,6 +1,6 @@
 -- The cache that a pool, an order of slots and an index stand for. It decides nothing that a caller sees: only the
 -- bodies and the model of `Cache` speak of it.
-use Rattle.std.specs.Prelude.{◌≡◌, ℕ, ◌+◌, ◌^◌, ◌≤◌, Bool, ◌&&◌, ◌==◌, nat_le, List, length, map, count_by, is_some, if◌then◌else◌}
+use Rattle.std.specs.Prelude.{◌≡◌, ℕ, ◌+◌, ◌≤◌, Bool, ◌&&◌, ◌==◌, nat_le, List, length, map, count_by, is_some, if◌then◌else◌}
 use Rattle.std.specs.BTreeMap.Range.{range_contains}
 use Rattle.std.specs.declared.cmp.Ordering.{Ordering}
 use Rattle.std.specs.declared.ops.Bound.{Bound}

@@ -121,6 +121,21 @@ impl Cache {
         self.order.promote(&PageName { uid, page });
     }
 
+    /// The page becomes the last used one, and its frame is told; None where it is not resident. Takes no
+    /// memory.
+    pub fn use_page(&mut self, uid: Uid, page: u32) -> Option<FrameNo>
+        ensures frame { result ≡ option_map (λ r. r.frame) (page_at self.old.pages uid page) }
+        ensures absent { IfNone result (page_at self.old.pages uid page ≡ None) }
+        ensures pages { self.new ≡ record self.old { pages = used self.old.pages uid page } }
+
+        // The frame is that page's and no other's.
+        ensures in_it { IfSome result (λ frame. page_in self.new.pages frame ≡ page_at self.new.pages uid page) }
+        ensures is_frame { IfSome result (IsFrame self.new.pages) }
+        ensures cache { IsCache self.new }
+    {
+        self.order.get(&PageName { uid, page }).copied()
+    }
+
     /// A reserved frame becomes this page, clean, not in transit and the last used one; without
     /// memory the cache stays as it was.
     pub fn install(&mut self, uid: Uid, page: u32, bytes: &[u8; PAGE_BYTES]) -> Result<(), NoMemory>

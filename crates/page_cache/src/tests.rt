@@ -63,12 +63,15 @@ fn clean_pages_go_before_dirty_ones_and_those_in_transit_stay(rt: HostRuntime) -
     }
     touch(&mut cache, uid, 0)?;
     assert_eq!(rt; cache.victim(), Some((uid, 1)));
+    assert!(rt; cache.use_page(uid, 1).is_some());
+    assert!(rt; cache.use_page(uid, 9).is_none());
+    assert_eq!(rt; cache.victim(), Some((uid, 2)));
     for page in 1..5 {
         set_flags(&mut cache, uid, page, DIRTY)?;
     }
     assert_eq!(rt; cache.victim(), Some((uid, 0)));
     set_flags(&mut cache, uid, 0, IN_TRANSIT)?;
-    assert_eq!(rt; cache.victim(), Some((uid, 1)));
+    assert_eq!(rt; cache.victim(), Some((uid, 2)));
     for page in 1..5 {
         set_flags(&mut cache, uid, page, IN_TRANSIT)?;
     }

@@ -1,68 +1,91 @@
 //! Loads, stores, lengths and mappings.
-ghost use Rattle.std.specs.Prelude.{◌≡◌, ◌+◌, ◌/◌, ◌%◌, ◌≤◌, ◌<◌, true, false, is_some, length, Some, None, IfOk, IfSome, OnErr, []};
-ghost use Rattle.std.specs.Option.{option_map};
-ghost use Rattle.uid_names.specs.Rooms.{IsPageNumber};
+ghost use Rattle.std.specs.Prelude.{◌≡◌, ◌⊎◌, ◌+◌, ◌%◌, ◌≤◌, ◌<◌, true, false, is_some, length, ◌∷◌, Some, None, IsSome, IfOk, IfSome, IfNone, OnOk, OnErr, [], vec_capacity};
+ghost use Rattle.std.specs.Option.{ForSome, option_map};
 ghost use Rattle.dom_history.specs.Locks.{is_held};
+ghost use Rattle.dom_history.specs.Ranges.{IsOp};
+ghost use Rattle.page_cache.specs.Caches.{IsResident, page_at, free_count};
 ghost use Rattle.page_cache.specs.Victims.{victim_of};
 ghost use Rattle.address_map.specs.Mappings.{mapping_of};
-ghost use Rattle.page_cache.specs.Caches.{IsResident, page_at, free_count};
-ghost use Rattle.dom_history.specs.Ranges.{IsOp};
-ghost use Rattle.fault_handler.specs.Tasks.{page_of, start_of};
-ghost use Rattle.fault_handler.specs.Unseen.{loaded_from};
-ghost use Rattle.fault_handler.specs.Entries.{keeps_writing};
-ghost use Rattle.fault_handler.specs.Desks.{entry_at, state_of, maps_of, open_call_of, moving_of, others_fetch};
+ghost use Rattle.ring_messages.specs.Bodies.{body_of_ask};
+ghost use Rattle.fault_handler.specs.Tasks.{page_of};
+ghost use Rattle.fault_handler.specs.Unseen.{ComesTo, GivesTo, IsLocal, MayMiss};
+ghost use Rattle.fault_handler.specs.Desks.{state_of, maps_of, others_fetch};
 ghost use Rattle.fault_handler.specs.Invariant.{IsAllowed, is_marked, is_dirty};
-ghost use Rattle.fault_handler.specs.Accesses.{task_at, page_by, frame_by, page_access, load_at, store_at, length_by, map_by, unmap_by, access_of, target_of, page_out, fetched, room_made};
-ghost use Rattle.fault_handler.specs.Conditions.{IsOf, IsIdle, IsAccess, MayWant};
-ghost use Rattle.fault_handler.specs.Answered.{Gives};
-ghost use Rattle.fault_handler.specs.Outcomes.{FitsAnswer, IsAsked, AfterAccess};
+ghost use Rattle.fault_handler.specs.Outcomes.{as_access, seen_access, Gives};
+ghost use Rattle.fault_handler.specs.Victims.{Victim};
+ghost use Rattle.fault_handler.specs.Accesses.{Accessed, DeskOp, Comes, desk_op, page_by, load_at, store_at, length_by, map_by, unmap_by, access_of, target_of, page_out, fetched, room_made};
+ghost use Rattle.fault_handler.specs.Conditions.{IsOf, IsIdle, MayWant};
+ghost use Rattle.fault_handler.specs.Ready.{IsReady};
+ghost use Rattle.fault_handler.specs.Next.{FitsTurn, IsAsked, IsNext, IsAtOnce};
 
 use super::Desk;
-use crate::access::Access;
+use crate::access::{Access, Local};
 use crate::four::{index_of, others_fetch, writing_grant};
 use crate::tasks::{Task, Work};
 use address_map::{MapRefusal, NotMapped};
 use dom_history::{Dropped, Op, Reply, Spot};
 use ring_messages::Body;
+use std::alloc::Global;
 use uid_names::{ByteList, NoMemory, PAGE_BYTES, ProcId, Uid};
 
 impl Desk {
     /// Begins a load, a store, or a call on a length or a mapping, or goes on with one that waited. Only
     /// loads and stores want memory, and without it nothing changes.
-    pub fn access(&mut self, proc: ProcId, op: &Op) -> Result<Access, NoMemory>
+    pub fn access(&mut self, alloc: Global, proc: ProcId, op: &Op) -> Result<Access, NoMemory>
         requires own { IsOf self.old proc }
         requires idle { IsIdle self.old proc.number }
-        requires access { IsAccess op.now }
+        requires access { IsSome (desk_op op.now) }
         requires range { IsOp op.now }
-        ensures outcome { IfOk result (Gives self.new (access_of self.old proc.number op.now)) }
-        ensures fits { IfOk result (FitsAnswer op.now) }
-        ensures asks { IfOk result IsAsked }
-        ensures next { IfOk result (AfterAccess self.new proc.number) }
+        ensures outcome { IfOk result (λ access. ForSome (desk_op op.now) (λ o.
+            Comes proc.number (λ m. Gives as_access self.new m access) (access_of self.old proc.number o))) }
+        ensures fits { IfOk result (λ access. ForSome (seen_access access) (λ o. FitsTurn op.now o.turn)) }
+        ensures asks { IfOk result (λ access. ForSome (seen_access access) (λ o. IsAsked self.new.nodes o.turn)) }
+        ensures next { IfOk result (λ access. ForSome (seen_access access) (λ o. IsNext self.new proc.number op.now o.turn)) }
+        ensures ready { OnOk result (IsReady self.new proc.number) }
+        ensures now { IfOk result (λ access. ForSome (seen_access access) (λ o. IsAtOnce op.now o.turn)) }
         ensures unchanged { OnErr result (self.new ≡ self.old) }
-        ensures memory { OnErr result (MayWant op.now) }
+        ensures memory { OnErr result (ForSome (desk_op op.now) MayWant) }
         ensures node { self.new.node ≡ self.old.node }
+        ensures nodes { self.new.nodes ≡ self.old.nodes }
     {
         self.kept(proc);
-        self.begun(proc, op)
+        self.begun(alloc, proc, op)
     }
 
     /// The same, as the definition has it.
-    fn begun(&mut self, proc: ProcId, op: &Op) -> Result<Access, NoMemory>
+    fn begun(&mut self, alloc: Global, proc: ProcId, op: &Op) -> Result<Access, NoMemory>
         requires idle { IsIdle self.old proc.number }
-        requires access { IsAccess op.now }
+        requires access { IsSome (desk_op op.now) }
         requires range { IsOp op.now }
-        ensures outcome { IfOk result (Gives self.new (access_of self.old proc.number op.now)) }
+        ensures outcome { IfOk result (λ access. IfSome (desk_op op.now) (λ o. ComesTo proc.number self.new (access_of self.old proc.number o) access)) }
         ensures unchanged { OnErr result (self.new ≡ self.old) }
-        ensures memory { OnErr result (MayWant op.now) }
+        ensures memory { OnErr result (IfSome (desk_op op.now) MayWant) }
+    {
+        match self.local(alloc, proc, op)? {
+            Local::Done(reply) => Ok(Access::done(alloc, reply)),
+            Local::Refused(reply) => Ok(Access::refused(alloc, reply)),
+            Local::Misses(task) => self.miss(alloc, proc, task),
+        }
+    }
+
+    /// What the tests and the resident pages of a desk alone come to.
+    fn local(&mut self, alloc: Global, proc: ProcId, op: &Op) -> Result<Local, NoMemory>
+        requires idle { IsIdle self.old proc.number }
+        requires access { IsSome (desk_op op.now) }
+        requires range { IsOp op.now }
+        ensures outcome { IfOk result (λ local. IfSome (desk_op op.now) (λ o. IsLocal proc.number self.old self.new (access_of self.old proc.number o) local)) }
+        ensures misses { IfOk result (λ local. IfSome (desk_op op.now) (λ o. MayMiss o local)) }
+        ensures unchanged { OnErr result (self.new ≡ self.old) }
+        ensures memory { OnErr result (IfSome (desk_op op.now) MayWant) }
     {
         match op {
             Op::Load { spot, count } => match self.target(proc, *spot) {
-                Some((uid, offset)) => self.load(proc, uid, offset, *count),
-                None => Ok(self.refuse(Reply::NotMapped)),
+                Some((uid, offset)) => self.load(alloc, proc, uid, offset, *count),
+                None => Ok(Local::Refused(Reply::NotMapped)),
             },
             Op::Store { spot, bytes } => match self.target(proc, *spot) {
-                Some((uid, offset)) => self.store(proc, uid, offset, bytes),
-                None => Ok(self.refuse(Reply::NotMapped)),
+                Some((uid, offset)) => self.store(alloc, proc, uid, offset, bytes),
+                None => Ok(Local::Refused(Reply::NotMapped)),
             },
             Op::Length { uid } => Ok(self.length(proc, *uid)),
             Op::Map { uid } => Ok(self.map(proc, *uid)),
@@ -73,20 +96,6 @@ impl Desk {
             | Op::Delete { .. }
             | Op::List { .. } => unreachable!(),
         }
-    }
-
-    /// An answer that is a reply.
-    fn done(&self, reply: Reply) -> Access
-        ensures { result ≡ Access.Hit reply [] }
-    {
-        Access::Hit(reply, Dropped::new(self.alloc))
-    }
-
-    /// An answer that is a refusal.
-    fn refuse(&self, reply: Reply) -> Access
-        ensures { result ≡ Access.Refuse reply [] }
-    {
-        Access::Refuse(reply, Dropped::new(self.alloc))
     }
 
     /// The object and the offset that a spot names; None where it is not mapped.
@@ -102,158 +111,118 @@ impl Desk {
         }
     }
 
-    fn load(&mut self, proc: ProcId, uid: Uid, offset: u32, count: u32) -> Result<Access, NoMemory>
-        requires idle { IsIdle self.old proc.number }
-        requires some { 1 ≤ count }
-        requires within { offset % PAGE_BYTES + count ≤ PAGE_BYTES }
-        ensures outcome { IfOk result (Gives self.new (load_at self.old proc.number count (Some (uid, offset)))) }
-        ensures unchanged { OnErr result (self.new ≡ self.old) }
-    {
-        if !self.entries[index_of(proc)].state(uid).is_held() {
-            return Ok(self.refuse(Reply::NoLock));
-        }
-        if u64::from(self.length_of(uid)) < u64::from(offset) + u64::from(count) {
-            return Ok(self.refuse(Reply::PastEnd));
-        }
-        let work = Work::Load(count);
-        self.page_access(proc, Task { uid, offset, work })
-    }
-
-    fn store(
+    fn load(
         &mut self,
-        proc: ProcId,
-        uid: Uid,
-        offset: u32,
-        bytes: &ByteList,
-    ) -> Result<Access, NoMemory>
-        requires idle { IsIdle self.old proc.number }
-        requires some { 1 ≤ length bytes.now }
-        requires within { offset % PAGE_BYTES + length bytes.now ≤ PAGE_BYTES }
-        ensures outcome { IfOk result (Gives self.new (store_at self.old proc.number bytes.now (Some (uid, offset)))) }
-        ensures unchanged { OnErr result (self.new ≡ self.old) }
-    {
-        let state = self.entries[index_of(proc)].state(uid);
-        if !state.is_held() {
-            return Ok(self.refuse(Reply::NoLock));
-        }
-        if !state.may_write() {
-            return Ok(self.refuse(Reply::WrongMode));
-        }
-        let end = u64::from(offset) + bytes.bytes().len() as u64;
-        if PAGE_BYTES as u64 * u64::from(self.room_of(uid)) < end {
-            return Ok(self.refuse(Reply::PastRoom));
-        }
-        // A store in a resident page takes no memory.
-        if self.is_resident(uid, offset / PAGE_BYTES as u32) {
-            return Ok(self.store_resident(proc, uid, offset, bytes.bytes()));
-        }
-        let work = Work::Store(bytes.copy(self.alloc)?);
-        self.miss(proc, Task { uid, offset, work })
-    }
-
-    /// Whether a page is resident.
-    fn is_resident(&self, uid: Uid, page: u32) -> bool
-        ensures { result ≡ is_some (page_at self.now.cache.pages uid page) }
-    {
-        self.pages.flags(uid, page).is_some()
-    }
-
-    /// A load or store, its local tests passed.
-    pub(super) fn page_access(&mut self, proc: ProcId, task: Task) -> Result<Access, NoMemory>
-        requires idle { IsIdle self.old proc.number }
-        requires allowed { IsAllowed self.old.entries proc.number task }
-        ensures outcome { IfOk result (Gives self.new (page_access self.old proc.number task)) }
-        ensures unchanged { OnErr result (self.new ≡ self.old) }
-    {
-        if !self.is_resident(task.uid, task.page()) {
-            return self.miss(proc, task);
-        }
-        match &task.work {
-            Work::Load(count) => self.load_resident(proc, task.uid, task.offset, *count),
-            Work::Store(bytes) => {
-                Ok(self.store_resident(proc, task.uid, task.offset, bytes.bytes()))
-            }
-        }
-    }
-
-    /// A load or store whose page is resident, with the bytes that a load takes from it. Takes no memory.
-    pub(super) fn perform(&mut self, proc: ProcId, task: Task, loaded: Option<ByteList>) -> Access
-        requires resident { IsResident self.old.cache.pages task.uid (page_of task) }
-        requires loaded { IfSome (page_at self.old.cache.pages task.uid (page_of task)) (λ r. loaded ≡ loaded_from r.bytes (start_of task) task.work) }
-        requires allowed { IsAllowed self.old.entries proc.number task }
-        ensures { Gives self.new (page_access self.old proc.number task) result }
-    {
-        match loaded {
-            Some(bytes) => {
-                self.use_page(task.uid, task.page());
-                self.done(Reply::Bytes(bytes))
-            }
-            None => match &task.work {
-                Work::Store(bytes) => self.store_resident(
-                    proc,
-                    task.uid,
-                    task.offset,
-                    bytes.bytes(),
-                ),
-                Work::Load(_) => unreachable!(),
-            },
-        }
-    }
-
-    /// A load from a resident page.
-    fn load_resident(
-        &mut self,
+        alloc: Global,
         proc: ProcId,
         uid: Uid,
         offset: u32,
         count: u32,
-    ) -> Result<Access, NoMemory>
-        requires resident { IsResident self.old.cache.pages uid (offset / PAGE_BYTES) }
+    ) -> Result<Local, NoMemory>
+        requires idle { IsIdle self.old proc.number }
+        requires some { 1 ≤ count }
         requires within { offset % PAGE_BYTES + count ≤ PAGE_BYTES }
-        ensures outcome { IfOk result (Gives self.new (page_access self.old proc.number (task_at uid offset (Work.Load count)))) }
+        ensures outcome { IfOk result (IsLocal proc.number self.old self.new (load_at self.old proc.number count (Some (uid, offset)))) }
         ensures unchanged { OnErr result (self.new ≡ self.old) }
     {
-        self.kept(proc);
+        if !self.entries[index_of(proc)].state(uid).is_held() {
+            return Ok(Local::Refused(Reply::NoLock));
+        }
+        if u64::from(self.length_of(uid)) < u64::from(offset) + u64::from(count) {
+            return Ok(Local::Refused(Reply::PastEnd));
+        }
         let page = offset / PAGE_BYTES as u32;
-        let bytes = self
-            .pages
-            .load(self.alloc, uid, page, offset % PAGE_BYTES as u32, count)?;
-        self.use_page(uid, page);
-        Ok(self.done(Reply::Bytes(bytes)))
+        match self.load_page(alloc, uid, page, offset % PAGE_BYTES as u32, count)? {
+            Some(bytes) => Ok(Local::Done(Reply::Bytes(bytes))),
+            None => {
+                let work = Work::Load(count);
+                Ok(Local::Misses(Task { uid, offset, work }))
+            }
+        }
     }
 
-    /// A store in a resident page.
-    fn store_resident(&mut self, proc: ProcId, uid: Uid, offset: u32, bytes: &[u8]) -> Access
-        requires resident { IsResident self.old.cache.pages uid (offset / PAGE_BYTES) }
+    fn store(
+        &mut self,
+        alloc: Global,
+        proc: ProcId,
+        uid: Uid,
+        offset: u32,
+        bytes: &ByteList,
+    ) -> Result<Local, NoMemory>
+        requires idle { IsIdle self.old proc.number }
+        requires some { 1 ≤ length bytes.now }
         requires within { offset % PAGE_BYTES + length bytes.now ≤ PAGE_BYTES }
-        requires page { IsPageNumber (offset / PAGE_BYTES) }
-        requires writes { keeps_writing (entry_at self.old.entries proc.number uid) ≡ true }
-        ensures outcome { Gives self.new (page_access self.old proc.number (task_at uid offset (Work.Store bytes.now))) result }
+        ensures outcome { IfOk result (IsLocal proc.number self.old self.new (store_at self.old proc.number bytes.now (Some (uid, offset)))) }
+        ensures unchanged { OnErr result (self.new ≡ self.old) }
     {
-        let page = offset / PAGE_BYTES as u32;
-        self.store_page(proc, uid, page, offset % PAGE_BYTES as u32, bytes);
-        self.grow(uid, offset + bytes.len() as u32);
-        self.done(Reply::Fine)
+        let state = self.entries[index_of(proc)].state(uid);
+        if !state.is_held() {
+            return Ok(Local::Refused(Reply::NoLock));
+        }
+        if !state.may_write() {
+            return Ok(Local::Refused(Reply::WrongMode));
+        }
+        let end = u64::from(offset) + bytes.bytes().len() as u64;
+        if PAGE_BYTES as u64 * u64::from(self.room_of(uid)) < end {
+            return Ok(Local::Refused(Reply::PastRoom));
+        }
+        // A store in a resident page takes no memory.
+        if self.store_page(proc, uid, offset, bytes.bytes()) {
+            return Ok(Local::Done(Reply::Fine));
+        }
+        let work = Work::Store(bytes.copy(alloc)?);
+        Ok(Local::Misses(Task { uid, offset, work }))
     }
 
-    /// A load or store whose page is not resident.
-    fn miss(&mut self, proc: ProcId, task: Task) -> Result<Access, NoMemory>
+    /// A load or store whose page is not resident. Not inlined, nor are those below it that hold a page: else each
+    /// call that is answered at once would blank the room of theirs.
+    #[inline(never)]
+    fn miss(&mut self, alloc: Global, proc: ProcId, task: Task) -> Result<Access, NoMemory>
         requires idle { IsIdle self.old proc.number }
         requires absent { page_at self.old.cache.pages task.uid (page_of task) ≡ None }
         requires allowed { IsAllowed self.old.entries proc.number task }
-        ensures outcome { IfOk result (Gives self.new (page_by self.old proc.number task None)) }
+        ensures outcome { IfOk result (ComesTo proc.number self.new (page_by self.old proc.number task None)) }
         ensures unchanged { OnErr result (self.new ≡ self.old) }
+    {
+        let list = self.list_for_one(alloc)?;
+        Ok(self.missed(alloc, proc, task, list))
+    }
+
+    /// An empty list, with room for the page that makes room where no frame is free.
+    pub(super) fn list_for_one(&self, alloc: Global) -> Result<Vec<(Uid, u32)>, NoMemory>
+        ensures empty { IfOk result (λ list. list.items ≡ []) }
+        ensures room { IfOk result (λ list. (0 < free_count self.now.cache) ⊎ (1 ≤ vec_capacity list)) }
+    {
+        if self.pages.free() > 0 {
+            return Ok(Vec::new(alloc));
+        }
+        Ok(Vec::with_capacity(alloc, 1)?)
+    }
+
+    /// A load or store whose page is not resident; the list is for the page that makes room. Takes no memory.
+    pub(super) fn missed(
+        &mut self,
+        alloc: Global,
+        proc: ProcId,
+        task: Task,
+        list: Vec<(Uid, u32)>,
+    ) -> Access
+        requires idle { IsIdle self.old proc.number }
+        requires absent { page_at self.old.cache.pages task.uid (page_of task) ≡ None }
+        requires allowed { IsAllowed self.old.entries proc.number task }
+        requires empty { list.items ≡ [] }
+        requires room { (0 < free_count self.old.cache) ⊎ (1 ≤ vec_capacity list) }
+        ensures outcome { ComesTo proc.number self.new (page_by self.old proc.number task None) result }
     {
         let uid = task.uid;
         let page = task.page();
         if others_fetch(&self.moving, proc.number(), uid, page) {
-            return Ok(Access::Wait(uid, page, Dropped::new(self.alloc)));
+            return Access::Wait(uid, page, Dropped::new(alloc));
         }
         if self.pages.free() > 0 {
-            let none = Dropped::new(self.alloc);
-            return Ok(self.fetch_page(proc, task, none));
+            return self.fetch_page(proc, task, Dropped::new(alloc));
         }
-        self.make_room(proc, task)
+        self.make_room(alloc, proc, task, list)
     }
 
     /// Asks for the page of a load or store, into a frame that is free.
@@ -263,7 +232,7 @@ impl Desk {
         requires absent { page_at self.old.cache.pages task.uid (page_of task) ≡ None }
         requires alone { others_fetch self.old.moving proc.number task.uid (page_of task) ≡ false }
         requires allowed { IsAllowed self.old.entries proc.number task }
-        ensures outcome { Gives self.new (fetched self.old proc.number task dropped) result }
+        ensures outcome { GivesTo self.new (fetched self.old proc.number task dropped) result }
     {
         let uid = task.uid;
         let page = task.page();
@@ -272,24 +241,30 @@ impl Desk {
     }
 
     /// Makes room for the page of a load or store: a clean page is dropped, or a dirty one sent home.
-    fn make_room(&mut self, proc: ProcId, task: Task) -> Result<Access, NoMemory>
+    #[inline(never)]
+    fn make_room(
+        &mut self,
+        alloc: Global,
+        proc: ProcId,
+        task: Task,
+        list: Vec<(Uid, u32)>,
+    ) -> Access
         requires idle { IsIdle self.old proc.number }
         requires full { free_count self.old.cache ≡ 0 }
-        requires room { length self.old.cache.pages + self.old.cache.reserved ≤ self.old.cache.frames }
+        requires limit { length self.old.cache.pages + self.old.cache.reserved ≤ self.old.cache.frames }
         requires absent { page_at self.old.cache.pages task.uid (page_of task) ≡ None }
         requires alone { others_fetch self.old.moving proc.number task.uid (page_of task) ≡ false }
         requires allowed { IsAllowed self.old.entries proc.number task }
-        ensures outcome { IfOk result (Gives self.new (frame_by self.old proc.number task false)) }
-        ensures unchanged { OnErr result (self.new ≡ self.old) }
+        requires empty { list.items ≡ [] }
+        requires room { 1 ≤ vec_capacity list }
+        ensures outcome { ComesTo proc.number self.new (Accessed.NeedsRoom self.old task) result }
     {
         let (uid, page, dirty) = self.chosen(proc);
         if dirty {
-            return Ok(self.evict_page(proc, task, uid, page));
+            return self.evict_page(alloc, proc, task, uid, page);
         }
-        let mut dropped = Dropped::new(self.alloc);
-        dropped.push((uid, page))?;
         self.drop_page(uid, page);
-        Ok(self.fetch_page(proc, task, dropped))
+        self.fetch_page(proc, task, dropped_one(list, uid, page))
     }
 
     /// The page that is chosen to make room, and whether it is dirty.
@@ -312,22 +287,23 @@ impl Desk {
     }
 
     /// Sends a dirty page home, to make room for that of a load or store.
-    fn evict_page(&mut self, proc: ProcId, task: Task, uid: Uid, page: u32) -> Access
+    #[inline(never)]
+    fn evict_page(&mut self, alloc: Global, proc: ProcId, task: Task, uid: Uid, page: u32) -> Access
         requires idle { IsIdle self.old proc.number }
         requires dirty { is_dirty (page_at self.old.cache.pages uid page) ≡ true }
         requires still { is_marked (page_at self.old.cache.pages uid page) ≡ false }
         requires allowed { IsAllowed self.old.entries proc.number task }
-        ensures outcome { IfSome (page_at self.old.cache.pages uid page) (λ r. Gives self.new (room_made self.old proc.number task r true) result) }
+        ensures outcome { IfSome (page_at self.old.cache.pages uid page) (λ r. GivesTo self.new (room_made self.old proc.number task (Victim.SendsHome r)) result) }
     {
         let body = self.page_out(uid, page);
         self.evict(proc, task, uid, page);
-        Access::Need(uid.home(), body, Dropped::new(self.alloc))
+        Access::Need(uid.home(), body, Dropped::new(alloc))
     }
 
     /// The request that sends a resident page home, under the grant under which its node writes the object.
     pub(super) fn page_out(&self, uid: Uid, page: u32) -> Body
         requires { IsResident self.now.cache.pages uid page }
-        ensures { option_map (λ r. page_out self.now uid page r.bytes) (page_at self.now.cache.pages uid page) ≡ Some result }
+        ensures { option_map (λ r. body_of_ask (page_out self.now uid page r.bytes)) (page_at self.now.cache.pages uid page) ≡ Some result }
     {
         Body::PageOut {
             uid,
@@ -338,40 +314,56 @@ impl Desk {
         }
     }
 
-    fn length(&self, proc: ProcId, uid: Uid) -> Access
-        ensures outcome { Gives self.now (length_by self.now uid (is_held (state_of self.now proc.number uid))) result }
+    fn length(&self, proc: ProcId, uid: Uid) -> Local
+        ensures outcome { IsLocal proc.number self.now self.now (length_by self.now uid (is_held (state_of self.now proc.number uid))) result }
+        ensures replied { MayMiss (DeskOp.Measures uid) result }
     {
         if self.entries[index_of(proc)].state(uid).is_held() {
-            self.done(Reply::Size(self.length_of(uid)))
+            Local::Done(Reply::Size(self.length_of(uid)))
         } else {
-            self.refuse(Reply::NoLock)
+            Local::Refused(Reply::NoLock)
         }
     }
 
-    fn map(&mut self, proc: ProcId, uid: Uid) -> Access
+    fn map(&mut self, proc: ProcId, uid: Uid) -> Local
         requires idle { IsIdle self.old proc.number }
-        ensures outcome { Gives self.new (map_by self.old proc.number uid (is_held (state_of self.old proc.number uid))) result }
+        ensures outcome { IsLocal proc.number self.old self.new (map_by self.old proc.number uid (is_held (state_of self.old proc.number uid))) result }
+        ensures replied { MayMiss (DeskOp.Maps uid) result }
     {
         let at = index_of(proc);
         if !self.entries[at].state(uid).is_held() {
-            return self.refuse(Reply::NoLock);
+            return Local::Refused(Reply::NoLock);
         }
         let room = self.room_of(uid);
         let map = &mut self.maps[at];
         match map.map(uid, room) {
-            Ok((address, fresh)) => self.done(Reply::At { address, fresh }),
-            Err(MapRefusal::TooManyMaps) => self.refuse(Reply::TooManyMaps),
-            Err(MapRefusal::NoSegment) => self.refuse(Reply::NoSegment),
+            Ok((address, fresh)) => Local::Done(Reply::At { address, fresh }),
+            Err(MapRefusal::TooManyMaps) => Local::Refused(Reply::TooManyMaps),
+            Err(MapRefusal::NoSegment) => Local::Refused(Reply::NoSegment),
         }
     }
 
-    fn unmap(&mut self, proc: ProcId, uid: Uid) -> Access
-        ensures outcome { Gives self.new (unmap_by self.old proc.number uid (is_some (mapping_of uid (maps_of self.old proc.number)))) result }
+    fn unmap(&mut self, proc: ProcId, uid: Uid) -> Local
+        ensures outcome { IsLocal proc.number self.old self.new (unmap_by self.old proc.number uid (is_some (mapping_of uid (maps_of self.old proc.number)))) result }
+        ensures replied { MayMiss (DeskOp.Unmaps uid) result }
     {
         let map = &mut self.maps[index_of(proc)];
         match map.unmap(uid) {
-            Ok(()) => self.done(Reply::Fine),
-            Err(NotMapped) => self.refuse(Reply::NotMapped),
+            Ok(()) => Local::Done(Reply::Fine),
+            Err(NotMapped) => Local::Refused(Reply::NotMapped),
         }
+    }
+}
+
+/// The list of the one page that was dropped, in a list with room for it.
+fn dropped_one(mut list: Vec<(Uid, u32)>, uid: Uid, page: u32) -> Dropped
+    requires empty { list.items ≡ [] }
+    requires room { 1 ≤ vec_capacity list }
+    ensures { result ≡ (uid, page) ∷ [] }
+{
+    match list.push((uid, page)) {
+        Ok(()) => Dropped::from_vec(list),
+        // There is room for one.
+        Err(_) => unreachable!(),
     }
 }

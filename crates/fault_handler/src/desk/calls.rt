@@ -1,16 +1,17 @@
 //! The further calls by which locking and unlocking read and change a desk.
 ghost use Rattle.std.specs.Prelude.{◌≡◌, ◌⊎◌, ◌≤◌, ◌<◌, ◌*◌, ℕ, true, false, length, Some, None, IsSome, IsOk, is_some, IfOk, IfSome, OnOk, OnErr};
-ghost use Rattle.std.specs.Global.{Global};
 ghost use Rattle.uid_names.specs.Rooms.{IsRoom, IsLength};
 ghost use Rattle.dom_history.specs.Locks.{is_free, is_held};
 ghost use Rattle.page_cache.specs.Caches.{IsResident, page_at};
 ghost use Rattle.page_cache.specs.Numbers.{resident_pages};
 ghost use Rattle.version_stamps.specs.Stamps.{stamp_of};
+ghost use Rattle.ring_messages.specs.Bodies.{body_of_ask};
 ghost use Rattle.fault_handler.specs.Entries.{keeps};
+ghost use Rattle.fault_handler.specs.Lengths.{known_of, is_changed};
 ghost use Rattle.fault_handler.specs.Transits.{going};
-ghost use Rattle.fault_handler.specs.Desks.{entries_of, entry_at, state_of, moving_of, any_keeps, others_write};
-ghost use Rattle.fault_handler.specs.Invariant.{is_marked, is_dirty};
-ghost use Rattle.fault_handler.specs.Changes.{with_state, with_note, with_raised, with_forgotten, page_done_of, with_sent_length, with_call, with_sent_page, with_known_row, with_seen, with_no_page};
+ghost use Rattle.fault_handler.specs.Desks.{IsNode, entries_of, entry_at, state_of, moving_of, any_keeps, others_write};
+ghost use Rattle.fault_handler.specs.Invariant.{is_marked, is_dirty, IsCallAtNode};
+ghost use Rattle.fault_handler.specs.Changes.{with_state, with_note, with_raised, with_forgotten, with_page_done, with_length_done, with_call, with_sent_page, with_known_row, with_seen, with_no_page};
 ghost use Rattle.fault_handler.specs.Accesses.{own_page_out};
 ghost use Rattle.fault_handler.specs.Conditions.{IsOf, IsNotAccessing, IsOther};
 
@@ -26,13 +27,6 @@ use std::alloc::Global;
 use uid_names::{NoMemory, PROCESS_LOCKS, ProcId, Uid};
 
 impl Desk {
-    /// The allocator that the desk was made with: the one that there is. Takes no memory.
-    pub fn allocator(&self) -> Global
-        ensures only { (other : Global) → result ≡ other }
-    {
-        self.alloc
-    }
-
     /// Sets a process's state on an object, with the grant where it is Held. Takes no memory.
     pub fn set_state(&mut self, proc: ProcId, uid: Uid, state: LockState, grant: u64)
         requires own { IsOf self.old proc }
@@ -42,6 +36,7 @@ impl Desk {
         requires given_up { keeps (entry_at self.old.entries proc.number uid) ≡ false }
         requires seen { is_held state ≡ true → IsSome (stamp_of uid self.old.seen) }
         requires grant { is_held state ≡ true → 1 ≤ grant }
+        requires home { is_free state ≡ false → IsNode self.old.nodes uid.home }
         ensures { self.new ≡ with_state self.old proc.number uid state grant }
     {
         let table = &mut self.entries[index_of(proc)];
@@ -54,9 +49,11 @@ impl Desk {
         requires own { IsOf self.old proc }
         requires held { is_held (state_of self.old proc.number uid) ≡ true }
         requires other { IsNotAccessing self.old proc.number }
-        // What is dirty another process still answers for; a page that goes home, the process that sent it.
+        // What is dirty, and a length that was changed, another process still answers for; a page that goes
+        // home, the process that sent it.
         requires dirty { (page : ℕ) → is_dirty (page_at self.old.cache.pages uid page) ≡ true
             → others_write self.old.entries proc.number uid ≡ true }
+        requires changed { is_changed (known_of uid self.old.known) ≡ true → others_write self.old.entries proc.number uid ≡ true }
         requires still { moving_of self.old proc.number ≡ None }
         ensures { self.new ≡ with_note self.old proc.number uid }
     {
@@ -83,22 +80,36 @@ impl Desk {
 
     /// Ends the transit of the page that a process sent home, which is clean now where the home took it
     /// and it was not changed since the sending. Takes no memory.
-    pub fn page_done(&mut self, proc: ProcId, stored: bool)
+    pub fn page_done(&mut self, proc: ProcId, taken: bool)
         requires own { IsOf self.old proc }
         requires other { IsNotAccessing self.old proc.number }
-        ensures done { self.new ≡ page_done_of self.old proc.number stored }
+        ensures done { self.new ≡ with_page_done self.old proc.number taken }
         ensures node { self.new.node ≡ self.old.node }
     {
-        if let Some(transit) = transit_of(&self.moving, proc) {
-            self.pages.settle(transit.uid, transit.page, stored);
-            self.moving[index_of(proc)] = None;
+        let at = index_of(proc);
+        match transit_of(&self.moving, proc) {
+            Some(transit) => {
+                self.pages.settle(transit.uid, transit.page, taken);
+                self.moving[at] = None;
+            }
+            None => self.moving[at] = None,
+        }
+    }
+
+    /// Settles a length that was sent: where the home took it, and the known length of the object is still
+    /// this one, it counts as unchanged. Takes no memory.
+    pub fn length_done(&mut self, uid: Uid, length: u32, taken: bool)
+        ensures done { self.new ≡ with_length_done self.old uid length taken }
+        ensures node { self.new.node ≡ self.old.node }
+    {
+        if taken {
+            self.length_taken(uid, length);
         }
     }
 
     /// The known length of an object counts as unchanged where it is this one, which the home took.
-    /// Takes no memory.
-    pub fn length_done(&mut self, uid: Uid, length: u32)
-        ensures { self.new ≡ with_sent_length self.old uid length }
+    fn length_taken(&mut self, uid: Uid, length: u32)
+        ensures { self.new ≡ with_length_done self.old uid length true }
     {
         if let Some(known) = self.known.of(uid) {
             self.known.replace(known.sent(length));
@@ -110,6 +121,7 @@ impl Desk {
         requires own { IsOf self.old proc }
         requires other { IsNotAccessing self.old proc.number }
         requires call { IsOther call }
+        requires home { IfSome call (IsCallAtNode self.old.nodes) }
         ensures { self.new ≡ with_call self.old proc.number call }
     {
         self.calls[index_of(proc)] = call;
@@ -126,7 +138,7 @@ impl Desk {
         requires still { (moving_of self.old proc.number ≡ None) → is_marked (page_at self.old.cache.pages uid page) ≡ false }
         ensures sent { IsOk result }
         ensures desk { OnOk result (self.new ≡ with_sent_page self.old proc.number uid page) }
-        ensures body { IfOk result (λ body. IfSome (page_at self.old.cache.pages uid page) (λ r. body ≡ own_page_out self.old proc.number uid page r.bytes)) }
+        ensures body { IfOk result (λ body. IfSome (page_at self.old.cache.pages uid page) (λ r. body ≡ body_of_ask (own_page_out self.old proc.number uid page r.bytes))) }
     {
         let at = index_of(proc);
         let body = Body::PageOut {
@@ -173,14 +185,14 @@ impl Desk {
     }
 
     /// Drops all pages of an object, and tells which they were, rising. Without memory nothing changes.
-    pub fn drop_pages(&mut self, uid: Uid) -> Result<PageList, NoMemory>
+    pub fn drop_pages(&mut self, alloc: Global, uid: Uid) -> Result<PageList, NoMemory>
         requires clean { (page : ℕ) → is_dirty (page_at self.old.cache.pages uid page) ≡ false }
         requires still { (page : ℕ) → is_marked (page_at self.old.cache.pages uid page) ≡ false }
         ensures dropped { IfOk result (λ pages. pages ≡ resident_pages self.old.cache.pages uid) }
         ensures desk { OnOk result (self.new ≡ with_no_page self.old uid) }
         ensures unchanged { OnErr result (self.new ≡ self.old) }
     {
-        let pages = self.pages.pages_of(self.alloc, uid)?;
+        let pages = self.pages.pages_of(alloc, uid)?;
         self.pages.drop_object(uid);
         Ok(pages)
     }

@@ -1,6 +1,8 @@
 //! What changes in a desk. Each change leaves a desk that keeps what each desk keeps.
-ghost use Rattle.std.specs.Prelude.{◌≡◌, ◌+◌, ◌<◌, ◌≤◌, true, false, length, Some, None, IsSome, IfOk, OnOk, OnErr, slice_index_or, slice_set};
-ghost use Rattle.uid_names.specs.Rooms.{IsLength};
+ghost use Rattle.std.specs.Prelude.{◌≡◌, ◌+◌, ◌/◌, ◌%◌, ◌<◌, ◌≤◌, true, false, is_some, length, take, drop, Some, None, IsSome, IfOk, IfSome, IfNone, OnOk, OnErr, slice_index_or, slice_set};
+ghost use Rattle.std.specs.Bool.{OnTrue, OnFalse};
+ghost use Rattle.std.specs.Option.{option_map};
+ghost use Rattle.uid_names.specs.Rooms.{IsLength, IsPageNumber};
 ghost use Rattle.page_cache.specs.Caches.{IsResident, page_at, free_count};
 ghost use Rattle.version_stamps.specs.Stamps.{stamp_of};
 ghost use Rattle.fault_handler.specs.Entries.{keeps_writing};
@@ -16,8 +18,9 @@ use crate::four::index_of;
 use crate::open_call::OpenCall;
 use crate::tasks::Task;
 use crate::transits::Transit;
+use std::alloc::Global;
 use std::mem;
-use uid_names::{NODE_PROCESSES, NoMemory, PAGE_BYTES, ProcId, Uid};
+use uid_names::{ByteList, NODE_PROCESSES, NoMemory, PAGE_BYTES, ProcId, Uid};
 
 impl Desk {
     /// A resident page was used.
@@ -28,22 +31,72 @@ impl Desk {
         self.pages.touch(uid, page);
     }
 
-    /// Stores bytes in a resident page.
-    pub(super) fn store_page(&mut self, proc: ProcId, uid: Uid, page: u32, start: u32, bytes: &[u8])
-        requires resident { IsResident self.old.cache.pages uid page }
-        requires within { start + length bytes.now ≤ PAGE_BYTES }
-        requires writes { keeps_writing (entry_at self.old.entries proc.number uid) ≡ true }
-        ensures { self.new ≡ with_stored self.old uid page start bytes.now }
+    /// So many bytes of a page, from one on, which uses it; None where it is not resident. Without memory
+    /// nothing changes.
+    pub(super) fn load_page(
+        &mut self,
+        alloc: Global,
+        uid: Uid,
+        page: u32,
+        start: u32,
+        count: u32,
+    ) -> Result<Option<ByteList>, NoMemory>
+        requires within { start + count ≤ PAGE_BYTES }
+        ensures bytes { IfOk result (λ loaded. loaded ≡ option_map (λ r. take count (drop start r.bytes)) (page_at self.old.cache.pages uid page)) }
+        ensures used { IfOk result (λ loaded. IfSome loaded (λ _. self.new ≡ with_used self.old uid page)) }
+        ensures absent { IfOk result (λ loaded. IfNone loaded (page_at self.old.cache.pages uid page ≡ None)) }
+        ensures left { IfOk result (λ loaded. IfNone loaded (self.new ≡ self.old)) }
+        ensures unchanged { OnErr result (self.new ≡ self.old) }
     {
-        self.kept(proc);
-        self.pages.store(uid, page, start, bytes);
+        self.pages.load(alloc, uid, page, start, count)
     }
 
-    /// A store ended there: the object's known length is that at least.
-    pub(super) fn grow(&mut self, uid: Uid, end: u32)
-        requires { IsLength end }
+    /// Stores bytes at an offset of an object, in a page that is resident: tells whether it is. The known
+    /// length of the object is that of the end at least.
+    pub(super) fn store_page(&mut self, proc: ProcId, uid: Uid, offset: u32, bytes: &[u8]) -> bool
+        requires within { offset % PAGE_BYTES + length bytes.now ≤ PAGE_BYTES }
+        requires page { IsPageNumber (offset / PAGE_BYTES) }
+        requires writes { keeps_writing (entry_at self.old.entries proc.number uid) ≡ true }
+        ensures resident { result ≡ is_some (page_at self.old.cache.pages uid (offset / PAGE_BYTES)) }
+        ensures stored { OnTrue result (self.new
+            ≡ with_end (with_stored self.old uid (offset / PAGE_BYTES) (offset % PAGE_BYTES) bytes.now) uid (offset + length bytes.now)) }
+        ensures absent { OnFalse result (page_at self.old.cache.pages uid (offset / PAGE_BYTES) ≡ None) }
+        ensures left { OnFalse result (self.new ≡ self.old) }
+    {
+        if !self.store_bytes(
+            proc,
+            uid,
+            offset / PAGE_BYTES as u32,
+            offset % PAGE_BYTES as u32,
+            bytes,
+        ) {
+            return false;
+        }
+        self.grow(proc, uid, offset + bytes.len() as u32);
+        true
+    }
+
+    /// Stores bytes in a page, if it is resident: tells whether it is.
+    fn store_bytes(&mut self, proc: ProcId, uid: Uid, page: u32, start: u32, bytes: &[u8]) -> bool
+        requires within { start + length bytes.now ≤ PAGE_BYTES }
+        requires writes { keeps_writing (entry_at self.old.entries proc.number uid) ≡ true }
+        ensures resident { result ≡ is_some (page_at self.old.cache.pages uid page) }
+        ensures stored { OnTrue result (self.new ≡ with_stored self.old uid page start bytes.now) }
+        ensures absent { OnFalse result (page_at self.old.cache.pages uid page ≡ None) }
+        ensures left { OnFalse result (self.new ≡ self.old) }
+    {
+        self.kept(proc);
+        self.pages.store(uid, page, start, bytes)
+    }
+
+    /// A store ended there, of a process that keeps the object in a mode that writes: the object's known
+    /// length is that at least.
+    fn grow(&mut self, proc: ProcId, uid: Uid, end: u32)
+        requires within { IsLength end }
+        requires writes { keeps_writing (entry_at self.old.entries proc.number uid) ≡ true }
         ensures { self.new ≡ with_end self.old uid end }
     {
+        self.kept(proc);
         if let Some(known) = self.known.of(uid) {
             self.known.replace(known.grown(end));
         }

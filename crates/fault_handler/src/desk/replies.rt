@@ -1,94 +1,125 @@
 //! How a load or store goes on where a home answers, or where a link fault ends its call.
-ghost use Rattle.std.specs.Prelude.{◌≡◌, ◌≤◌, true, false, length, nat_lt, IfOk, IfSome, OnErr};
+ghost use Rattle.std.specs.Prelude.{◌≡◌, ◌⊎◌, ◌≤◌, ◌<◌, true, false, length, nat_lt, Some, None, IfOk, IfSome, OnOk, OnErr, [], vec_capacity};
+ghost use Rattle.std.specs.Option.{ForSome};
+ghost use Rattle.ring_messages.specs.Bodies.{answer_of};
 ghost use Rattle.ring_messages.specs.Ranges.{IsBody};
-ghost use Rattle.fault_handler.specs.Tasks.{start_of};
-ghost use Rattle.fault_handler.specs.Unseen.{loaded_from};
+ghost use Rattle.dom_history.specs.declared.op.Op.{Op};
+ghost use Rattle.page_cache.specs.Caches.{IsResident, page_at, free_count};
+ghost use Rattle.fault_handler.specs.Tasks.{page_of, start_of};
+ghost use Rattle.fault_handler.specs.Unseen.{loaded_from, loaded_at, said_to, fits_way, ComesTo, GivesTo};
 ghost use Rattle.fault_handler.specs.Transits.{coming, going};
 ghost use Rattle.fault_handler.specs.Desks.{task_of, moving_of, base_of};
-ghost use Rattle.fault_handler.specs.Changes.{with_raised, with_room_settled};
-ghost use Rattle.fault_handler.specs.Drops.{anew_of};
-ghost use Rattle.fault_handler.specs.PageReplies.{page_came_of, page_by_stamp, room_taken, room_stale, access_failed_of};
-ghost use Rattle.fault_handler.specs.Conditions.{IsOf, IsIdle, IsAccessing, MayWantAt, fits_move};
-ghost use Rattle.fault_handler.specs.Answered.{Gives};
-ghost use Rattle.fault_handler.specs.Outcomes.{FitsWork, IsAsked, AfterAccess};
+ghost use Rattle.fault_handler.specs.Changes.{with_used, with_raised};
+ghost use Rattle.fault_handler.specs.Invariant.{IsAllowed};
+ghost use Rattle.fault_handler.specs.Outcomes.{as_access, seen_access, Gives, IsNoRefusal};
+ghost use Rattle.fault_handler.specs.Accesses.{Comes, performed, page_access};
+ghost use Rattle.fault_handler.specs.PageReplies.{page_answer, page_came_of, page_by_stamp, room_taken, room_sent_again, access_failed_of};
+ghost use Rattle.fault_handler.specs.LockCalls.{answers};
+ghost use Rattle.fault_handler.specs.Conditions.{IsOf, IsIdle, IsAccessing, MayWantAt};
+ghost use Rattle.fault_handler.specs.Ready.{IsReady};
+ghost use Rattle.fault_handler.specs.Next.{FitsTurn, IsAsked, IsOpen, IsNext};
 
 use super::Desk;
 use crate::access::Access;
 use crate::four::{index_of, transit_of};
+use crate::tasks::{Task, Work};
 use crate::transits::Transit;
 use dom_history::{Dropped, Reply};
 use ring_messages::Body;
+use std::alloc::Global;
 use uid_names::{ByteList, NoMemory, PAGE_BYTES, ProcId, Uid};
 
 impl Desk {
-    /// Whether a body is an answer to the request that the load or store of a process sent. Takes no
-    /// memory.
-    pub fn fits(&self, proc: ProcId, body: &Body) -> bool
-        requires { IsOf self.now proc }
-        ensures { result ≡ fits_move (moving_of self.now proc.number) body.now }
-    {
-        let Some(transit) = transit_of(&self.moving, proc) else {
-            return false;
-        };
-        match body {
-            Body::Page { .. } => transit.inward,
-            Body::Stored { .. } | Body::Stale { .. } => !transit.inward,
-            _ => false,
-        }
-    }
-
-    /// Goes on with a load or store at the reply that fits its open call. It is never refused. Wants memory
-    /// only at a page that is not an old one, or where a home took the page that makes room. Without
-    /// memory nothing changes, but where a home took the page that makes room: then that page is on its
-    /// way no more, and the load or store is open no more.
-    pub fn page_came(&mut self, proc: ProcId, body: &Body) -> Result<Access, NoMemory>
+    /// Goes on with a load or store at the answer to its open call. It is never refused. Wants memory
+    /// only at a page that is not an old one, or where a home took the page that makes room, and without
+    /// it nothing changes.
+    pub fn page_came(
+        &mut self,
+        alloc: Global,
+        proc: ProcId,
+        body: &Body,
+    ) -> Result<Access, NoMemory>
         requires own { IsOf self.old proc }
         requires access { IsAccessing self.old proc.number }
-        requires fits { fits_move (moving_of self.old proc.number) body.now ≡ true }
+        requires fits { answers self.old proc.number body.now ≡ true }
         requires range { IsBody proc.node body.now }
-        ensures outcome { IfOk result (Gives self.new (page_came_of self.old proc.number body.now)) }
-        ensures never { IfOk result (λ answer. IfSome (task_of self.old proc.number) (λ task. FitsWork task.work answer)) }
-        ensures asks { IfOk result IsAsked }
-        ensures next { IfOk result (AfterAccess self.new proc.number) }
-        ensures memory { OnErr result (MayWantAt self.old (moving_of self.old proc.number) body.now) }
-        ensures left { OnErr result (self.new ≡ anew_of self.old proc.number body.now) }
+        ensures outcome { IfOk result (λ access. ForSome (answer_of body.now) (λ answer. ForSome (page_answer self.old proc.number answer) (λ a.
+            Comes proc.number (λ m. Gives as_access self.new m access) (page_came_of self.old proc.number a)))) }
+        ensures never { IfOk result IsNoRefusal }
+        ensures fits { IfOk result (λ access. ForSome (seen_access access) (λ o. (op : Op) → IsOpen self.old proc.number op → FitsTurn op o.turn)) }
+        ensures asks { IfOk result (λ access. ForSome (seen_access access) (λ o. IsAsked self.new.nodes o.turn)) }
+        ensures next { IfOk result (λ access. ForSome (seen_access access) (λ o.
+            (op : Op) → IsOpen self.old proc.number op → IsNext self.new proc.number op o.turn)) }
+        ensures ready { OnOk result (IsReady self.new proc.number) }
+        ensures unchanged { OnErr result (self.new ≡ self.old) }
+        ensures memory { OnErr result (ForSome (answer_of body.now) (λ answer. ForSome (page_answer self.old proc.number answer) (MayWantAt self.old))) }
         ensures node { self.new.node ≡ self.old.node }
+        ensures nodes { self.new.nodes ≡ self.old.nodes }
     {
         self.kept(proc);
-        self.answered(proc, body)
+        self.answered(alloc, proc, body)
     }
 
     /// The same, as the definition has it.
-    fn answered(&mut self, proc: ProcId, body: &Body) -> Result<Access, NoMemory>
+    fn answered(&mut self, alloc: Global, proc: ProcId, body: &Body) -> Result<Access, NoMemory>
         requires access { IsAccessing self.old proc.number }
-        requires fits { fits_move (moving_of self.old proc.number) body.now ≡ true }
+        requires fits { answers self.old proc.number body.now ≡ true }
         requires range { IsBody proc.node body.now }
-        ensures outcome { IfOk result (Gives self.new (page_came_of self.old proc.number body.now)) }
-        ensures memory { OnErr result (MayWantAt self.old (moving_of self.old proc.number) body.now) }
-        ensures left { OnErr result (self.new ≡ anew_of self.old proc.number body.now) }
-        ensures node { self.new.node ≡ self.old.node }
+        ensures outcome { IfOk result (λ access. IfSome (said_to self.old proc.number (answer_of body.now)) (λ a. ComesTo proc.number self.new (page_came_of self.old proc.number a) access)) }
+        ensures unchanged { OnErr result (self.new ≡ self.old) }
+        ensures memory { OnErr result (IfSome (said_to self.old proc.number (answer_of body.now)) (MayWantAt self.old)) }
     {
-        let Some(transit) = transit_of(&self.moving, proc) else {
-            unreachable!()
-        };
+        self.kept(proc);
+        let transit = self.moved(proc, body);
         match body {
             Body::Page { stamp, bytes } => {
-                self.page_in_came(proc, transit.uid, transit.page, *stamp, bytes)
+                self.page_in_came(alloc, proc, transit.uid, transit.page, *stamp, bytes)
             }
-            Body::Stored { stamp } => self.page_taken(proc, transit, *stamp),
-            Body::Stale { stamp } => Ok(self.page_stale(proc, transit, *stamp)),
+            Body::Stored { stamp } => self.page_taken(alloc, proc, transit, *stamp),
+            Body::Stale { stamp } => Ok(self.page_stale(alloc, proc, transit, *stamp)),
             _ => unreachable!(),
         }
     }
 
+    /// The page that a process moves, whose answer this body is.
+    fn moved(&self, proc: ProcId, body: &Body) -> Transit
+        requires access { IsAccessing self.now proc.number }
+        requires fits { answers self.now proc.number body.now ≡ true }
+        ensures moves { moving_of self.now proc.number ≡ Some result }
+        ensures fits { fits_way result.inward body.now ≡ true }
+    {
+        self.kept(proc);
+        match transit_of(&self.moving, proc) {
+            Some(transit) => transit,
+            None => unreachable!(),
+        }
+    }
+
     /// The bytes that the open load of a process takes from this page; None of a store.
-    fn loaded(&self, proc: ProcId, page: &[u8; PAGE_BYTES]) -> Result<Option<ByteList>, NoMemory>
+    fn loaded(
+        &self,
+        alloc: Global,
+        proc: ProcId,
+        page: &[u8; PAGE_BYTES],
+    ) -> Result<Option<ByteList>, NoMemory>
         requires { IsAccessing self.now proc.number }
         ensures { IfOk result (λ loaded. IfSome (task_of self.now proc.number) (λ task. loaded ≡ loaded_from page.now (start_of task) task.work)) }
     {
         self.kept(proc);
         match &self.tasks[index_of(proc)] {
-            Some(task) => task.loaded(self.alloc, page),
+            Some(task) => task.loaded(alloc, page),
+            None => unreachable!(),
+        }
+    }
+
+    /// The bytes that the open load of a process takes from its page, where that is resident.
+    fn loaded_there(&self, alloc: Global, proc: ProcId) -> Result<Option<ByteList>, NoMemory>
+        requires { IsAccessing self.now proc.number }
+        ensures { IfOk result (λ loaded. IfSome (task_of self.now proc.number) (λ task. loaded ≡ loaded_at (page_at self.now.cache.pages task.uid (page_of task)) task)) }
+    {
+        self.kept(proc);
+        match &self.tasks[index_of(proc)] {
+            Some(task) => self.pages.loaded(alloc, task),
             None => unreachable!(),
         }
     }
@@ -96,6 +127,7 @@ impl Desk {
     /// The page of a load or store came, or an old one, which is asked for again.
     fn page_in_came(
         &mut self,
+        alloc: Global,
         proc: ProcId,
         uid: Uid,
         page: u32,
@@ -105,53 +137,136 @@ impl Desk {
         requires access { IsAccessing self.old proc.number }
         requires coming { moving_of self.old proc.number ≡ coming uid page }
         requires stamp { 1 ≤ stamp }
-        ensures outcome { IfOk result (λ answer. IfSome (task_of self.old proc.number) (λ task.
-            Gives self.new (page_by_stamp self.old proc.number task stamp bytes.now (nat_lt stamp (base_of self.old.seen task.uid))) answer)) }
-        ensures memory { OnErr result (nat_lt stamp (base_of self.old.seen uid) ≡ false) }
+        ensures outcome { IfOk result (λ access. IfSome (task_of self.old proc.number) (λ task.
+            GivesTo self.new (page_by_stamp self.old proc.number task stamp bytes.now (nat_lt stamp (base_of self.old.seen task.uid))) access)) }
         ensures unchanged { OnErr result (self.new ≡ self.old) }
-        ensures node { self.new.node ≡ self.old.node }
+        ensures memory { OnErr result (nat_lt stamp (base_of self.old.seen uid) ≡ false) }
     {
         self.kept(proc);
         if stamp < self.seen.of(uid).unwrap_or(0) {
-            let none = Dropped::new(self.alloc);
-            return Ok(Access::Need(uid.home(), Body::PageIn { uid, page }, none));
+            return Ok(asked_again(alloc, uid, page));
         }
         // What wants memory comes first.
-        let loaded = self.loaded(proc, bytes)?;
+        let loaded = self.loaded(alloc, proc, bytes)?;
         let task = self.arrive(proc, uid, page, bytes)?;
         self.raise(uid, stamp);
-        Ok(self.perform(proc, task, loaded))
+        let reply = self.perform(proc, task, loaded);
+        Ok(Access::done(alloc, reply))
     }
 
-    /// The home took the page that makes room: the access is made anew.
-    fn page_taken(&mut self, proc: ProcId, transit: Transit, stamp: u64) -> Result<Access, NoMemory>
+    /// The reply to a load or store at its page, which was used last, with the bytes that a load takes from it.
+    /// Takes no memory.
+    fn perform(&mut self, proc: ProcId, task: Task, loaded: Option<ByteList>) -> Reply
+        requires resident { IsResident self.old.cache.pages task.uid (page_of task) }
+        requires last { with_used self.old task.uid (page_of task) ≡ self.old }
+        requires loaded { IfSome (page_at self.old.cache.pages task.uid (page_of task)) (λ r. loaded ≡ loaded_from r.bytes (start_of task) task.work) }
+        requires allowed { IsAllowed self.old.entries proc.number task }
+        ensures { IfSome (page_at self.old.cache.pages task.uid (page_of task)) (λ r. GivesTo self.new (performed self.old task task.work r) (Access.Hit result [])) }
+    {
+        match loaded {
+            Some(bytes) => Reply::Bytes(bytes),
+            None => match &task.work {
+                Work::Store(bytes) => {
+                    self.store_page(proc, task.uid, task.offset, bytes.bytes());
+                    Reply::Fine
+                }
+                Work::Load(_) => unreachable!(),
+            },
+        }
+    }
+
+    /// The home took the page that makes room: the access is made anew. Not inlined, so that a page that comes
+    /// costs no room for another.
+    #[inline(never)]
+    fn page_taken(
+        &mut self,
+        alloc: Global,
+        proc: ProcId,
+        transit: Transit,
+        stamp: u64,
+    ) -> Result<Access, NoMemory>
         requires access { IsAccessing self.old proc.number }
         requires going { moving_of self.old proc.number ≡ going transit.uid transit.page }
         requires stamp { 1 ≤ stamp }
-        ensures outcome { IfOk result (λ answer. IfSome (task_of self.old proc.number) (λ task.
-            Gives self.new (room_taken self.old proc.number task transit.uid transit.page stamp) answer)) }
-        ensures left { OnErr result (self.new ≡ with_raised (with_room_settled self.old proc.number transit.uid transit.page true) transit.uid stamp) }
-        ensures node { self.new.node ≡ self.old.node }
+        ensures outcome { IfOk result (λ access. IfSome (task_of self.old proc.number) (λ task. IfSome (page_at self.old.cache.pages transit.uid transit.page) (λ r.
+            ComesTo proc.number self.new (page_access (room_taken self.old proc.number r stamp) proc.number task) access))) }
+        ensures unchanged { OnErr result (self.new ≡ self.old) }
     {
+        self.kept(proc);
+        // What wants memory comes first.
+        let loaded = self.loaded_there(alloc, proc)?;
+        let list = self.list_for_one(alloc)?;
         let task = self.settle_room(proc, transit.uid, transit.page, true);
         self.raise(transit.uid, stamp);
-        self.page_access(proc, task)
+        Ok(self.access_anew(alloc, proc, task, loaded, list))
+    }
+
+    /// A load or store that passed its local tests, with the bytes that a load takes from its page and a list
+    /// for the page that makes room. Takes no memory.
+    fn access_anew(
+        &mut self,
+        alloc: Global,
+        proc: ProcId,
+        task: Task,
+        loaded: Option<ByteList>,
+        list: Vec<(Uid, u32)>,
+    ) -> Access
+        requires idle { IsIdle self.old proc.number }
+        requires allowed { IsAllowed self.old.entries proc.number task }
+        requires loaded { loaded ≡ loaded_at (page_at self.old.cache.pages task.uid (page_of task)) task }
+        requires empty { list.items ≡ [] }
+        requires room { (0 < free_count self.old.cache) ⊎ (1 ≤ vec_capacity list) }
+        ensures outcome { ComesTo proc.number self.new (page_access self.old proc.number task) result }
+    {
+        match loaded {
+            Some(bytes) => {
+                self.use_page(task.uid, task.page());
+                Access::done(alloc, Reply::Bytes(bytes))
+            }
+            None => self.store_anew(alloc, proc, task, list),
+        }
+    }
+
+    /// The same where nothing is loaded: a store, or a load whose page is not resident.
+    fn store_anew(
+        &mut self,
+        alloc: Global,
+        proc: ProcId,
+        task: Task,
+        list: Vec<(Uid, u32)>,
+    ) -> Access
+        requires idle { IsIdle self.old proc.number }
+        requires allowed { IsAllowed self.old.entries proc.number task }
+        requires loaded { None ≡ loaded_at (page_at self.old.cache.pages task.uid (page_of task)) task }
+        requires empty { list.items ≡ [] }
+        requires room { (0 < free_count self.old.cache) ⊎ (1 ≤ vec_capacity list) }
+        ensures outcome { ComesTo proc.number self.new (page_access self.old proc.number task) result }
+    {
+        match &task.work {
+            Work::Store(bytes) => {
+                if self.store_page(proc, task.uid, task.offset, bytes.bytes()) {
+                    Access::done(alloc, Reply::Fine)
+                } else {
+                    self.missed(alloc, proc, task, list)
+                }
+            }
+            Work::Load(_) => self.missed(alloc, proc, task, list),
+        }
     }
 
     /// The home did not take it, since its base was another stamp: it is sent again.
-    fn page_stale(&mut self, proc: ProcId, transit: Transit, stamp: u64) -> Access
+    #[inline(never)]
+    fn page_stale(&mut self, alloc: Global, proc: ProcId, transit: Transit, stamp: u64) -> Access
         requires access { IsAccessing self.old proc.number }
         requires going { moving_of self.old proc.number ≡ going transit.uid transit.page }
         requires stamp { 1 ≤ stamp }
-        ensures outcome { IfSome (task_of self.old proc.number) (λ task. Gives self.new (room_stale self.old task transit.uid transit.page stamp) result) }
-        ensures node { self.new.node ≡ self.old.node }
+        ensures outcome { IfSome (page_at self.old.cache.pages transit.uid transit.page) (λ r. GivesTo self.new (room_sent_again (with_raised self.old r.uid stamp) r) result) }
     {
         self.kept(proc);
-        let none = Dropped::new(self.alloc);
         self.raise(transit.uid, stamp);
         let body = self.page_out(transit.uid, transit.page);
         self.send_again(transit.uid, transit.page);
-        Access::Need(transit.uid.home(), body, none)
+        Access::Need(transit.uid.home(), body, Dropped::new(alloc))
     }
 
     /// A link fault ended the call of a process's load or store: what it moved is in transit no more.
@@ -160,9 +275,22 @@ impl Desk {
         requires own { IsOf self.old proc }
         requires access { IsAccessing self.old proc.number }
         ensures reply { result ≡ Reply.LinkFault }
-        ensures desk { self.new ≡ access_failed_of self.old proc.number }
+        ensures desk { ForSome (moving_of self.old proc.number) (λ t. self.new ≡ access_failed_of self.old proc.number t) }
         ensures next { IsIdle self.new proc.number }
         ensures node { self.new.node ≡ self.old.node }
+        ensures nodes { self.new.nodes ≡ self.old.nodes }
+    {
+        self.failed(proc);
+        Reply::LinkFault
+    }
+
+    /// The same, as the definition has it.
+    fn failed(&mut self, proc: ProcId)
+        requires access { IsAccessing self.old proc.number }
+        ensures desk { IfSome (moving_of self.old proc.number) (λ t. self.new ≡ access_failed_of self.old proc.number t) }
+        ensures next { IsIdle self.new proc.number }
+        ensures node { self.new.node ≡ self.old.node }
+        ensures nodes { self.new.nodes ≡ self.old.nodes }
     {
         let Some(transit) = transit_of(&self.moving, proc) else {
             unreachable!()
@@ -172,6 +300,13 @@ impl Desk {
         } else {
             let _task = self.settle_room(proc, transit.uid, transit.page, false);
         }
-        Reply::LinkFault
     }
+}
+
+/// A page is asked for again, since an old one came.
+#[inline(never)]
+fn asked_again(alloc: Global, uid: Uid, page: u32) -> Access
+    ensures { result ≡ Access.Need uid.home (Body.PageIn uid page) [] }
+{
+    Access::Need(uid.home(), Body::PageIn { uid, page }, Dropped::new(alloc))
 }

@@ -1,4 +1,4 @@
-use Rattle.std.proofs.Common.{◌∙◌, ◌∷◌, ap, sym}
+use Rattle.std.proofs.Common.{◌∙◌, ap}
 use Rattle.lru.specs.LruCache.{lru_cache}
 use Rattle.page_cache.proofs.SlotLemmas.{put_entries-absent, remove_entry-front, IsIndex-entered}
 use Rattle.page_cache.proofs.slots.enter.Goals as goal

@@ -1,4 +1,4 @@
-use Rattle.std.proofs.Common.{◌≡◌, ◌≤◌, ◌∙◌, count_by, ap, sym, arith}
+use Rattle.std.proofs.Common.{◌≤◌, ◌∙◌, count_by, ap, arith}
 use Rattle.lru.specs.LruCache.{lru_cache}
 use Rattle.page_cache.specs.Insides.{slot_is}
 use Rattle.page_cache.proofs.SlotLemmas.{lookup-page, remove_entry-page, remove_entry-index, IsIndex-filter}

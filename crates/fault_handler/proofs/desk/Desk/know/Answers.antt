@@ -1,4 +1,4 @@
-use Rattle.std.proofs.Common.{◌≡◌, ◌∙◌, false, ap}
+use Rattle.std.proofs.Common.{refl, ◌≡◌, ◌∙◌, false, ap}
 use Rattle.std.specs.Prelude.{is_some}
 use Rattle.version_stamps.specs.Stamps.{stamp_of, without_stamp}
 use Rattle.fault_handler.specs.declared.lengths.Known.{Known}
@@ -12,7 +12,7 @@ pub invariant_of-self-in-Ok : goal.invariant_of-self-in-Ok
 invariant_of-self-in-Ok c =
     let row : Known = record { uid = c.args.uid; room = c.args.room; length = c.args.length; changed = false } in
     rw (c.in_ok-set.ensures.set, c.in-Ok.ensures.set)
-    (IsDesk-learned (desk_of c.self.inside) row c.args.stamp c.self.invariant c.requires.stamp (record { room = c.requires.room; length = c.requires.length }))
+    (IsDesk-learned (desk_of c.self.inside) row c.args.stamp c.self.invariant c.requires.stamp (record { room = c.requires.room; length = c.requires.length }) refl)
 
 -- the stamp was forgotten without a trace
 unchanged : (c : After-forget) → c.forget.new.self ≡ c.self.inside.seen

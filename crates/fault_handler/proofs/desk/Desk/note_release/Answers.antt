@@ -12,4 +12,4 @@ invariant_of-self c =
     let noted = c.note.ensures ∙ ap (entries_noted c.args.uid) (get_or_default c.self.inside.entries c.index_of.result _ [] below) in
     let asked = rw (← c.self.view_is) at c.requires in
     rw (noted, at)
-    (IsDesk-with_note (desk_of c.self.inside) c.args.proc.number c.args.uid c.self.invariant (omega arith, omega arith) asked.other asked.dirty asked.still)
+    (IsDesk-with_note (desk_of c.self.inside) c.args.proc.number c.args.uid c.self.invariant (omega arith, omega arith) asked.other asked.dirty asked.still asked.changed)

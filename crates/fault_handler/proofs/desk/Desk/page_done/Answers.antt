@@ -1,7 +1,7 @@
 use Rattle.std.proofs.Common.{◌≡◌, ◌-◌, ◌∙◌, sym, arith}
 use Rattle.fault_handler.specs.Insides.{desk_of}
 use Rattle.fault_handler.proofs.Reached.{IsSome-marked}
-use Rattle.fault_handler.proofs.TransitKeeps.{going-of, going-marked, IsDesk-page_done_of}
+use Rattle.fault_handler.proofs.TransitKeeps.{going-of, going-marked, IsDesk-with_page_done}
 use Rattle.fault_handler.proofs.desk.Desk.page_done.Goals as goal
 
 pub settle-requires : goal.settle-requires
@@ -11,6 +11,6 @@ settle-requires c =
 
 pub invariant_of-self : goal.invariant_of-self
 invariant_of-self c =
-    let at : c.index_of.result ≡ c.args.proc.number - 1 = omega arith in
-    let kept = IsDesk-page_done_of (desk_of c.self.inside) c.args.proc.number c.self.invariant c.transit_of.ensures.process c.args.stored (rw (← c.self.view_is) at c.requires.other) in
+    let at : c.index_of-at.result ≡ c.args.proc.number - 1 = omega arith in
+    let kept = IsDesk-with_page_done (desk_of c.self.inside) c.args.proc.number c.self.invariant c.transit_of.ensures.process c.args.taken (rw (← c.self.view_is) at c.requires.other) in
     rw (at, c.settle.ensures) (rw (sym c.transit_of.ensures.value ∙ c.in-Some.is) at kept)

@@ -12,4 +12,4 @@ invariant_of-self c =
     let changed = c.set_state.ensures ∙ ap (entries_after c.args.uid c.args.state c.args.grant) (get_or_default c.self.inside.entries c.index_of.result _ [] below) in
     let asked = rw (← c.self.view_is) at c.requires in
     rw (changed, at)
-    (IsDesk-with_state (desk_of c.self.inside) c.args.proc.number c.args.uid c.args.state c.args.grant c.self.invariant (omega arith, omega arith) asked.given_up asked.seen asked.grant)
+    (IsDesk-with_state (desk_of c.self.inside) c.args.proc.number c.args.uid c.args.state c.args.grant c.self.invariant (omega arith, omega arith) asked.given_up asked.seen asked.grant asked.home)

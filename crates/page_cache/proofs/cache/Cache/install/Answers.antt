@@ -1,7 +1,7 @@
-use Rattle.std.proofs.Common.{◌≡◌, ◌<◌, ◌+◌, ◌-◌, ℕ, arith, refl}
+use Rattle.std.proofs.Common.{◌≡◌, ◌<◌, ◌+◌, ◌-◌, arith, refl}
 use Rattle.page_frames.specs.Pools.{Frame, no_flags}
 use Rattle.page_frames.proofs.FrameLemmas.{frame_at-with_frame-same, without_frame-with_frame}
-use Rattle.page_cache.specs.Insides.{Slot, IsIndex}
+use Rattle.page_cache.specs.Insides.{Slot}
 use Rattle.page_cache.proofs.CacheLemmas.{slot_at-absent, IsSound-installed, IsSound-reindexed, map-seen-installed, same_cache}
 use Rattle.page_cache.proofs.cache.Cache.install.Goals as goal
 

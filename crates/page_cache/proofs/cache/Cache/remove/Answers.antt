@@ -1,4 +1,4 @@
-use Rattle.std.proofs.Common.{◌∙◌, sym, ap}
+use Rattle.std.proofs.Common.{◌∙◌, sym}
 use Rattle.std.specs.List.{find}
 use Rattle.page_cache.specs.Insides.{slot_is}
 use Rattle.page_cache.proofs.CacheLemmas.{mapped_from, none_mapped, IsTaken-slot, IsSound-removed, IsSound-reindexed, map-seen-removed, filter-absent, without_page-absent, same_cache}

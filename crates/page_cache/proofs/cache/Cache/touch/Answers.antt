@@ -1,4 +1,3 @@
-use Rattle.std.proofs.Common.{◌∙◌}
 use Rattle.page_cache.proofs.SlotLemmas.{promoted-page}
 use Rattle.page_cache.proofs.CacheLemmas.{slot_at, IsSound-used, map-seen-used, same_cache}
 use Rattle.page_cache.proofs.cache.Cache.touch.Goals as goal
