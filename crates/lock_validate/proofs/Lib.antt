@@ -1,12 +1,9 @@
+pub mod States
+pub mod Entries
 pub mod Good
 pub mod Releasing
+pub mod Standing
 pub mod Answering
-pub mod Outcomes
-pub mod Nodes
-pub mod Settling
-pub mod Beside
-pub mod AccessBeside
-pub mod StepBeside
-pub mod AllStanding
 pub mod Dropping
-pub mod DroppedOrder
+pub mod Learning
+pub mod Outcomes

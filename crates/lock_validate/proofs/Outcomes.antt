@@ -1,51 +1,87 @@
--- What is known of a call's result by the definition that it gives.
-use Rattle.std.proofs.Common.{◌≡◌, ℕ, Result, Ok, Err, IfOk, OnOk, Option, Some, None, IfSome, sym, ap, subst, ◌∙◌}
-use Rattle.fault_handler.specs.Desks.{DeskState}
+-- What is known of a call's result by the outcome that it gives.
+use Rattle.std.proofs.Common.{◌≡◌, ℕ, List, Result, Ok, Err, IfOk, OnOk, Option, Some, IfSome, refl, sym, ap, subst, ◌∙◌}
+use Rattle.std.specs.Option.{option_map}
+use Rattle.uid_names.specs.Names.{ObjectName}
 use Rattle.dom_history.specs.declared.op.Op.{Op}
+use Rattle.dom_history.specs.declared.op.Reply.{Reply}
+use Rattle.dom_history.specs.Fitting.{Fits}
+use Rattle.ring_messages.specs.Bodies.{Ask, ask_of, body_of_ask}
+use Rattle.fault_handler.specs.Desks.{DeskState, open_call_of}
+use Rattle.fault_handler.specs.Outcomes.{Turn, Outcome, Moved, ended, Gives}
+use Rattle.fault_handler.specs.LockCalls.{LockCall, open_call}
+use Rattle.fault_handler.specs.Invariant.{IsProc, IsDesk}
+use Rattle.fault_handler.specs.Conditions.{IsIdle}
+use Rattle.fault_handler.specs.Ready.{IsReady}
+use Rattle.fault_handler.specs.Next.{FitsTurn, IsAsked, IsOpen, IsNext}
 use Rattle.lock_validate.specs.declared.step.Step.{Step}
-use Rattle.fault_handler.specs.Answered.{Gives}
-use Rattle.lock_validate.specs.Steps.{Stepped}
-use Rattle.lock_validate.specs.Fitting.{FitsStep}
-use Rattle.lock_validate.specs.Standing.{AfterStep, StepAsks}
+use Rattle.lock_validate.specs.Steps.{as_step, seen_step, Tells}
+use Rattle.lock_validate.specs.Faults.{call_failed_of}
 use Rattle.lock_validate.proofs.Good.{IsGood}
-use Rattle.lock_validate.proofs.Nodes.{IsPlain}
+use Rattle.lock_validate.proofs.Standing.{op_of, is-open}
+use Rattle.lock_validate.proofs.Answering.{call_failed_of-good}
 
-module _ (s : Stepped) (new : DeskState) where
-  pub next-given : (p : ℕ) (step : Step) → IsGood p s → Gives new s step → AfterStep new p step
-  next-given p step good gives = subst (λ (t : Stepped). AfterStep t.desk p t.answer) gives good.next
+-- the body of a request asks it
+asks-itself : (ask : Ask) → ask_of (body_of_ask ask) ≡ Some ask
+asks-itself (Ask.PageIn u k) = refl
+asks-itself (Ask.PageOut u k grant base bytes) = refl
+asks-itself (Ask.AttrOut u n grant base) = refl
+asks-itself (Ask.Lock u m) = refl
+asks-itself (Ask.Unlock u) = refl
+asks-itself (Ask.Remove u) = refl
+asks-itself (Ask.Make kind room) = refl
+asks-itself (Ask.ListLocks after) = refl
 
-  pub node-given : (step : Step) (n : ℕ) → s.desk.node ≡ n → Gives new s step → new.node ≡ n
-  node-given step n same gives = ap (λ (t : Stepped). t.desk.node) (sym gives) ∙ same
+-- a step tells the outcome whose form it is
+pub seen-as_step : (turn : Turn) (dropped : List (ObjectName × ℕ)) → seen_step (as_step turn dropped) ≡ Some (record { turn = turn; dropped = dropped })
+seen-as_step (Turn.Ends reply) dropped = refl
+seen-as_step (Turn.Asks home ask) dropped = ap (option_map (λ a. let o : Outcome = record { turn = Turn.Asks home a; dropped = dropped } in o)) (asks-itself ask)
+seen-as_step (Turn.Waits u k) dropped = refl
 
-  asks-given : (p : ℕ) (step : Step) → IsGood p s → Gives new s step → StepAsks step
-  asks-given p step good gives = subst (λ (t : Stepped). StepAsks t.answer) gives good.asks
+some_is : {A : Type 0} (x y : A) → Some x ≡ Some y → x ≡ y
+some_is x y e = cc
 
-  fits-given : (step : Step) (op : Op) → FitsStep op s.answer → Gives new s step → FitsStep op step
-  fits-given step op fits gives = subst (λ (t : Stepped). FitsStep op t.answer) gives fits
+-- what holds of the outcome holds of what the step tells
+tells : (new : DeskState) (m : Moved) (step : Step) → Gives as_step new m step → (P : DeskState → Turn → Type 0) → P m.desk m.turn → Tells (P new) step
+tells new m step gives P holds x found =
+    let o : Outcome = record { turn = m.turn; dropped = m.dropped } in
+    let same : o ≡ x = some_is o x (sym (seen-as_step m.turn m.dropped) ∙ ap seen_step (sym gives.1) ∙ found) in
+    subst (λ (y : Outcome). P new y.turn) same (subst (λ (e : DeskState). P e m.turn) (sym gives.0) holds)
 
--- what the contract of a call says beside the outcome, of a process of a node and its operation
-pub record IsTold {E : Type 0} (new : DeskState) (p n : ℕ) (op : Option Op) (r : Result Step E) : Type 0 where
-  pub fits : IfSome op (λ o. IfOk r (FitsStep o))
-  pub asks : IfOk r StepAsks
-  pub next : IfOk r (AfterStep new p)
-  pub node : OnOk r (new.node ≡ n)
+-- what the contract of a call says beside the outcome
+pub record IsTold {E : Type 0} (d new : DeskState) (p : ℕ) (op : Op) (r : Result Step E) : Type 0 where
+  pub fits : IfOk r (Tells (FitsTurn op))
+  pub asks : IfOk r (Tells (IsAsked new.nodes))
+  pub next : IfOk r (Tells (IsNext new p op))
+  pub ready : OnOk r (IsReady new p)
+  pub node : OnOk r (new.node ≡ d.node)
+  pub nodes : OnOk r (new.nodes ≡ d.nodes)
 
-module _ {E : Type 0} (s : Stepped) (new : DeskState) (p n : ℕ) where
-  fits-told : (op : Option Op) (r : Result Step E) → IfSome op (λ o. IsPlain n o s) → IfOk r (Gives new s) → IfSome op (λ o. IfOk r (FitsStep o))
-  fits-told None r plain gives = tt
-  fits-told (Some op) (Ok step) plain gives = fits-given s new step op plain.fits gives
-  fits-told (Some op) (Err e) plain gives = tt
+-- where the outcome is good
+pub told : {E : Type 0} (d new : DeskState) (p : ℕ) (op : Op) (m : Moved) (r : Result Step E) → IsGood d p op m → IfOk r (Gives as_step new m) → IsTold d new p op r
+told d new p op m (Ok step) good gives = record {
+  fits = tells new m step gives (λ e. FitsTurn op) good.fits;
+  asks = tells new m step gives (λ e. IsAsked e.nodes) good.asks;
+  next = tells new m step gives (λ e. IsNext e p op) good.next;
+  ready = subst (λ (e : DeskState). IsReady e p) (sym gives.0) good.ready;
+  node = ap (λ (e : DeskState). e.node) gives.0 ∙ good.node;
+  nodes = ap (λ (e : DeskState). e.nodes) gives.0 ∙ good.nodes;
+}
+told d new p op m (Err e) good gives = record { fits = tt; asks = tt; next = tt; ready = tt; node = tt; nodes = tt }
 
-  -- where the definition's step is good
-  pub told : (op : Option Op) (r : Result Step E) → IsGood p s → s.desk.node ≡ n → IfSome op (λ o. IsPlain n o s) → IfOk r (Gives new s) → IsTold new p n op r
-  told op (Ok step) good same plain gives = record {
-    fits = fits-told op (Ok step) plain gives;
-    asks = asks-given s new p step good gives;
-    next = next-given s new p step good gives;
-    node = node-given s new step n same gives;
-  }
-  told op (Err e) good same plain gives = record { fits = fits-told op (Err e) plain gives; asks = tt; next = tt; node = tt }
+-- what it says of a link fault
+pub record IsFailed (d new : DeskState) (p : ℕ) (reply : Reply) : Type 0 where
+  pub fits : (op : Op) → IsOpen d p op → Fits op reply
+  pub next : IsIdle new p
+  pub ready : IsReady new p
+  pub node : new.node ≡ d.node
+  pub nodes : new.nodes ≡ d.nodes
 
-  -- where the operation is known
-  pub told-of : (op : Op) (r : Result Step E) → IsGood p s → IsPlain n op s → IfOk r (Gives new s) → IsTold new p n (Some op) r
-  told-of op r good plain gives = told (Some op) r good plain.node plain gives
+pub failed-told : (d new : DeskState) (p : ℕ) (reply : Reply) (call : LockCall) → IsDesk d → IsProc p → IsReady d p → open_call_of d p ≡ Some (open_call call) → call_failed_of d p call ≡ ended new reply → IsFailed d new p reply
+failed-told d new p reply call is proc ready opened gives =
+    let good : (op : Op) → IsOpen d p op → IsGood d p op (ended new reply) = λ op own. subst (IsGood d p op) gives (call_failed_of-good d p is proc ready call opened op own) in
+    let own = good (op_of call) (is-open d p call opened) in
+    record { fits = λ op open_it. (good op open_it).fits; next = own.next; ready = own.ready; node = own.node; nodes = own.nodes }
+
+-- what holds where there is a value holds of that value
+pub for-some : {A : Type 0} (o : Option A) (P : A → Type 0) → IfSome o P → (x : A) → o ≡ Some x → P x
+for-some o P holds x is = rw is at holds

@@ -3,8 +3,4 @@ pub mod Locking
 pub mod Releases
 pub mod Answers
 pub mod Faults
-pub mod Fitting
-pub mod Standing
-pub mod Settled
-pub mod Untouched
-pub mod StepDrops
+pub mod GrantDrops

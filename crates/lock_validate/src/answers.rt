@@ -1,20 +1,24 @@
 //! How a lock, an unlock or a removal goes on where a home answers.
-ghost use Rattle.std.specs.Prelude.{◌≡◌, ℕ, ◌≤◌, ◌++◌, true, false, not, ◌&&◌, IsOk, IfOk, IfSome, OnOk, OnErr, IsSome, is_some, Some, None, map};
-ghost use Rattle.version_stamps.specs.Stamps.{stamp_of};
-ghost use Rattle.page_cache.specs.Caches.{page_at};
+ghost use Rattle.std.specs.Prelude.{◌≡◌, ℕ, ◌≤◌, ◌++◌, true, false, not, ◌&&◌, IsOk, IfOk, IfSome, OnOk, OnErr, IsSome, is_some, None, map};
+ghost use Rattle.std.specs.Option.{ForSome};
 ghost use Rattle.uid_names.specs.Rooms.{IsRoom, IsLength};
+ghost use Rattle.dom_history.specs.declared.op.Op.{Op};
+ghost use Rattle.page_cache.specs.Caches.{page_at};
+ghost use Rattle.version_stamps.specs.Stamps.{stamp_of};
 ghost use Rattle.ring_messages.specs.Ranges.{IsBody};
 ghost use Rattle.fault_handler.specs.Entries.{keeps, keeps_writing};
 ghost use Rattle.fault_handler.specs.Desks.{entry_at, open_call_of, moving_of, any_keeps, others_keep};
 ghost use Rattle.fault_handler.specs.Changes.{with_raised};
+ghost use Rattle.fault_handler.specs.Outcomes.{Gives};
+ghost use Rattle.fault_handler.specs.LockCalls.{LockAnswer, lock_call, answers};
 ghost use Rattle.fault_handler.specs.Invariant.{IsDesk, is_dirty, is_marked};
-ghost use Rattle.fault_handler.specs.Conditions.{IsOf, IsIdle};
-ghost use Rattle.fault_handler.specs.Answered.{Gives};
+ghost use Rattle.fault_handler.specs.Conditions.{IsOf, IsIdle, IsNotAccessing};
+ghost use Rattle.fault_handler.specs.Ready.{LockStands, WriterStands, ReleaseStands, CallStands, IsReady};
+ghost use Rattle.fault_handler.specs.Next.{FitsTurn, IsAsked, IsOpen, IsNext};
+ghost use Rattle.lock_validate.specs.Steps.{as_step, Tells};
 ghost use Rattle.lock_validate.specs.Releases.{release_of};
-ghost use Rattle.lock_validate.specs.Answers.{is_seen, is_fresh, after_drop, dropped_of, learned, granted, gone, forgetting, removed, lock_answer_of, page_answer_of, length_answer_of, answered, answer_came_of};
-ghost use Rattle.lock_validate.specs.Fitting.{operation_of, FitsStep};
-ghost use Rattle.lock_validate.specs.Standing.{AfterStep, StepAsks, Stands, CallStands, LockStands, WriterStands, answers_lock, answers_write, answers};
-ghost use Rattle.lock_validate.specs.StepDrops.{IsOutdated, MayDropAt};
+ghost use Rattle.lock_validate.specs.Answers.{is_seen, is_fresh, after_drop, dropped_of, learned, granted, gone, removed, answered, answer_came_of, answer_at, lock_answer_of};
+ghost use Rattle.lock_validate.specs.GrantDrops.{MayDropAt};
 
 use crate::releases::release;
 use crate::sends::end;
@@ -22,61 +26,73 @@ use crate::step::Step;
 use dom_history::{Dropped, Reply};
 use fault_handler::{Desk, LockState, OpenCall};
 use ring_messages::Body;
+use std::alloc::Global;
 use uid_names::{Mode, NoMemory, ProcId, Uid};
 
 /// Goes on with the reply to the process's open call, which is open no more. Wants memory only at an answer
 /// at which pages may be dropped; where there is none, of the desk only what each desk keeps is known.
-pub fn answer_came(desk: &mut Desk, proc: ProcId, body: &Body) -> Result<Step, NoMemory>
+pub fn answer_came(
+    alloc: Global,
+    desk: &mut Desk,
+    proc: ProcId,
+    body: &Body,
+) -> Result<Step, NoMemory>
     requires own { IsOf desk.old proc }
-    requires stands { Stands desk.old proc.number }
-    requires fits { answers (open_call_of desk.old proc.number) body.now ≡ true }
+    requires ready { IsReady desk.old proc.number }
+    requires other { IsNotAccessing desk.old proc.number }
+    requires fits { answers desk.old proc.number body.now ≡ true }
     requires range { IsBody proc.node body.now }
-    ensures outcome { IfOk result (Gives desk.new (answer_came_of desk.old proc.number body.now)) }
-    ensures memory { OnErr result (MayDropAt desk.old (open_call_of desk.old proc.number) body.now) }
-    ensures fits { IfSome (operation_of (open_call_of desk.old proc.number)) (λ op. IfOk result (FitsStep op)) }
-    ensures asks { IfOk result StepAsks }
-    ensures next { IfOk result (AfterStep desk.new proc.number) }
+    ensures outcome { IfOk result (λ step. ForSome (lock_answer_of desk.old proc.number body.now) (λ answer. Gives as_step desk.new (answer_came_of desk.old proc.number answer) step)) }
+    ensures memory { OnErr result (ForSome (lock_answer_of desk.old proc.number body.now) (MayDropAt desk.old)) }
+    ensures fits { (op : Op) → IsOpen desk.old proc.number op → IfOk result (Tells (FitsTurn op)) }
+    ensures asks { IfOk result (Tells (IsAsked desk.new.nodes)) }
+    ensures next { (op : Op) → IsOpen desk.old proc.number op → IfOk result (Tells (IsNext desk.new proc.number op)) }
+    ensures ready { OnOk result (IsReady desk.new proc.number) }
     ensures node { OnOk result (desk.new.node ≡ desk.old.node) }
+    ensures nodes { OnOk result (desk.new.nodes ≡ desk.old.nodes) }
 {
     let call = desk.open_call(proc);
     desk.set_open_call(proc, None);
     match call {
-        Some(call) => answered(desk, proc, call, body),
+        Some(call) => answered(alloc, desk, proc, call, body),
         None => unreachable!(),
     }
 }
 
 /// The same, with the call that was open.
-fn answered(desk: &mut Desk, proc: ProcId, call: OpenCall, body: &Body) -> Result<Step, NoMemory>
+fn answered(
+    alloc: Global,
+    desk: &mut Desk,
+    proc: ProcId,
+    call: OpenCall,
+    body: &Body,
+) -> Result<Step, NoMemory>
     requires own { IsOf desk.old proc }
     requires kept { IsDesk desk.old }
     requires closed { open_call_of desk.old proc.number ≡ None }
-    requires stands { CallStands desk.old proc.number (Some call) }
-    requires fits { answers (Some call) body.now ≡ true }
+    requires stands { IfSome (lock_call call) (CallStands desk.old proc.number) }
+    requires fits { IsSome (answer_at call body.now) }
     requires range { IsBody proc.node body.now }
-    ensures outcome { IfOk result (Gives desk.new (answered desk.old proc.number (Some call) body.now)) }
-    ensures memory { OnErr result (MayDropAt desk.old (Some call) body.now) }
+    ensures outcome { IfOk result (λ step. IfSome (answer_at call body.now) (λ answer. Gives as_step desk.new (answered desk.old proc.number answer) step)) }
+    ensures memory { OnErr result (IfSome (answer_at call body.now) (MayDropAt desk.old)) }
 {
     match call {
-        OpenCall::Lock(uid, mode) => lock_answered(desk, proc, uid, mode, body),
-        OpenCall::PageOut(uid, _, delete) => page_answered(desk, proc, uid, delete, body),
+        OpenCall::Lock(uid, mode) => lock_answered(alloc, desk, proc, uid, mode, body),
+        OpenCall::PageOut(uid, page, delete) => {
+            page_answered(alloc, desk, proc, uid, page, delete, body)
+        }
         OpenCall::AttrOut(uid, length, delete) => {
-            length_answered(desk, proc, uid, length, delete, body)
+            length_answered(alloc, desk, proc, uid, length, delete, body)
         }
-        OpenCall::Unlock(uid) => {
-            desk.set_state(proc, uid, LockState::Free, 0);
-            Ok(end(desk, Reply::Fine))
-        }
-        OpenCall::Remove(uid) => {
-            desk.set_state(proc, uid, LockState::Free, 0);
-            removed(desk, proc, uid)
-        }
+        OpenCall::Unlock(uid) => unlock_answered(alloc, desk, proc, uid, body),
+        OpenCall::Remove(uid) => removal_answered(alloc, desk, proc, uid, body),
         OpenCall::Access => unreachable!(),
     }
 }
 
 /// A home answered a lock.
 fn lock_answered(
+    alloc: Global,
     desk: &mut Desk,
     proc: ProcId,
     uid: Uid,
@@ -86,10 +102,10 @@ fn lock_answered(
     requires own { IsOf desk.old proc }
     requires kept { IsDesk desk.old }
     requires stands { LockStands desk.old proc.number uid }
-    requires fits { answers_lock body.now ≡ true }
+    requires fits { IsSome (answer_at (OpenCall.Lock uid mode) body.now) }
     requires range { IsBody proc.node body.now }
-    ensures outcome { IfOk result (Gives desk.new (lock_answer_of desk.old proc.number uid mode body.now)) }
-    ensures memory { OnErr result (MayDropAt desk.old (Some (OpenCall.Lock uid mode)) body.now) }
+    ensures outcome { IfOk result (λ step. IfSome (answer_at (OpenCall.Lock uid mode) body.now) (λ answer. Gives as_step desk.new (answered desk.old proc.number answer) step)) }
+    ensures memory { OnErr result (IfSome (answer_at (OpenCall.Lock uid mode) body.now) (MayDropAt desk.old)) }
 {
     match body {
         Body::Granted {
@@ -105,10 +121,10 @@ fn lock_answered(
                 room: *room,
                 length: *length,
             };
-            granted(desk, proc, uid, mode, given)
+            granted(alloc, desk, proc, uid, mode, given)
         }
-        Body::Conflict { proc: holder, mode } => Ok(end(desk, Reply::Conflict(*holder, *mode))),
-        Body::NoObject => gone(desk, proc, uid),
+        Body::Conflict { proc: holder, mode } => Ok(end(alloc, Reply::Conflict(*holder, *mode))),
+        Body::NoObject => gone(alloc, desk, proc, uid),
         _ => unreachable!(),
     }
 }
@@ -124,6 +140,7 @@ struct Given {
 
 /// A lock is granted.
 fn granted(
+    alloc: Global,
     desk: &mut Desk,
     proc: ProcId,
     uid: Uid,
@@ -137,12 +154,12 @@ fn granted(
     requires stamp { 1 ≤ given.stamp }
     requires room { IsRoom given.room }
     requires length { IsLength given.length }
-    ensures outcome { IfOk result (Gives desk.new (granted desk.old proc.number uid mode given.grant given.stamp given.room given.length (not (others_keep desk.old.entries proc.number uid)) (stamp_of uid desk.old.seen))) }
-    ensures memory { OnErr result (IsOutdated desk.old uid given.stamp) }
+    ensures outcome { IfOk result (Gives as_step desk.new (granted desk.old proc.number uid mode given.grant given.stamp given.room given.length (not (others_keep desk.old.entries proc.number uid)) (stamp_of uid desk.old.seen))) }
+    ensures memory { OnErr result (MayDropAt desk.old (LockAnswer.Granted uid mode given.grant given.stamp given.room given.length)) }
 {
     let outdated = are_outdated(desk, proc, uid, given.stamp);
     let fresh = is_length_fresh(desk, proc, uid, given.stamp);
-    let dropped = drop_pages(desk, uid, outdated)?;
+    let dropped = drop_pages(alloc, desk, uid, outdated)?;
     learn(desk, uid, given, fresh)?;
     desk.set_state(proc, uid, LockState::Held(mode), given.grant);
     Ok(Step::End(Reply::Fine, dropped))
@@ -189,6 +206,7 @@ fn is_fresh(stamp: u64, seen: Option<u64>) -> bool
 /// Takes what a grant tells: the room, the length and the stamp, or where they are not fresh a stamp that is
 /// above the seen one alone. Wants memory only where no stamp of the object was seen.
 fn learn(desk: &mut Desk, uid: Uid, given: Given, fresh: bool) -> Result<(), NoMemory>
+    requires fresh { fresh ≡ true → is_fresh given.stamp (stamp_of uid desk.old.seen) ≡ true }
     requires seen { fresh ≡ false → IsSome (stamp_of uid desk.old.seen) }
     requires stamp { 1 ≤ given.stamp }
     requires room { IsRoom given.room }
@@ -204,16 +222,16 @@ fn learn(desk: &mut Desk, uid: Uid, given: Given, fresh: bool) -> Result<(), NoM
 }
 
 /// Drops all pages of an object where that is asked for, and tells which they were. Takes no memory else.
-fn drop_pages(desk: &mut Desk, uid: Uid, asked: bool) -> Result<Dropped, NoMemory>
+fn drop_pages(alloc: Global, desk: &mut Desk, uid: Uid, asked: bool) -> Result<Dropped, NoMemory>
     requires clean { asked ≡ true → (k : ℕ) → is_dirty (page_at desk.old.cache.pages uid k) ≡ false }
     requires still { asked ≡ true → (k : ℕ) → is_marked (page_at desk.old.cache.pages uid k) ≡ false }
     ensures dropped { IfOk result (λ dropped. dropped ≡ dropped_of asked desk.old uid) }
     ensures desk { OnOk result (desk.new ≡ after_drop asked desk.old uid) }
     ensures memory { OnErr result (asked ≡ true) }
 {
-    let mut dropped = Dropped::new(desk.allocator());
+    let mut dropped = Dropped::new(alloc);
     if asked {
-        let pages = desk.drop_pages(uid)?;
+        let pages = desk.drop_pages(alloc, uid)?;
         tell(&mut dropped, uid, pages.items())?;
     }
     Ok(dropped)
@@ -230,39 +248,25 @@ fn tell(dropped: &mut Dropped, uid: Uid, pages: &[u32]) -> Result<(), NoMemory>
 }
 
 /// An object is gone, if no process of the node keeps it; else the answer is older than the object.
-fn gone(desk: &mut Desk, proc: ProcId, uid: Uid) -> Result<Step, NoMemory>
+fn gone(alloc: Global, desk: &mut Desk, proc: ProcId, uid: Uid) -> Result<Step, NoMemory>
     requires own { IsOf desk.old proc }
     requires kept { IsDesk desk.old }
     requires given_up { keeps (entry_at desk.old.entries proc.number uid) ≡ false }
-    ensures outcome { IfOk result (Gives desk.new (gone desk.old uid (any_keeps desk.old.entries uid))) }
+    ensures outcome { IfOk result (Gives as_step desk.new (gone desk.old uid (any_keeps desk.old.entries uid))) }
     ensures memory { OnErr result (any_keeps desk.old.entries uid ≡ false) }
 {
     let gone = !desk.others_keep(proc, uid);
-    let dropped = drop_pages(desk, uid, gone)?;
+    let dropped = drop_pages(alloc, desk, uid, gone)?;
     Ok(Step::End(Reply::NoObject, dropped))
 }
 
-/// An object was removed, whose process is Free on it now.
-fn removed(desk: &mut Desk, proc: ProcId, uid: Uid) -> Result<Step, NoMemory>
-    requires own { IsOf desk.old proc }
-    requires kept { IsDesk desk.old }
-    requires given_up { keeps (entry_at desk.old.entries proc.number uid) ≡ false }
-    ensures outcome { IfOk result (Gives desk.new (removed desk.old uid (any_keeps desk.old.entries uid))) }
-    ensures memory { OnErr result (any_keeps desk.old.entries uid ≡ false) }
-{
-    let last = !desk.others_keep(proc, uid);
-    let dropped = drop_pages(desk, uid, last)?;
-    if last {
-        desk.forget_seen(uid);
-    }
-    Ok(Step::End(Reply::Fine, dropped))
-}
-
-/// A home answered a page that was sent there: the tests are made anew.
+/// A home answered a page that was sent there.
 fn page_answered(
+    alloc: Global,
     desk: &mut Desk,
     proc: ProcId,
     uid: Uid,
+    page: u32,
     delete: bool,
     body: &Body,
 ) -> Result<Step, NoMemory>
@@ -270,26 +274,43 @@ fn page_answered(
     requires kept { IsDesk desk.old }
     requires closed { open_call_of desk.old proc.number ≡ None }
     requires writer { WriterStands desk.old proc.number uid delete }
-    requires fits { answers_write body.now ≡ true }
+    requires fits { IsSome (answer_at (OpenCall.PageOut uid page delete) body.now) }
     requires range { IsBody proc.node body.now }
     ensures done { IsOk result }
-    ensures outcome { IfOk result (Gives desk.new (page_answer_of desk.old proc.number uid delete body.now)) }
+    ensures outcome { IfOk result (λ step. IfSome (answer_at (OpenCall.PageOut uid page delete) body.now) (λ answer. Gives as_step desk.new (answered desk.old proc.number answer) step)) }
 {
     match body {
-        Body::Stored { stamp } => {
-            desk.page_done(proc, true);
-            settled(desk, proc, uid, *stamp, delete)
-        }
-        Body::Stale { stamp } => {
-            desk.page_done(proc, false);
-            settled(desk, proc, uid, *stamp, delete)
-        }
+        Body::Stored { stamp } => page_settled(alloc, desk, proc, uid, delete, *stamp, true),
+        Body::Stale { stamp } => page_settled(alloc, desk, proc, uid, delete, *stamp, false),
         _ => unreachable!(),
     }
 }
 
-/// A home answered a length that was sent there: the tests are made anew.
+/// The home took a page, or not: the tests are made anew.
+fn page_settled(
+    alloc: Global,
+    desk: &mut Desk,
+    proc: ProcId,
+    uid: Uid,
+    delete: bool,
+    stamp: u64,
+    taken: bool,
+) -> Result<Step, NoMemory>
+    requires own { IsOf desk.old proc }
+    requires kept { IsDesk desk.old }
+    requires closed { open_call_of desk.old proc.number ≡ None }
+    requires writer { WriterStands desk.old proc.number uid delete }
+    requires stamp { 1 ≤ stamp }
+    ensures done { IsOk result }
+    ensures outcome { IfOk result (Gives as_step desk.new (answered desk.old proc.number (LockAnswer.PageSettled uid delete taken stamp))) }
+{
+    desk.page_done(proc, taken);
+    settled(alloc, desk, proc, uid, stamp, delete)
+}
+
+/// A home answered a length that was sent there.
 fn length_answered(
+    alloc: Global,
     desk: &mut Desk,
     proc: ProcId,
     uid: Uid,
@@ -298,27 +319,53 @@ fn length_answered(
     body: &Body,
 ) -> Result<Step, NoMemory>
     requires own { IsOf desk.old proc }
+    requires kept { IsDesk desk.old }
     requires closed { open_call_of desk.old proc.number ≡ None }
     requires still { moving_of desk.old proc.number ≡ None }
-    requires seen { IsSome (stamp_of uid desk.old.seen) }
     requires writer { WriterStands desk.old proc.number uid delete }
-    requires fits { answers_write body.now ≡ true }
+    requires fits { IsSome (answer_at (OpenCall.AttrOut uid length delete) body.now) }
     requires range { IsBody proc.node body.now }
     ensures done { IsOk result }
-    ensures outcome { IfOk result (Gives desk.new (length_answer_of desk.old proc.number uid length delete body.now)) }
+    ensures outcome { IfOk result (λ step. IfSome (answer_at (OpenCall.AttrOut uid length delete) body.now) (λ answer. Gives as_step desk.new (answered desk.old proc.number answer) step)) }
 {
     match body {
         Body::Stored { stamp } => {
-            desk.length_done(uid, length);
-            settled(desk, proc, uid, *stamp, delete)
+            length_settled(alloc, desk, proc, uid, length, delete, *stamp, true)
         }
-        Body::Stale { stamp } => settled(desk, proc, uid, *stamp, delete),
+        Body::Stale { stamp } => {
+            length_settled(alloc, desk, proc, uid, length, delete, *stamp, false)
+        }
         _ => unreachable!(),
     }
 }
 
+/// The home took a length, or not: the tests are made anew.
+fn length_settled(
+    alloc: Global,
+    desk: &mut Desk,
+    proc: ProcId,
+    uid: Uid,
+    length: u32,
+    delete: bool,
+    stamp: u64,
+    taken: bool,
+) -> Result<Step, NoMemory>
+    requires own { IsOf desk.old proc }
+    requires kept { IsDesk desk.old }
+    requires closed { open_call_of desk.old proc.number ≡ None }
+    requires still { moving_of desk.old proc.number ≡ None }
+    requires writer { WriterStands desk.old proc.number uid delete }
+    requires stamp { 1 ≤ stamp }
+    ensures done { IsOk result }
+    ensures outcome { IfOk result (Gives as_step desk.new (answered desk.old proc.number (LockAnswer.LengthSettled uid length delete taken stamp))) }
+{
+    desk.length_done(uid, length, taken);
+    settled(alloc, desk, proc, uid, stamp, delete)
+}
+
 /// What was sent home before a release or a removal is settled, with the object's stamp there.
 fn settled(
+    alloc: Global,
     desk: &mut Desk,
     proc: ProcId,
     uid: Uid,
@@ -331,8 +378,71 @@ fn settled(
     requires idle { IsIdle desk.old proc.number }
     requires writes { keeps_writing (entry_at desk.old.entries proc.number uid) ≡ true }
     ensures done { IsOk result }
-    ensures outcome { IfOk result (Gives desk.new (release_of (with_raised desk.old uid stamp) proc.number uid delete)) }
+    ensures outcome { IfOk result (Gives as_step desk.new (release_of (with_raised desk.old uid stamp) proc.number uid delete)) }
 {
     desk.raise_seen(uid, stamp);
-    release(desk, proc, uid, delete)
+    release(alloc, desk, proc, uid, delete)
+}
+
+/// A home answered an unlock.
+fn unlock_answered(
+    alloc: Global,
+    desk: &mut Desk,
+    proc: ProcId,
+    uid: Uid,
+    body: &Body,
+) -> Result<Step, NoMemory>
+    requires own { IsOf desk.old proc }
+    requires stands { ReleaseStands desk.old proc.number uid }
+    requires fits { IsSome (answer_at (OpenCall.Unlock uid) body.now) }
+    ensures done { IsOk result }
+    ensures outcome { IfOk result (λ step. IfSome (answer_at (OpenCall.Unlock uid) body.now) (λ answer. Gives as_step desk.new (answered desk.old proc.number answer) step)) }
+{
+    match body {
+        Body::Done => {
+            desk.set_state(proc, uid, LockState::Free, 0);
+            Ok(end(alloc, Reply::Fine))
+        }
+        _ => unreachable!(),
+    }
+}
+
+/// A home answered a removal.
+fn removal_answered(
+    alloc: Global,
+    desk: &mut Desk,
+    proc: ProcId,
+    uid: Uid,
+    body: &Body,
+) -> Result<Step, NoMemory>
+    requires own { IsOf desk.old proc }
+    requires kept { IsDesk desk.old }
+    requires stands { ReleaseStands desk.old proc.number uid }
+    requires fits { IsSome (answer_at (OpenCall.Remove uid) body.now) }
+    ensures outcome { IfOk result (λ step. IfSome (answer_at (OpenCall.Remove uid) body.now) (λ answer. Gives as_step desk.new (answered desk.old proc.number answer) step)) }
+    ensures memory { OnErr result (IfSome (answer_at (OpenCall.Remove uid) body.now) (MayDropAt desk.old)) }
+{
+    match body {
+        Body::Done => {
+            desk.set_state(proc, uid, LockState::Free, 0);
+            removed(alloc, desk, proc, uid)
+        }
+        _ => unreachable!(),
+    }
+}
+
+/// An object was removed, whose process is Free on it now.
+fn removed(alloc: Global, desk: &mut Desk, proc: ProcId, uid: Uid) -> Result<Step, NoMemory>
+    requires own { IsOf desk.old proc }
+    requires kept { IsDesk desk.old }
+    requires given_up { keeps (entry_at desk.old.entries proc.number uid) ≡ false }
+    ensures outcome { IfOk result (Gives as_step desk.new (removed desk.old uid (any_keeps desk.old.entries uid))) }
+    ensures memory { OnErr result (any_keeps desk.old.entries uid ≡ false) }
+{
+    let last = !desk.others_keep(proc, uid);
+    let dropped = drop_pages(alloc, desk, uid, last)?;
+    if last {
+        desk.forget_seen(uid);
+    }
+    Ok(Step::End(Reply::Fine, dropped))
 }

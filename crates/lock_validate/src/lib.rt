@@ -3,13 +3,10 @@
 
 pub mod answers;
 pub mod faults;
-pub mod laws;
 pub mod locking;
 pub mod releases;
 mod sends;
 pub mod step;
-#[cfg(test)]
-mod tests;
 
 pub use answers::answer_came;
 pub use faults::call_failed;

@@ -2,68 +2,80 @@
 ghost use Rattle.std.specs.Prelude.{◌≡◌, IsOk, IfOk, OnOk, nat_le, length, false};
 ghost use Rattle.dom_history.specs.declared.op.Op.{Op};
 ghost use Rattle.dom_history.specs.Locks.{is_held, is_unsettled};
-ghost use Rattle.fault_handler.specs.Desks.{entries_of, state_of};
+ghost use Rattle.fault_handler.specs.Desks.{is_node, entries_of, state_of};
+ghost use Rattle.fault_handler.specs.Outcomes.{Gives};
 ghost use Rattle.fault_handler.specs.Conditions.{IsOf, IsIdle};
-ghost use Rattle.fault_handler.specs.Answered.{Gives};
+ghost use Rattle.fault_handler.specs.Ready.{IsReady};
+ghost use Rattle.fault_handler.specs.Next.{FitsTurn, IsAsked, IsNext};
+ghost use Rattle.lock_validate.specs.Steps.{as_step, Tells};
 ghost use Rattle.lock_validate.specs.Locking.{lock_by, begin_lock_of};
-ghost use Rattle.lock_validate.specs.Fitting.{FitsStep};
-ghost use Rattle.lock_validate.specs.Standing.{AfterStep, StepAsks};
 
 use crate::sends::{end, send};
 use crate::step::Step;
 use dom_history::Reply;
 use fault_handler::{Desk, LockState, OpenCall};
 use ring_messages::Body;
+use std::alloc::Global;
 use uid_names::{Mode, NoMemory, PROCESS_LOCKS, ProcId, Uid};
 
 /// Begins a lock. Takes no memory.
-pub fn begin_lock(desk: &mut Desk, proc: ProcId, uid: Uid, mode: Mode) -> Result<Step, NoMemory>
+pub fn begin_lock(
+    alloc: Global,
+    desk: &mut Desk,
+    proc: ProcId,
+    uid: Uid,
+    mode: Mode,
+) -> Result<Step, NoMemory>
     requires own { IsOf desk.old proc }
     requires idle { IsIdle desk.old proc.number }
     ensures done { IsOk result }
-    ensures outcome { IfOk result (Gives desk.new (begin_lock_of desk.old proc.number uid mode)) }
-    ensures fits { IfOk result (FitsStep (Op.Lock uid mode)) }
-    ensures asks { IfOk result StepAsks }
-    ensures next { IfOk result (AfterStep desk.new proc.number) }
+    ensures outcome { IfOk result (Gives as_step desk.new (begin_lock_of desk.old proc.number uid mode)) }
+    ensures fits { IfOk result (Tells (FitsTurn (Op.Lock uid mode))) }
+    ensures asks { IfOk result (Tells (IsAsked desk.new.nodes)) }
+    ensures next { IfOk result (Tells (IsNext desk.new proc.number (Op.Lock uid mode))) }
+    ensures ready { OnOk result (IsReady desk.new proc.number) }
     ensures node { OnOk result (desk.new.node ≡ desk.old.node) }
+    ensures nodes { OnOk result (desk.new.nodes ≡ desk.old.nodes) }
 {
     let state = desk.state(proc, uid);
-    Ok(lock_by(desk, proc, uid, mode, state))
+    Ok(lock_by(alloc, desk, proc, uid, mode, state))
 }
 
 /// The same, from the process's state on the object.
-fn lock_by(desk: &mut Desk, proc: ProcId, uid: Uid, mode: Mode, state: LockState) -> Step
+fn lock_by(
+    alloc: Global,
+    desk: &mut Desk,
+    proc: ProcId,
+    uid: Uid,
+    mode: Mode,
+    state: LockState,
+) -> Step
     requires own { IsOf desk.old proc }
     requires idle { IsIdle desk.old proc.number }
-    ensures { Gives desk.new (lock_by desk.old proc.number uid mode (is_held state) (is_unsettled state) (nat_le PROCESS_LOCKS (length (entries_of desk.old proc.number))) (nat_le uid.home desk.old.nodes)) result }
+    ensures { Gives as_step desk.new (lock_by desk.old proc.number uid mode (is_held state) (is_unsettled state) (nat_le PROCESS_LOCKS (length (entries_of desk.old proc.number))) (is_node desk.old.nodes uid.home)) result }
 {
     match state {
-        LockState::Held(_) => end(desk, Reply::AlreadyHeld),
+        LockState::Held(_) => end(alloc, Reply::AlreadyHeld),
         LockState::Taking(_) | LockState::Releasing(_) | LockState::Deleting => {
-            end(desk, Reply::Unsettled)
+            end(alloc, Reply::Unsettled)
         }
-        LockState::Free => lock_free(desk, proc, uid, mode),
+        LockState::Free => lock_free(alloc, desk, proc, uid, mode),
     }
 }
 
 /// The same, where the process is Free on the object.
-fn lock_free(desk: &mut Desk, proc: ProcId, uid: Uid, mode: Mode) -> Step
+fn lock_free(alloc: Global, desk: &mut Desk, proc: ProcId, uid: Uid, mode: Mode) -> Step
     requires own { IsOf desk.old proc }
     requires idle { IsIdle desk.old proc.number }
-    ensures { Gives desk.new (lock_by desk.old proc.number uid mode false false (nat_le PROCESS_LOCKS (length (entries_of desk.old proc.number))) (nat_le uid.home desk.old.nodes)) result }
+    ensures { Gives as_step desk.new (lock_by desk.old proc.number uid mode false false (nat_le PROCESS_LOCKS (length (entries_of desk.old proc.number))) (is_node desk.old.nodes uid.home)) result }
 {
     if usize::from(desk.not_free(proc)) >= PROCESS_LOCKS {
-        return end(desk, Reply::TooMany);
+        return end(alloc, Reply::TooMany);
     }
     let home = uid.home();
     if home.number() > desk.nodes() {
-        return end(desk, Reply::NoObject);
+        return end(alloc, Reply::NoObject);
     }
-    send(
-        desk,
-        proc,
-        OpenCall::Lock(uid, mode),
-        home,
-        Body::Lock { uid, mode },
-    )
+    let (call, body) = (OpenCall::Lock(uid, mode), Body::Lock { uid, mode });
+    send(alloc, desk, proc, call, home, body)
 }

@@ -1,25 +1,23 @@
-use Rattle.std.proofs.Common.{arith, nat_le, length}
-use Rattle.dom_history.specs.Locks.{is_held, is_unsettled}
-use Rattle.fault_handler.specs.Desks.{state_of, entries_of}
+use Rattle.std.proofs.Common.{Result, Ok, refl, arith}
+use Rattle.uid_names.specs.declared.no_memory.NoMemory.{NoMemory}
+use Rattle.dom_history.specs.declared.op.Op.TheVariants as ops
+use Rattle.fault_handler.specs.Outcomes.{Gives}
+use Rattle.lock_validate.specs.declared.step.Step.{Step}
+use Rattle.lock_validate.specs.Steps.{as_step}
 use Rattle.lock_validate.specs.Locking.{begin_lock_of}
-use Rattle.lock_validate.proofs.Nodes.{lock_by-plain}
 use Rattle.lock_validate.proofs.Releasing.{begin_lock_of-good}
-use Rattle.lock_validate.proofs.Outcomes.{next-given, node-given}
+use Rattle.lock_validate.proofs.Outcomes.{told}
 use Rattle.lock_validate.proofs.locking.begin_lock.Goals as goal
-use Rattle.uid_names.specs.declared.limits.TheConstants.{PROCESS_LOCKS}
 
-pub returns-clause-next : goal.returns-clause-next
-returns-clause-next c =
+pub returns : goal.returns
+returns c =
     let d = c.args.desk.now in
     let p = c.args.proc.number in
-    next-given (begin_lock_of d p c.args.uid c.args.mode) c.lock_by.new.desk p c.lock_by.result
-    (begin_lock_of-good d p c.args.uid c.state-state.ensures.kept (omega arith, omega arith) c.requires.idle c.args.mode)
-    (rw (← c.state-state.ensures.value) c.lock_by.ensures)
-
-pub returns-clause-node : goal.returns-clause-node
-returns-clause-node c =
-    let d = c.args.desk.now in
-    let p = c.args.proc.number in
-    node-given (begin_lock_of d p c.args.uid c.args.mode) c.lock_by.new.desk c.lock_by.result d.node
-    (lock_by-plain d p c.args.uid c.args.mode (is_held (state_of d p c.args.uid)) (is_unsettled (state_of d p c.args.uid)) (nat_le PROCESS_LOCKS (length (entries_of d p))) (nat_le c.args.uid.home d.nodes)).node
-    (rw (← c.state-state.ensures.value) c.lock_by.ensures)
+    let u = c.args.uid in
+    let m = c.args.mode in
+    let gives : Gives as_step c.lock_by.new.desk (begin_lock_of d p u m) c.lock_by.result = rw (← c.state-state.ensures.value) c.lock_by.ensures in
+    let result : Result Step NoMemory = Ok c.lock_by.result in
+    let tells = told d c.lock_by.new.desk p (ops.Lock u m) (begin_lock_of d p u m) result
+    (begin_lock_of-good d p u c.state-state.ensures.kept (omega arith, omega arith) c.requires.idle m)
+    gives in
+    record { done = refl; outcome = gives; fits = tells.fits; asks = tells.asks; next = tells.next; ready = tells.ready; node = tells.node; nodes = tells.nodes }

@@ -1,0 +1,4 @@
+use Rattle.lock_validate.proofs.answers.page_settled.Goals as goal
+
+pub returns-clause-outcome : goal.returns-clause-outcome
+returns-clause-outcome c = rw c.page_done.ensures.done at c.settled.ensures.outcome
