@@ -1,0 +1,17 @@
+pub mod Facts
+pub mod DeskStays
+pub mod PageMoves
+pub mod AccessMoves
+pub mod PageSaid
+pub mod PageCameMoves
+pub mod DirtyPages
+pub mod ReleaseMoves
+pub mod LockSaid
+pub mod GrantMoves
+pub mod AnswerMoves
+pub mod EachCall
+pub mod Beside
+pub mod Dropping
+pub mod Outcomes
+pub mod DroppedOrder
+pub mod Leaving

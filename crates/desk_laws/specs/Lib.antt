@@ -1,0 +1,14 @@
+pub mod Causes
+pub mod Settled
+pub mod Dropped
+pub mod Loading
+pub mod Releasing
+pub mod Told
+pub mod Calls
+pub mod Moves
+pub mod Refusals
+pub mod Left
+pub mod Turns
+pub mod Untouched
+pub mod Waiting
+pub mod Room

@@ -1,0 +1,177 @@
+//! A plain home of objects: what it keeps is what was sent there, and it decides each request at once.
+use ring_messages::Body;
+use std::cmp::max;
+use uid_names::{Mode, ObjKind, PAGE_BYTES, ProcId, Uid};
+
+/// How many pages an object has room for.
+pub(crate) const PAGES: usize = 4;
+
+/// Where in its page the byte is that stores change and loads give.
+const AT: usize = 7;
+
+/// A lock of a process: its mode and number.
+type Row = (ProcId, Mode, u64);
+
+/// An object at its home, and what all nodes made of it.
+#[derive(Drop)]
+pub(crate) struct Object {
+    pub uid: Uid,
+    stamp: u64,
+    length: u32,
+    pages: [[u8; PAGE_BYTES]; PAGES],
+    rows: [Option<Row>; 4],
+    /// The byte that was stored last in each page, and the length that the stores gave.
+    pub last: [u8; PAGES],
+    pub end: u32,
+}
+
+/// The offset of the byte of a page.
+pub(crate) fn place_of(page: u32) -> u32 {
+    page.saturating_mul(PAGE_BYTES as u32)
+        .saturating_add(AT as u32)
+}
+
+impl Object {
+    pub fn new(uid: Uid) -> Object {
+        Object {
+            uid,
+            stamp: 1,
+            length: 0,
+            pages: [[0; PAGE_BYTES]; PAGES],
+            rows: [None; 4],
+            last: [0; PAGES],
+            end: 0,
+        }
+    }
+
+    /// What the home decides on a request; a lock that it grants has this number.
+    pub fn decide(&mut self, proc: ProcId, body: &Body, number: u64) -> Body {
+        match body {
+            Body::PageIn { page, .. } => self.page(*page),
+            Body::PageOut {
+                page,
+                grant,
+                base,
+                bytes,
+                ..
+            } => match self.refused(*grant, *base) {
+                Some(refusal) => refusal,
+                None => self.take_page(*page, bytes),
+            },
+            Body::AttrOut {
+                length,
+                grant,
+                base,
+                ..
+            } => match self.refused(*grant, *base) {
+                Some(refusal) => refusal,
+                None => self.take_length(*length),
+            },
+            Body::Lock { mode, .. } => self.lock(proc, *mode, number),
+            Body::Unlock { .. } => self.unlock(proc),
+            _ => Body::NoObject,
+        }
+    }
+
+    fn page(&self, page: u32) -> Body {
+        match self.pages.get(page as usize) {
+            Some(bytes) => Body::Page {
+                stamp: self.stamp,
+                bytes: *bytes,
+            },
+            None => Body::NoObject,
+        }
+    }
+
+    /// What refuses a write: no lock that writes has this number, or the base is another stamp.
+    fn refused(&self, grant: u64, base: u64) -> Option<Body> {
+        let mut is_granted = false;
+        for row in &self.rows {
+            if let Some((_, mode, number)) = row {
+                is_granted = is_granted || mode.writes() && *number == grant;
+            }
+        }
+        if !is_granted {
+            return Some(Body::NoGrant);
+        }
+        if base != self.stamp {
+            return Some(Body::Stale { stamp: self.stamp });
+        }
+        None
+    }
+
+    fn raised(&mut self) -> Body {
+        self.stamp = self.stamp.saturating_add(1);
+        Body::Stored { stamp: self.stamp }
+    }
+
+    fn take_page(&mut self, page: u32, bytes: &[u8; PAGE_BYTES]) -> Body {
+        match self.pages.get_mut(page as usize) {
+            Some(old) => *old = *bytes,
+            None => return Body::NoObject,
+        }
+        self.raised()
+    }
+
+    fn take_length(&mut self, length: u32) -> Body {
+        self.length = length;
+        self.raised()
+    }
+
+    fn lock(&mut self, proc: ProcId, mode: Mode, grant: u64) -> Body {
+        for row in &self.rows {
+            if let Some((holder, held, _)) = row
+                && *holder != proc
+                && (mode.writes() || held.writes())
+            {
+                return Body::Conflict {
+                    proc: *holder,
+                    mode: *held,
+                };
+            }
+        }
+        self.set_row(proc, Some((proc, mode, grant)));
+        Body::Granted {
+            grant,
+            stamp: self.stamp,
+            kind: ObjKind::File,
+            room: PAGES as u32,
+            length: self.length,
+        }
+    }
+
+    fn unlock(&mut self, proc: ProcId) -> Body {
+        self.set_row(proc, None);
+        Body::Done
+    }
+
+    /// The lock of a process is another from now on.
+    fn set_row(&mut self, proc: ProcId, row: Option<Row>) {
+        if let Some(old) = self.rows.get_mut(usize::from(proc.number()) - 1) {
+            *old = row;
+        }
+    }
+
+    /// Another node changes a page, where no process here holds a lock.
+    pub fn change_elsewhere(&mut self, page: u32, byte: u8) {
+        for row in &self.rows {
+            if row.is_some() {
+                return;
+            }
+        }
+        if let Some(bytes) = self.pages.get_mut(page as usize) {
+            bytes[AT] = byte;
+            self.length = max(self.length, place_of(page).saturating_add(1));
+            self.stamp = self.stamp.saturating_add(1);
+        }
+        self.stored(page, byte);
+    }
+
+    /// A byte was stored there.
+    pub fn stored(&mut self, page: u32, byte: u8) {
+        if let Some(last) = self.last.get_mut(page as usize) {
+            *last = byte;
+            self.end = max(self.end, place_of(page).saturating_add(1));
+        }
+    }
+}
