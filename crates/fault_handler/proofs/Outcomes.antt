@@ -5,6 +5,7 @@ use Rattle.std.specs.Option.{ForSome}
 use Rattle.uid_names.specs.Names.{ObjectName}
 use Rattle.dom_history.specs.declared.op.Op.{Op}
 use Rattle.dom_history.specs.EndWords.{word_of}
+use Rattle.ring_messages.proofs.Asking.{asked-seen}
 use Rattle.ring_messages.specs.Bodies.{Ask, ask_of, body_of_ask}
 use Rattle.fault_handler.specs.declared.access.Access.{Access}
 use Rattle.fault_handler.specs.Desks.{DeskState}
@@ -55,17 +56,6 @@ come p P Q R (Accessed.NeedsRoom d task) holds comes use_it = by_victim (named_v
     by_victim : (o : Option Victim) → named_victim d.cache.pages ≡ o → IsSome o → R
     by_victim None none there = absurd (cc)
     by_victim (Some v) named there = use_it (room_made d p task v) (holds.2 v (named-may d.cache.pages v holds.1 named)) (comes v named)
-
--- a request is seen in its body
-asked-seen : (ask : Ask) → ask_of (body_of_ask ask) ≡ Some ask
-asked-seen (Ask.PageIn u page) = refl
-asked-seen (Ask.PageOut u page grant base bytes) = refl
-asked-seen (Ask.AttrOut u n grant base) = refl
-asked-seen (Ask.Lock u m) = refl
-asked-seen (Ask.Unlock u) = refl
-asked-seen (Ask.Remove u) = refl
-asked-seen (Ask.Make kind room) = refl
-asked-seen (Ask.ListLocks after) = refl
 
 -- the outcome is seen in the access
 pub access-seen : (turn : Turn) (dropped : List (ObjectName × ℕ)) → seen_access (as_access turn dropped) ≡ Some (record { turn = turn; dropped = dropped })

@@ -6,6 +6,7 @@ use Rattle.uid_names.specs.declared.limits.TheConstants.{PAGE_BYTES, NODE_PROCES
 use Rattle.dom_history.specs.declared.deed.LockState.{LockState}
 use Rattle.dom_history.specs.declared.deed.LockState.TheVariants.{Free, Held}
 use Rattle.dom_history.specs.Locks.{is_held}
+use Rattle.page_frames.specs.declared.frame.TheConstants.{FEWEST_FRAMES}
 use Rattle.page_cache.specs.Caches.{Resident, is_page, page_at}
 use Rattle.version_stamps.specs.declared.stamps.Stamp.{Stamp}
 use Rattle.version_stamps.specs.Stamps.{stamp_of}
@@ -174,7 +175,7 @@ pub record IsFour (d : DeskState) : Type 0 where
 
 pub record IsDesk (d : DeskState) : Type 0 where
   pub four : IsFour d
-  pub frames : 5 ≤ d.cache.frames
+  pub frames : FEWEST_FRAMES ≤ d.cache.frames
   pub pages : ArePages d.cache.pages d.entries
   pub moved : AreMoved d.cache.reserved d.cache.pages d.entries d.moving
   pub calls : AreOpen d.cache.pages d.entries d.calls d.tasks d.moving

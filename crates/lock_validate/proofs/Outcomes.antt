@@ -6,6 +6,7 @@ use Rattle.dom_history.specs.declared.op.Op.{Op}
 use Rattle.dom_history.specs.declared.op.Reply.{Reply}
 use Rattle.dom_history.specs.Fitting.{Fits}
 use Rattle.ring_messages.specs.Bodies.{Ask, ask_of, body_of_ask}
+use Rattle.ring_messages.proofs.Asking.{asked-seen}
 use Rattle.fault_handler.specs.Desks.{DeskState, open_call_of}
 use Rattle.fault_handler.specs.Outcomes.{Turn, Outcome, Moved, ended, Gives}
 use Rattle.fault_handler.specs.LockCalls.{LockCall, open_call}
@@ -20,21 +21,10 @@ use Rattle.lock_validate.proofs.Good.{IsGood}
 use Rattle.lock_validate.proofs.Standing.{op_of, is-open}
 use Rattle.lock_validate.proofs.Answering.{call_failed_of-good}
 
--- the body of a request asks it
-asks-itself : (ask : Ask) → ask_of (body_of_ask ask) ≡ Some ask
-asks-itself (Ask.PageIn u k) = refl
-asks-itself (Ask.PageOut u k grant base bytes) = refl
-asks-itself (Ask.AttrOut u n grant base) = refl
-asks-itself (Ask.Lock u m) = refl
-asks-itself (Ask.Unlock u) = refl
-asks-itself (Ask.Remove u) = refl
-asks-itself (Ask.Make kind room) = refl
-asks-itself (Ask.ListLocks after) = refl
-
 -- a step tells the outcome whose form it is
 pub seen-as_step : (turn : Turn) (dropped : List (ObjectName × ℕ)) → seen_step (as_step turn dropped) ≡ Some (record { turn = turn; dropped = dropped })
 seen-as_step (Turn.Ends reply) dropped = refl
-seen-as_step (Turn.Asks home ask) dropped = ap (option_map (λ a. let o : Outcome = record { turn = Turn.Asks home a; dropped = dropped } in o)) (asks-itself ask)
+seen-as_step (Turn.Asks home ask) dropped = ap (option_map (λ a. let o : Outcome = record { turn = Turn.Asks home a; dropped = dropped } in o)) (asked-seen ask)
 seen-as_step (Turn.Waits u k) dropped = refl
 
 some_is : {A : Type 0} (x y : A) → Some x ≡ Some y → x ≡ y

@@ -29,3 +29,14 @@ asked-body (bodies.Remove u) ask is = ap body_of_ask (some_is (Ask.Remove u) ask
 asked-body (bodies.Make kind room) ask is = ap body_of_ask (some_is (Ask.Make kind room) ask is)
 asked-body (bodies.List after) ask is = ap body_of_ask (some_is (Ask.ListLocks after) ask is)
 asked-body _ ask is = absurd cc
+
+-- the body of a request asks it
+pub asked-seen : (ask : Ask) → ask_of (body_of_ask ask) ≡ Some ask
+asked-seen (Ask.PageIn u page) = refl
+asked-seen (Ask.PageOut u page grant base bytes) = refl
+asked-seen (Ask.AttrOut u n grant base) = refl
+asked-seen (Ask.Lock u m) = refl
+asked-seen (Ask.Unlock u) = refl
+asked-seen (Ask.Remove u) = refl
+asked-seen (Ask.Make kind room) = refl
+asked-seen (Ask.ListLocks after) = refl

@@ -37,6 +37,13 @@ impl ByteList {
         Ok(ByteList { items })
     }
 
+    /// The list of a vector's bytes. Takes no memory.
+    pub fn from_vec(items: Vec<u8>) -> ByteList
+        ensures { result ≡ items.items }
+    {
+        ByteList { items }
+    }
+
     /// These bytes.
     pub fn from_slice(alloc: Global, bytes: &[u8]) -> Result<ByteList, NoMemory>
         ensures { IfOk result (λ list. list ≡ bytes.now) }

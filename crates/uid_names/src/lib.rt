@@ -21,8 +21,9 @@ pub use frame_kind::FrameKind;
 pub use ids::{BadUid, NodeId, Place, ProcId, Uid, UidSource};
 pub use item_list::ItemList;
 pub use limits::{
-    ENTRY_ROOM, LISTED_ROWS, MAX_LENGTH, MAX_NODES, MAX_ROOM, NODE_PROCESSES, PAGE_BYTES,
-    PROCESS_LOCKS, PROCESS_MAPPINGS, PROCESSES, SCRIPT_BYTES, VOLUME_ROOM, WRITTEN_ROOM,
+    ENTRY_ROOM, LISTED_ROWS, MAX_LENGTH, MAX_NODES, MAX_PHASES, MAX_ROOM, NODE_PROCESSES,
+    PAGE_BYTES, PROCESS_LOCKS, PROCESS_MAPPINGS, PROCESSES, SCRIPT_BYTES, VOLUME_ROOM,
+    WRITTEN_ROOM,
 };
 pub use lock_row::{LockRow, LockRows};
 pub use mode::{Mode, ObjKind, clash};

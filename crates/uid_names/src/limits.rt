@@ -36,5 +36,8 @@ pub const PROCESS_MAPPINGS: usize = 16;
 /// The greatest number of lock rows that one answer lists.
 pub const LISTED_ROWS: usize = 64;
 
+/// The greatest number of phases.
+pub const MAX_PHASES: u32 = 1000;
+
 /// The greatest number of bytes of a script.
 pub const SCRIPT_BYTES: u32 = 1_048_576;
