@@ -1,9 +1,0 @@
-use Rattle.node_core.proofs.Running.{run-keeps}
-use Rattle.node_core.proofs.laws.each_node_of_a_run_agrees_with_its_desk.Goals as goal
-
-pub returns : goal.returns
-returns c = record {
-  nodes = λ s setup cs w e timely n node. ((run-keeps s setup cs w e).kept timely).nodes n node;
-  frames = λ s setup cs w e timely. ((run-keeps s setup cs w e).kept timely).frames;
-  events = λ s setup cs w e timely. ((run-keeps s setup cs w e).kept timely).events;
-}

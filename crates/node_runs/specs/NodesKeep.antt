@@ -1,0 +1,50 @@
+-- What each node keeps, wherever its events led.
+use Rattle.std.specs.Prelude.{◌≡◌, ℕ, ◌≤◌, ◌^◌, Some, List, length}
+use Rattle.uid_names.specs.Names.{ObjectName}
+use Rattle.uid_names.specs.declared.limits.TheConstants.{NODE_PROCESSES}
+use Rattle.dom_history.specs.declared.event.What.{What}
+use Rattle.page_server.specs.ServerStates.{IsSide, IsCountedTo}
+use Rattle.fault_handler.specs.Desks.{DeskState}
+use Rattle.fault_handler.specs.Invariant.{IsProc, IsDesk}
+use Rattle.node_runs.specs.Setups.{Given}
+use Rattle.node_runs.specs.NodeStates.{NodeState, first_node, proc_of, emitted_to}
+use Rattle.node_runs.specs.Incomings.{Incoming}
+use Rattle.node_runs.specs.Outcomes.{Stepped}
+use Rattle.node_runs.specs.Steps.{step_of}
+use Rattle.node_runs.specs.Runs.{World}
+use Rattle.node_runs.specs.Agreements.{Agrees}
+use Rattle.node_runs.specs.Following.{IsFollowed}
+use Rattle.node_runs.specs.SentFrames.{IsIncoming}
+
+-- the desk is that of the node, with its frames
+pub record IsOwnDesk (g : Given) (d : DeskState) : Type 0 where
+  pub node : d.node ≡ g.number
+  pub nodes : d.nodes ≡ g.opening.nodes
+  pub frames : d.cache.frames ≡ g.frames
+
+-- its home side is one and its desk is one, both its own; the desk agrees with each process, and each process does what
+-- its program wants
+pub record IsNodeOf (g : Given) (n : NodeState) : Type 0 where
+  pub side : IsSide n.side
+  pub home : n.side.home.node ≡ g.number
+  pub own : IsOwnDesk g n.desk
+  pub desk : IsDesk n.desk
+  pub four : length n.procs ≡ NODE_PROCESSES
+  pub agrees : (p : ℕ) → IsProc p → Agrees n.desk p (proc_of n p).last (proc_of n p).doing
+  pub followed : (p : ℕ) → IsProc p → IsFollowed (g.asks p) (proc_of n p)
+
+-- no number is above the tick: no event sends two frames, makes two calls, or gives two grants, counters or stamps
+pub record IsCounted (n : NodeState) : Type 0 where
+  pub emitted : (to : ℕ) → emitted_to n to ≤ n.tick
+  pub last : (p : ℕ) → IsProc p → (proc_of n p).last ≤ n.tick
+  pub side : IsCountedTo n.tick n.side
+
+-- a node that its start led to by steps, whatever it received
+pub data Reached (g : Given) : NodeState → Type 0 where
+  starts : Reached g (first_node g)
+  steps : {n : NodeState} (s : Stepped) (what : What) (incoming : Incoming) (dropped : List (ObjectName × ℕ)) → Reached g n → IsIncoming incoming
+      → step_of g n what incoming dropped ≡ Some s → Reached g s.node
+
+-- no tick is above the greatest one, at which nodes end
+abbrev pub IsTimely : World → Type 0
+IsTimely w = (n : ℕ) → (w.nodes n).tick ≤ 2 ^ 40
