@@ -18,6 +18,10 @@ pub mod Homes
 pub mod Untouching
 pub mod Nodes
 pub mod Happening
+pub mod AlikeProcs
+pub mod Alike
+pub mod AlikeSteps
+pub mod Forgetting
 pub mod Reaching
 pub mod Running
 pub mod SampleRuns

@@ -16,6 +16,7 @@ pub mod CallsKeep
 pub mod DecidedCalls
 pub mod Replays
 pub mod Agreements
+pub mod Alikes
 pub mod Following
 pub mod SentFrames
 pub mod NodesKeep

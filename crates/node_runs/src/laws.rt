@@ -15,6 +15,7 @@ ghost use Rattle.node_runs.specs.NodeStates.{BegunOp, NodeState, first_node};
 ghost use Rattle.node_runs.specs.Incomings.{Incoming, tick_of, enabled};
 ghost use Rattle.node_runs.specs.Outcomes.{Stepped, Stage, moved};
 ghost use Rattle.node_runs.specs.Steps.{step_of, named_step};
+ghost use Rattle.node_runs.specs.Alikes.{AreAlikeGiven, AreAlike, AreAlikeSteps};
 ghost use Rattle.node_runs.specs.Doings.{Doing, event_of, ticked};
 ghost use Rattle.node_runs.specs.Dones.{Did};
 ghost use Rattle.node_runs.specs.SentFrames.{IsIncoming, AreFrames};
@@ -57,6 +58,16 @@ pub fn which_page_makes_room_is_free()
 pub fn each_step_did_one_thing()
     ensures { (g : Given) (n : NodeState) (what : What) (incoming : Incoming) (dropped : List (ObjectName × ℕ)) (s : Stepped) →
         step_of g n what incoming dropped ≡ Some s → Did g (ticked n incoming) what incoming s }
+{}
+
+/// Nodes that differ only in what their programs heard before and in the order in which marks were taken do the same at
+/// an event, and are told the same.
+pub fn an_event_asks_nothing_of_the_past()
+    ensures enabled { (g h : Given) (n m : NodeState) (what : What) (incoming : Incoming) →
+        AreAlikeGiven g h n m → AreAlike n m → enabled g n what incoming ≡ enabled h m what incoming }
+    ensures step { (g h : Given) (n m : NodeState) (what : What) (incoming : Incoming) (s : Stepped) →
+        AreAlikeGiven g h n m → AreAlike n m → enabled g n what incoming ≡ true → named_step g n what incoming ≡ Some s →
+        (t : Stepped) × (named_step h m what incoming ≡ Some t) × AreAlikeSteps n m s t }
 {}
 
 /// Each step's tick is one more than the greater of its node's tick and that of what it receives.
