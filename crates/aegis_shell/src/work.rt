@@ -184,8 +184,9 @@ fn jobs(alloc: Global, script: &Script, proc: ProcId) -> Result<Vec<Job>, NoMemo
     ensures { IfOk result (λ jobs. jobs.items ≡ jobs_of script.now proc) }
 {
     let rows = script.commands();
-    let mut jobs = Vec::new(alloc);
-    for place in script.places_of(proc) {
+    let places = script.places_of(proc);
+    let mut jobs = Vec::with_capacity(alloc, places.len())?;
+    for place in places {
         jobs.push(job_from(alloc, script, &rows[*place as usize])?)?;
     }
     Ok(jobs)

@@ -1,6 +1,7 @@
 pub mod Texts
 pub mod Numbers
 pub mod Tokens
+pub mod Lent
 pub mod Answers
 pub mod Cuts
 pub mod Spelled

@@ -12,7 +12,7 @@ pub mod token;
 pub mod write;
 
 pub use cuts::cut;
-pub use line::{TextFault, tokens};
+pub use line::{TextFault, lend_tokens, tokens};
 pub use numbers::{BadNumber, decimal, hex8};
-pub use token::Token;
+pub use token::{Token, TokenRef};
 pub use write::{put_decimal, put_quoted};

@@ -1,6 +1,7 @@
 //! Reads a line's tokens from the left.
 ghost use Rattle.std.specs.Prelude.{◌≡◌, ◌≢◌, ◌<◌, ◌≤◌, false, ℕ, All, IsTrue, length, take, slice_index, List, [], ◌∷◌, ◌++◌, Ok, IfOk, IfErr, IfSome, IfNone};
 ghost use Rattle.dom_text.specs.Answers.{Gives, text_answer, text_refusal};
+ghost use Rattle.dom_text.specs.Lent.{lent_answer, owned_token};
 ghost use Rattle.dom_text.specs.Tokens.{tokens_of, fault_at as fault_of_byte, is_blank as is_blank_byte};
 ghost use Rattle.dom_text.specs.Spelled.{is_word_byte as may_stand_in_word};
 ghost use Rattle.dom_text.specs.Walk.{AreApart, with_tokens};
@@ -8,8 +9,8 @@ ghost use Rattle.dom_text.specs.declared.line.TextFault.TheVariants.{NoMemory as
 ghost use Rattle.dom_text.specs.declared.token.Token.TheVariants.{Word};
 
 use crate::quoted::read_text;
-use crate::token::Token;
-use std::alloc::Global;
+use crate::token::{Token, TokenRef};
+use std::alloc::{AllocFailed, Global};
 use thiserror::Error;
 use uid_names::{ByteList, ItemList, NoMemory};
 
@@ -35,6 +36,14 @@ impl From<NoMemory> for TextFault {
     }
 }
 
+impl<T: Drop> From<AllocFailed<T>> for TextFault {
+    ghost from_gives = { λ _ e. e ≡ OutOfMemory };
+
+    fn from(_error: AllocFailed<T>) -> TextFault {
+        TextFault::NoMemory
+    }
+}
+
 /// The tokens of a line without its end. The first fault from the left decides.
 pub fn tokens(alloc: Global, line: &[u8]) -> Result<ItemList<Token>, TextFault>
     ensures { Gives (text_answer result) (tokens_of line.now) }
@@ -42,15 +51,42 @@ pub fn tokens(alloc: Global, line: &[u8]) -> Result<ItemList<Token>, TextFault>
     let mut found = ItemList::new(alloc);
     let mut rest = line;
     while let Some((token, behind)) = next_token(alloc, rest)? {
-        found.push(token)?;
+        found.push(to_owned(alloc, token)?)?;
         rest = behind;
     }
     Ok(found)
 }
 
+/// Makes a list hold the tokens of a line without its end, whatever it held. The first fault from the left decides.
+pub fn lend_tokens<'a>(
+    list: &mut Vec<TokenRef<'a>>,
+    alloc: Global,
+    line: &'a [u8],
+) -> Result<(), TextFault>
+    ensures { Gives (lent_answer list.new.items result) (tokens_of line.now) }
+{
+    list.clear();
+    let mut rest = line;
+    while let Some((token, behind)) = next_token(alloc, rest)? {
+        list.push(token)?;
+        rest = behind;
+    }
+    Ok(())
+}
+
+/// The token with a word of its own.
+fn to_owned(alloc: Global, token: TokenRef<'_>) -> Result<Token, NoMemory>
+    ensures { IfOk result (λ t. t ≡ owned_token token.entry) }
+{
+    Ok(match token {
+        TokenRef::Word(word) => Token::Word(ByteList::from_slice(alloc, word)?),
+        TokenRef::Text(text) => Token::Text(text),
+    })
+}
+
 /// The first token of a line, and what stands behind it; None where the line has none.
-fn next_token(alloc: Global, line: &[u8]) -> Result<Option<(Token, &[u8])>, TextFault>
-    ensures some { IfOk result (λ found. IfSome found (λ t. tokens_of line.now ≡ with_tokens (t.0 ∷ []) (tokens_of t.1.now))) }
+fn next_token(alloc: Global, line: &[u8]) -> Result<Option<(TokenRef<'_>, &[u8])>, TextFault>
+    ensures some { IfOk result (λ found. IfSome found (λ t. tokens_of line.now ≡ with_tokens (owned_token t.0 ∷ []) (tokens_of t.1.now))) }
     ensures shorter { IfOk result (λ found. IfSome found (λ t. length t.1.now < length line.now)) }
     ensures none { IfOk result (λ found. IfNone found (tokens_of line.now ≡ Ok [])) }
     ensures fault { IfErr result (λ fault. Gives (text_refusal fault) (tokens_of line.now)) }
@@ -63,12 +99,11 @@ fn next_token(alloc: Global, line: &[u8]) -> Result<Option<(Token, &[u8])>, Text
         b'#' => Ok(None),
         b'"' => {
             let (text, behind) = read_text(alloc, inside)?;
-            Ok(Some((Token::Text(text), behind)))
+            Ok(Some((TokenRef::Text(text), behind)))
         }
         _ => {
             let (word, behind) = cut_word(line)?;
-            let word = ByteList::from_slice(alloc, word)?;
-            Ok(Some((Token::Word(word), behind)))
+            Ok(Some((TokenRef::Word(word), behind)))
         }
     }
 }

@@ -1,7 +1,7 @@
 use super::*;
 use std::alloc::Global;
 use std::test::Fail;
-use uid_names::ByteList;
+use uid_names::{ByteList, NoMemory};
 
 /// The tokens of a line as text: words in angle brackets, texts in square ones, or the fault's name.
 fn shown(alloc: Global, line: &[u8]) -> Result<ByteList, Fail> {
@@ -14,15 +14,35 @@ fn shown(alloc: Global, line: &[u8]) -> Result<ByteList, Fail> {
         }
     };
     for token in found.items() {
-        let (before, bytes, behind): (&[u8], &ByteList, &[u8]) = match token {
-            Token::Word(bytes) => (b"<", bytes, b">"),
-            Token::Text(bytes) => (b"[", bytes, b"]"),
-        };
-        text.extend(before)?;
-        text.extend(bytes.bytes())?;
-        text.extend(behind)?;
+        match token {
+            Token::Word(word) => put_between(&mut text, b"<", word.bytes(), b">")?,
+            Token::Text(bytes) => put_between(&mut text, b"[", bytes.bytes(), b"]")?,
+        }
     }
     Ok(text)
+}
+
+/// The same of tokens whose words are lent.
+fn shown_lent(alloc: Global, list: &[TokenRef<'_>]) -> Result<ByteList, Fail> {
+    let mut text = ByteList::new(alloc);
+    for token in list {
+        match token {
+            TokenRef::Word(word) => put_between(&mut text, b"<", *word, b">")?,
+            TokenRef::Text(bytes) => put_between(&mut text, b"[", bytes.bytes(), b"]")?,
+        }
+    }
+    Ok(text)
+}
+
+fn put_between(
+    to: &mut ByteList,
+    before: &[u8],
+    bytes: &[u8],
+    behind: &[u8],
+) -> Result<(), NoMemory> {
+    to.extend(before)?;
+    to.extend(bytes)?;
+    to.extend(behind)
 }
 
 fn name_of(fault: TextFault) -> &'static str {
@@ -54,6 +74,27 @@ fn lines_are_cut_into_tokens(rt: HostRuntime) -> Result<(), Fail> {
     for (line, expected) in rows {
         let text = shown(rt.alloc(), line)?;
         assert_eq!(rt; text.bytes(), expected, "{line:?}");
+    }
+    Ok(())
+}
+
+#[test]
+fn one_list_is_filled_by_line_after_line(rt: HostRuntime) -> Result<(), Fail> {
+    let mut list = Vec::new(rt.alloc());
+    let rows: [(&[u8], Result<&[u8], TextFault>); 4] = [
+        (b"a.1 store x 0 \"h\\n\"", Ok(b"<a.1><store><x><0>[h\n]")),
+        (b"phase # b", Ok(b"<phase>")),
+        (b"a b\x01", Err(TextFault::Byte)),
+        (b"", Ok(b"")),
+    ];
+    for (line, expected) in rows {
+        match (lend_tokens(&mut list, rt.alloc(), line), expected) {
+            (Ok(()), Ok(left)) => {
+                let text = shown_lent(rt.alloc(), list.as_slice())?;
+                assert_eq!(rt; text.bytes(), left, "{line:?}");
+            }
+            (result, expected) => assert_eq!(rt; result.err(), expected.err(), "{line:?}"),
+        }
     }
     Ok(())
 }

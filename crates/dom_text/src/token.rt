@@ -7,3 +7,10 @@ pub enum Token {
     Word(ByteList),
     Text(ByteList),
 }
+
+/// The same where a word is lent by the line that it stands in.
+#[derive(Drop, Debug)]
+pub enum TokenRef<'a> {
+    Word(&'a [u8]),
+    Text(ByteList),
+}

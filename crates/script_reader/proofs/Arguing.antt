@@ -1,23 +1,29 @@
 -- Arguments of commands: what the test of their form leaves, and what they give a command.
-use Rattle.std.proofs.Common.{◌≡◌, ◌≤◌, ◌<◌, ◌+◌, ◌-◌, ◌*◌, lit≤, ℕ, suc, Bool, true, false, List, [], ◌∷◌, ◌++◌, length, length-append, map, get_or, drop, drop-cons, add-one, Option, Some, None, refl, ap, sym, subst, ◌∙◌, append_assoc, append-nil, arith, rules}
+use Rattle.std.proofs.Common.{◌≡◌, ◌≤◌, ◌<◌, ◌+◌, ◌-◌, ◌*◌, lit≤, ℕ, zero, suc, Bool, true, false, List, [], ◌∷◌, ◌++◌, length, length-append, map, get_or, drop, drop-cons, add-one, Option, Some, None, refl, ap, sym, subst, ◌∙◌, append_assoc, append-nil, arith, rules}
 use Rattle.std.specs.Prelude.{◌&&◌, ◌↔◌, bytes_eq, not, nat_le, nat_lt, is_some, unwrap_or, if◌then◌else◌, IfSome, IsTrue, All}
-use Rattle.std.specs.List.{AllByRecursion, list_all, position_or_len}
+use Rattle.std.specs.List.{AllByRecursion, list_all, position_or_len, slice_get}
 use Rattle.std.proofs.lemmas.List.Folds.{list_all-map}
 use Rattle.std.proofs.lemmas.List.{drop_all}
-use Rattle.std.proofs.lemmas.Option.{IfSome_then}
-use Rattle.std.proofs.Math.Seq.{get_or-append_seam}
+use Rattle.std.proofs.lemmas.Option.{IfSome_then, slice_get-map, slice_get_past, slice_get_read}
+use Rattle.std.specs.Option.{option_map}
+use Rattle.std.specs.Slice.{IsItemAt}
+use Rattle.std.specs.Borrow.{Bor}
+use Rattle.std.proofs.Math.Seq.{drop-nil, get_or-append_seam}
 use Rattle.uid_names.specs.Names.{ProcName}
 use Rattle.uid_names.specs.Rooms.{IsRoom}
 use Rattle.uid_names.specs.declared.limits.TheConstants.{MAX_ROOM, PAGE_BYTES, WRITTEN_ROOM}
 use Rattle.uid_names.specs.declared.mode.Mode.{Mode as LockMode}
 use Rattle.dom_text.specs.Numbers.{hex8_of, number_spelled}
+use Rattle.dom_text.specs.Lent.{owned, owned_token}
 use Rattle.dom_text.specs.declared.token.Token.{Token}
+use Rattle.dom_text.specs.declared.token.TokenRef.{TokenRef}
 use Rattle.dom_text.specs.declared.token.Token.TheVariants.{Word, Text as TextToken}
 use Rattle.script_reader.specs.Arguments.{Said, Given, Var, NewVar, Room, Offset, Count, Address, Text, Mode, Home, given, home_number}
 use Rattle.script_reader.specs.Commands.{IsAddress, IsArgument, IsCommand, IsCount, IsHome, IsOffset, arguments_of}
-use Rattle.script_reader.specs.Forms.{absent, arguments_form, in_front, mode_argument, text_argument, word_argument}
+use Rattle.script_reader.specs.Forms.{absent, argument_form, arguments_form, in_front, mode_argument, text_argument, word_argument}
 use Rattle.script_reader.specs.NamesAsked.{has_name}
-use Rattle.script_reader.specs.Numbers.{has_number, room_spelled, offset_spelled, count_spelled, address_spelled, within}
+use Rattle.script_reader.specs.Numbers.{has_number}
+use Rattle.script_reader.specs.SpelledNumbers.{room_spelled, offset_spelled, count_spelled, address_spelled, within}
 use Rattle.script_reader.specs.Repeats.{is_fresh}
 use Rattle.script_reader.specs.SaidCommands.{argument_at, bytes_of, command_said, home_of, mode_of, number_of}
 use Rattle.script_reader.specs.Scripts.{Content}
@@ -25,7 +31,7 @@ use Rattle.script_reader.specs.Shapes.{shape_of}
 use Rattle.script_reader.specs.UnknownNames.{is_known}
 use Rattle.script_reader.specs.Variables.{IsSpoken, MaySpeakOf, is_declared}
 use Rattle.script_reader.specs.Walk.Formed.{AreFormed, IsFound, kind_of}
-use Rattle.script_reader.specs.Walk.Seen.{seen_argument, seen_arguments}
+use Rattle.script_reader.specs.Walk.Seen.{seen_argument, seen_arguments, seen_found, seen_token}
 use Rattle.script_reader.specs.Words.{mode_of_word}
 use Rattle.script_reader.specs.declared.arguments.Argument.{Argument as ArgumentOfLine}
 use Rattle.script_reader.specs.declared.script.NodeRow.{NodeRow}
@@ -91,6 +97,10 @@ absent_formed : (k : Kind) → IfSome (absent k) (IsOfKind k)
 absent_formed kind.Home = (refl, tt)
 absent_formed _ = tt
 
+argument_formed : (k : Kind) (token : Token) → IfSome (argument_form k (Some token)) (IsOfKind k)
+argument_formed k (Word word) = word_formed k word
+argument_formed k (TextToken text) = text_formed k text
+
 in_front_formed : (k : Kind) (kinds : List Kind) (first : Option Said) (rest : Option (List Said)) → IfSome first (IsOfKind k) → IfSome rest (AreFormed kinds) → IfSome (in_front first rest) (AreFormed (k ∷ kinds))
 in_front_formed k kinds None rest h i = tt
 in_front_formed k kinds (Some first) None h i = tt
@@ -101,8 +111,7 @@ pub form_formed : (kinds : List Kind) (tokens : List Token) → IfSome (argument
 form_formed [] [] = record { kinds_are = refl; found = tt }
 form_formed [] (token ∷ rest) = tt
 form_formed (k ∷ kinds) [] = in_front_formed k kinds (absent k) (arguments_form kinds []) (absent_formed k) (form_formed kinds [])
-form_formed (k ∷ kinds) (Word word ∷ rest) = in_front_formed k kinds (word_argument k word) (arguments_form kinds rest) (word_formed k word) (form_formed kinds rest)
-form_formed (k ∷ kinds) (TextToken text ∷ rest) = in_front_formed k kinds (text_argument k text) (arguments_form kinds rest) (text_formed k text) (form_formed kinds rest)
+form_formed (k ∷ kinds) (token ∷ rest) = in_front_formed k kinds (argument_form k (Some token)) (arguments_form kinds rest) (argument_formed k token) (form_formed kinds rest)
 
 -- arguments in front of those that tokens say
 abbrev pub behind : List Said → Option (List Said) → Option (List Said)
@@ -117,30 +126,58 @@ behind-push : (front : List Said) (a : Said) (rest : Option (List Said)) → beh
 behind-push front a None = refl
 behind-push front a (Some rest) = ap Some (sym (append_assoc front (a ∷ []) rest))
 
-kind_first : (kinds : List Kind) (i : ℕ) (k : Kind) → i < length kinds → k ≡ get_or kinds i k → drop i kinds ≡ k ∷ drop (i + 1) kinds
-kind_first kinds i k below is = drop-cons kinds i k below ∙ (ap (λ x. x ∷ drop (suc i) kinds) (sym is) ∙ ap (λ n. k ∷ drop n kinds) (sym (add-one i)))
+-- the token at a place, seen as one of its own
+token_at : (tokens : List TokenRef) (i : ℕ) (found : Option (Bor TokenRef)) → IsItemAt tokens i found → slice_get (owned tokens) i ≡ seen_token found
+token_at tokens i None h = slice_get-map owned_token tokens i ∙ ap (option_map owned_token) (slice_get_past tokens i h.3)
+token_at tokens i (Some token) h = slice_get-map owned_token tokens i ∙ ap (option_map owned_token) (slice_get_read tokens (length tokens) i token.now refl h.3.0 h.1)
+
+pub said_at : (tokens : List TokenRef) (i : ℕ) (k : Kind) (found : Option (Bor TokenRef)) (said : Option ArgumentOfLine) → IsItemAt tokens i found → seen_found said ≡ argument_form k (seen_token found) → argument_form k (slice_get (owned tokens) i) ≡ seen_found said
+said_at tokens i k found said h e = ap (argument_form k) (token_at tokens i found h) ∙ sym e
+
+-- the tokens from a place on, with the argument that stands there
+form_first : (k : Kind) (kinds : List Kind) (tokens : List Token) (i : ℕ) → arguments_form (k ∷ kinds) (drop i tokens) ≡ in_front (argument_form k (slice_get tokens i)) (arguments_form kinds (drop (i + 1) tokens))
+form_first k kinds [] i = rw (drop-nil i, drop-nil (i + 1)) refl
+form_first k kinds (token ∷ rest) zero = refl
+form_first k kinds (token ∷ rest) (suc i) =
+    let next : suc (i + 1) ≡ suc i + 1 = omega arith in
+    form_first k kinds rest i ∙ ap (λ n. in_front (argument_form k (slice_get rest i)) (arguments_form kinds (drop n (token ∷ rest)))) next
+
+form_here : (kinds : List Kind) (tokens : List Token) (front : List Said) (i : ℕ) (d : Kind) → i < length kinds → arguments_form kinds tokens ≡ behind front (arguments_form (drop i kinds) (drop i tokens))
+    → arguments_form kinds tokens ≡ behind front (in_front (argument_form (get_or kinds i d) (slice_get tokens i)) (arguments_form (drop (i + 1) kinds) (drop (i + 1) tokens)))
+form_here kinds tokens front i d below h =
+    let first : drop i kinds ≡ get_or kinds i d ∷ drop (i + 1) kinds = drop-cons kinds i d below ∙ ap (λ n. get_or kinds i d ∷ drop n kinds) (sym (add-one i)) in
+    h ∙ (ap (λ ks. behind front (arguments_form ks (drop i tokens))) first ∙ ap (behind front) (form_first (get_or kinds i d) (drop (i + 1) kinds) tokens i))
 
 -- an argument more was taken
-pub form_step : (kinds : List Kind) (tokens rest next : List Token) (front : List Said) (i : ℕ) (k : Kind) (a : Said) → i < length kinds → k ≡ get_or kinds i k → arguments_form kinds tokens ≡ behind front (arguments_form (drop i kinds) rest)
-    → ((ks : List Kind) → arguments_form (k ∷ ks) rest ≡ in_front (Some a) (arguments_form ks next)) → arguments_form kinds tokens ≡ behind (front ++ a ∷ []) (arguments_form (drop (i + 1) kinds) next)
-form_step kinds tokens rest next front i k a below is h step =
-    h ∙ (ap (λ ks. behind front (arguments_form ks rest)) (kind_first kinds i k below is) ∙ (ap (behind front) (step (drop (i + 1) kinds)) ∙ behind-push front a (arguments_form (drop (i + 1) kinds) next)))
+pub form_step : (kinds : List Kind) (tokens : List Token) (front : List Said) (i : ℕ) (d : Kind) (a : Said) → i < length kinds → arguments_form kinds tokens ≡ behind front (arguments_form (drop i kinds) (drop i tokens))
+    → argument_form (get_or kinds i d) (slice_get tokens i) ≡ Some a → arguments_form kinds tokens ≡ behind (front ++ a ∷ []) (arguments_form (drop (i + 1) kinds) (drop (i + 1) tokens))
+form_step kinds tokens front i d a below h found =
+    let rest = arguments_form (drop (i + 1) kinds) (drop (i + 1) tokens) in
+    form_here kinds tokens front i d below h ∙ (ap (λ f. behind front (in_front f rest)) found ∙ behind-push front a rest)
 
 -- none was
-pub form_none : (kinds : List Kind) (tokens rest : List Token) (front : List Said) (i : ℕ) (k : Kind) → i < length kinds → k ≡ get_or kinds i k → arguments_form kinds tokens ≡ behind front (arguments_form (drop i kinds) rest)
-    → ((ks : List Kind) → arguments_form (k ∷ ks) rest ≡ None) → arguments_form kinds tokens ≡ None
-form_none kinds tokens rest front i k below is h step =
-    h ∙ (ap (λ ks. behind front (arguments_form ks rest)) (kind_first kinds i k below is) ∙ ap (behind front) (step (drop (i + 1) kinds)))
+pub form_none : (kinds : List Kind) (tokens : List Token) (front : List Said) (i : ℕ) (d : Kind) → i < length kinds → arguments_form kinds tokens ≡ behind front (arguments_form (drop i kinds) (drop i tokens))
+    → argument_form (get_or kinds i d) (slice_get tokens i) ≡ None → arguments_form kinds tokens ≡ None
+form_none kinds tokens front i d below h none =
+    form_here kinds tokens front i d below h ∙ ap (λ f. behind front (in_front f (arguments_form (drop (i + 1) kinds) (drop (i + 1) tokens)))) none
 
 -- all were
-pub form_end : (kinds : List Kind) (tokens rest : List Token) (front : List Said) (i : ℕ) → length kinds ≤ i → arguments_form kinds tokens ≡ behind front (arguments_form (drop i kinds) rest) → rest ≡ [] → arguments_form kinds tokens ≡ Some front
-form_end kinds tokens rest front i past h none =
-    let out : drop i kinds ≡ [] = drop_all i kinds past in
-    h ∙ (ap (λ ks. behind front (arguments_form ks rest)) out ∙ (ap (λ ts. behind front (arguments_form [] ts)) none ∙ ap Some (append-nil front)))
+pub form_end : (kinds : List Kind) (tokens : List Token) (front : List Said) (i : ℕ) → length kinds ≤ i → length tokens ≤ length kinds → arguments_form kinds tokens ≡ behind front (arguments_form (drop i kinds) (drop i tokens)) → arguments_form kinds tokens ≡ Some front
+form_end kinds tokens front i past few h =
+    let kinds_out : drop i kinds ≡ [] = drop_all i kinds past in
+    let tokens_out : drop i tokens ≡ [] = drop_all i tokens (omega arith) in
+    h ∙ (ap (λ ks. behind front (arguments_form ks (drop i tokens))) kinds_out ∙ (ap (λ ts. behind front (arguments_form [] ts)) tokens_out ∙ ap Some (append-nil front)))
 
-pub form_left : (kinds : List Kind) (tokens rest : List Token) (front : List Said) (i : ℕ) → length kinds ≤ i → arguments_form kinds tokens ≡ behind front (arguments_form (drop i kinds) rest) → 0 < length rest → arguments_form kinds tokens ≡ None
-form_left kinds tokens [] front i past h some = absurd (omega (arith, some))
-form_left kinds tokens (t ∷ rest) front i past h some = h ∙ ap (λ ks. behind front (arguments_form ks (t ∷ rest))) (drop_all i kinds past)
+-- tokens that are more than the kinds
+in_front-none : (first : Option Said) → in_front first None ≡ None
+in_front-none None = refl
+in_front-none (Some first) = refl
+
+pub form_left : (kinds : List Kind) (tokens : List Token) → length kinds < length tokens → arguments_form kinds tokens ≡ None
+form_left [] [] more = absurd (omega arith)
+form_left [] (token ∷ rest) more = refl
+form_left (k ∷ kinds) [] more = absurd (omega arith)
+form_left (k ∷ kinds) (token ∷ rest) more = ap (in_front (argument_form k (Some token))) (form_left kinds rest (omega (arith, more))) ∙ in_front-none (argument_form k (Some token))
 
 -- what was taken is formed
 pub taken_formed : (kinds : List Kind) (tokens : List Token) (taken : List Said) → arguments_form kinds tokens ≡ Some taken → AreFormed kinds taken
@@ -215,7 +252,7 @@ home_is nodes (Some name) = by_place (nat_lt (position_or_len (λ row. bytes_eq 
   by_place true e = let below : position_or_len (λ row. bytes_eq row.name name) nodes < length nodes = search (rules, e) in (omega arith, omega (arith, below))
   by_place false e = tt
 
-found_is : (P : ℕ → Type 0) (found : Option ℕ) → IfSome found P → is_some found ≡ true → P (unwrap_or found 0)
+pub found_is : (P : ℕ → Type 0) (found : Option ℕ) → IfSome found P → is_some found ≡ true → P (unwrap_or found 0)
 found_is P None h some = absurd cc
 found_is P (Some n) h some = h
 

@@ -2,7 +2,7 @@
 use Rattle.std.proofs.Common.{◌≡◌, ◌≤◌, ◌<◌, ◌+◌, ◌-◌, ℕ, true, false, List, [], ◌∷◌, ◌++◌, length, length-append, get_or, set, ap, sym, subst, ◌∙◌, arith}
 use Rattle.std.specs.Global.{Vec}
 use Rattle.uid_names.specs.Names.{IsName, ObjectName, ProcName}
-use Rattle.uid_names.specs.declared.limits.TheConstants.{MAX_NODES, VOLUME_ROOM}
+use Rattle.uid_names.specs.declared.limits.TheConstants.{MAX_NODES, MAX_PHASES, VOLUME_ROOM}
 use Rattle.uid_names.specs.Rooms.{IsRoom}
 use Rattle.uid_names.specs.declared.mode.ObjKind.TheVariants.{File}
 use Rattle.uid_names.specs.declared.opening.Object.{Object}
@@ -47,7 +47,7 @@ held-node d nodes name frames h e named few many new room =
     }
 
 -- a phase more
-pub held-phase : (d : Inside) → HoldsDraft d → d.phases < 1000 → HoldsDraft (record d { phases = d.phases + 1 })
+pub held-phase : (d : Inside) → HoldsDraft d → d.phases < MAX_PHASES → HoldsDraft (record d { phases = d.phases + 1 })
 held-phase d h room = record { draft = IsDraft-phase (content_of d) h.draft room; starts = h.starts; declared = h.declared; named = h.named; tallies = h.tallies }
 
 -- a fate more

@@ -9,7 +9,7 @@ use Rattle.std.proofs.lemmas.List.Elements.{All-push, All-weaker}
 use Rattle.std.proofs.lemmas.List.Quantifiers.{all_pairs_push}
 use Rattle.std.proofs.lemmas.List.Sums.{AllPass-from_list_all}
 use Rattle.uid_names.specs.Names.{ProcName, IsName}
-use Rattle.uid_names.specs.declared.limits.TheConstants.{MAX_NODES}
+use Rattle.uid_names.specs.declared.limits.TheConstants.{MAX_NODES, MAX_PHASES}
 use Rattle.uid_names.specs.NameTexts.{IsNameText, is_name_byte}
 use Rattle.dom_history.specs.Plans.{IsPlan}
 use Rattle.dom_history.specs.declared.plan.FateRow.{FateRow}
@@ -115,7 +115,7 @@ IsDraft-node s name frames h named few many new room =
     }
 
 -- a phase more
-pub IsDraft-phase : (s : Content) → IsDraft s → s.phases < 1000 → IsDraft (record s { phases = s.phases + 1 })
+pub IsDraft-phase : (s : Content) → IsDraft s → s.phases < MAX_PHASES → IsDraft (record s { phases = s.phases + 1 })
 IsDraft-phase s h room = record {
   few_nodes = h.few_nodes;
   nodes = h.nodes;

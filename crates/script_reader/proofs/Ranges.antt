@@ -1,19 +1,18 @@
 -- What the tests of a line leave.
-use Rattle.std.proofs.Common.{◌≡◌, ◌≢◌, ◌≤◌, ◌+◌, lit≤, ℕ, suc, Bool, true, false, List, [], ◌∷◌, length, get_or, Option, Some, None, refl, ap, sym, subst, ◌∙◌, arith}
-use Rattle.std.specs.Prelude.{◌&&◌, cond, nat_le, nat_lt, not, is_some, unwrap_or, if◌then◌else◌, IfSome}
+use Rattle.std.proofs.Common.{◌≡◌, ◌≢◌, ◌≤◌, ◌+◌, ℕ, suc, Bool, true, false, List, [], ◌∷◌, length, get_or, Option, Some, None, refl, ap, sym, subst, ◌∙◌, arith}
+use Rattle.std.specs.Prelude.{◌&&◌, cond, nat_lt, not, is_some, unwrap_or, if◌then◌else◌, IfSome}
 use Rattle.std.specs.Prelude.{bytes_eq}
-use Rattle.uid_names.specs.Rooms.{IsRoom}
-use Rattle.uid_names.specs.declared.limits.TheConstants.{MAX_ROOM, WRITTEN_ROOM}
 use Rattle.std.specs.List.{position_or_len}
 use Rattle.std.proofs.lemmas.Bool.{false≢true}
-use Rattle.dom_text.specs.Numbers.{number_spelled}
-use Rattle.script_reader.specs.Numbers.{is_fate, is_number, number_in, room_spelled, within}
+use Rattle.script_reader.specs.Numbers.{is_fate}
+use Rattle.script_reader.specs.Walk.Formed.{IsFateFound, IsLate}
+use Rattle.script_reader.specs.Walk.Found.{IsNodeOf}
 use Rattle.script_reader.specs.NodeNames.{is_node_name, node_number, place_of}
 use Rattle.script_reader.specs.After.{fate_said}
-use Rattle.script_reader.specs.Sayings.{FateWords, Lose, Twice, Late}
+use Rattle.script_reader.specs.Sayings.{SaidFate, Lose, Twice, Late}
 use Rattle.script_reader.specs.Fates.{IsGivenFate}
 use Rattle.script_reader.specs.declared.script.NodeRow.{NodeRow}
-use Rattle.script_reader.proofs.Arguing.{within_is}
+use Rattle.script_reader.proofs.Arguing.{found_is}
 use Rattle.script_reader.proofs.Decisions.{bytes_eq-refl, bytes_eq-true}
 
 -- a test that refuses where one of two fails
@@ -26,35 +25,15 @@ pub is_true : (b : Bool) → not b ≡ false → b ≡ true
 is_true true h = refl
 is_true false h = absurd cc
 
--- a number in its range
-found_is : (low high : ℕ) (found : Option ℕ) → IfSome found (λ n. (low ≤ n) × (n ≤ high)) → is_some found ≡ true → (low ≤ unwrap_or found 0) × (unwrap_or found 0 ≤ high)
-found_is low high None h some = absurd cc
-found_is low high (Some n) h some = h
+-- a node that was found
+pub node_is : (nodes : List NodeRow) (name : List ℕ) (found : Option ℕ) (node : ℕ) → IsNodeOf nodes name found → found ≡ Some node → (node ≡ node_number nodes name) × (1 ≤ node) × (node ≤ length nodes)
+node_is nodes name found node h e = (subst (λ f. IfSome f (λ n. n ≡ node_number nodes name)) e h.value, subst (λ f. IfSome f (λ n. 1 ≤ n)) e h.least, subst (λ f. IfSome f (λ n. n ≤ length nodes)) e h.within)
 
-within_same : (low high : ℕ) (found : Option ℕ) → is_some (within low high found) ≡ true → unwrap_or (within low high found) 0 ≡ unwrap_or found 0
-within_same low high None h = refl
-within_same low high (Some n) h = by_test (nat_le low n && nat_le n high) h where
-  by_test : (t : Bool) → is_some (if t then Some n else None) ≡ true → unwrap_or (if t then Some n else None) 0 ≡ n
-  by_test true h = refl
-  by_test false h = absurd cc
-
-pub number_is : (low high : ℕ) (word : List ℕ) → is_number low high word ≡ true → (low ≤ number_in word) × (number_in word ≤ high)
-number_is low high word h =
-    let n = found_is low high (within low high (number_spelled word)) (within_is low high (number_spelled word)) h in
-    let same = within_same low high (number_spelled word) h in
-    (subst (λ k. low ≤ k) same n.0, subst (λ k. k ≤ high) same n.1)
-
--- a room that can be written is one that an object can have
-written : WRITTEN_ROOM ≤ MAX_ROOM
-written = lit≤ tt
-
-pub room_is : (word : List ℕ) → is_some (room_spelled word) ≡ true → IsRoom (number_in word)
-room_is word h = let n = number_is 1 WRITTEN_ROOM word h in (n.0, omega (arith, n.1, written))
-
-pub fate_is : (words : FateWords) → is_fate words ≡ true → IsGivenFate (fate_said words)
-fate_is Lose h = tt
-fate_is (Twice count) h = number_is 1 1000 count h
-fate_is (Late count) h = number_is 1 1000 count h
+-- a fate whose number was found is one that a script can give
+pub fate_is : (fate : SaidFate) → IsFateFound fate → is_fate fate ≡ true → IsGivenFate (fate_said fate)
+fate_is Lose h some = tt
+fate_is (Twice late) h some = found_is IsLate late h some
+fate_is (Late late) h some = found_is IsLate late h some
 
 -- the row at a place has the name
 at_place : (p : NodeRow → Bool) (rows : List NodeRow) (d : NodeRow) → nat_lt (position_or_len p rows) (length rows) ≡ true → p (get_or rows (position_or_len p rows) d) ≡ true

@@ -114,8 +114,8 @@ no_commands phases (c ∷ commands) h = absurd (false≢true (grind arith))
 
 -- before phases and commands all is in its place
 pub in_place : (s : Content) → has_begun s ≡ false → (said : Saying) → HasForm said → IsFormed s said
-in_place s h (Node name frames) form = tt
-in_place s h (Object var room home) form = no_commands s.phases s.commands h
+in_place s h (Node name frames) form = form
+in_place s h (Object var room home) form = (no_commands s.phases s.commands h, form)
 in_place s h (Fault from to index fate) form = form
 in_place s h Phase form = tt
 in_place s h (Does process verb arguments) form = form

@@ -1,5 +1,5 @@
 -- What a good line says: the content behind it.
-use Rattle.std.specs.Prelude.{ℕ, ◌+◌, Option, Some, None, List, [], ◌∷◌, ◌++◌, length}
+use Rattle.std.specs.Prelude.{ℕ, ◌+◌, unwrap_or, List, [], ◌∷◌, ◌++◌, length}
 use Rattle.uid_names.specs.Names.{ProcName, ObjectName}
 use Rattle.uid_names.specs.Openings.{with_object}
 use Rattle.uid_names.specs.declared.mode.ObjKind.TheVariants.{File}
@@ -8,18 +8,12 @@ use Rattle.uid_names.specs.Beginnings.{at_home}
 use Rattle.dom_history.specs.declared.plan.Fate.{Fate}
 use Rattle.dom_history.specs.declared.plan.Fate.TheVariants.{Lose as LoseFate, Twice as TwiceFate, Late as LateFate}
 use Rattle.script_reader.specs.Scripts.{Content}
-use Rattle.script_reader.specs.Sayings.{Saying, Node, Object, Fault, Phase, Does, FateWords, Lose, Twice, Late}
+use Rattle.script_reader.specs.Sayings.{Saying, Node, Object, Fault, Phase, Does, SaidFate, Lose, Twice, Late}
 use Rattle.script_reader.specs.declared.command.Command.{Command}
 use Rattle.script_reader.specs.declared.script.NodeRow.{NodeRow}
-use Rattle.script_reader.specs.Numbers.{number_in}
 use Rattle.script_reader.specs.NodeNames.{node_number}
 use Rattle.script_reader.specs.UnknownNames.{proc_of}
 use Rattle.script_reader.specs.SaidCommands.{command_said}
-
--- a node has 64 page frames where its line says no number
-abbrev pub frames_of : Option (List ℕ) → ℕ
-frames_of None = 64
-frames_of (Some word) = number_in word
 
 abbrev pub with_nodes : Content → List NodeRow → Content
 with_nodes s nodes = record s { nodes = nodes; opening = record s.opening { nodes = length nodes } }
@@ -42,11 +36,11 @@ with_declared s var object = record s {
 abbrev pub declared_at : Content → ℕ → ℕ → ObjectRecord
 declared_at s home room = record { uid = next_uid s.opening.objects home; kind = File; room = room }
 
--- the fate that its words say
-abbrev pub fate_said : FateWords → Fate
+-- the fate that a line says
+abbrev pub fate_said : SaidFate → Fate
 fate_said Lose = LoseFate
-fate_said (Twice count) = TwiceFate (number_in count)
-fate_said (Late count) = LateFate (number_in count)
+fate_said (Twice late) = TwiceFate (unwrap_or late 0)
+fate_said (Late late) = LateFate (unwrap_or late 0)
 
 abbrev pub with_fate : Content → ℕ → ℕ → ℕ → Fate → Content
 with_fate s from to index fate = record s { plan = s.plan ++ record { from = from; to = to; index = index; fate = fate } ∷ [] }
@@ -57,8 +51,8 @@ with_command s proc command = record s { commands = s.commands ++ record { proc 
 
 -- what is said once this line is
 abbrev pub after : Content → Saying → Content
-after s (Node name frames) = with_node s name (frames_of frames)
-after s (Object var room home) = with_declared s var (declared_at s (node_number s.nodes home) (number_in room))
-after s (Fault from to index fate) = with_fate s (node_number s.nodes from) (node_number s.nodes to) (number_in index) (fate_said fate)
+after s (Node name frames) = with_node s name (unwrap_or frames 0)
+after s (Object var room home) = with_declared s var (declared_at s (node_number s.nodes home) (unwrap_or room 0))
+after s (Fault from to index fate) = with_fate s (node_number s.nodes from) (node_number s.nodes to) (unwrap_or index 0) (fate_said fate)
 after s Phase = record s { phases = s.phases + 1 }
 after s (Does process verb arguments) = with_command s (proc_of s.nodes process) (command_said s.nodes verb arguments)

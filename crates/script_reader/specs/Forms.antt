@@ -6,8 +6,8 @@ use Rattle.dom_text.specs.declared.token.Token.{Token}
 use Rattle.dom_text.specs.declared.token.Token.TheVariants.{Word, Text as TextToken}
 use Rattle.script_reader.specs.Words.{ProcessWord, mode_of_word}
 use Rattle.script_reader.specs.Arguments.{Said, Var, NewVar, Room, Offset, Count, Address, Text, Mode, Home}
-use Rattle.script_reader.specs.Numbers.{room_spelled, offset_spelled, count_spelled, address_spelled}
-use Rattle.script_reader.specs.Sayings.{Saying, Node, Object, Fault, Phase, Does, FateWords, Lose, Twice, Late}
+use Rattle.script_reader.specs.Sayings.{Saying, Node, Object, Fault, Phase, Does, SaidFate, Lose, Twice, Late}
+use Rattle.script_reader.specs.SpelledNumbers.{frames_spelled, index_spelled, late_spelled, room_spelled, offset_spelled, count_spelled, address_spelled}
 use Rattle.script_reader.specs.Shapes.{shape_of}
 use Rattle.script_reader.specs.declared.words.Verb.{Verb}
 use Rattle.script_reader.specs.declared.words.Kind.{Kind}
@@ -15,34 +15,34 @@ use Rattle.script_reader.specs.declared.words.Kind.TheVariants as kind
 
 -- behind `node`
 abbrev pub node_form : List Token → Option Saying
-node_form (Word name ∷ []) = Some (Node name None)
-node_form (Word name ∷ Word fixed ∷ Word count ∷ []) = if bytes_eq fixed (codes "frames") then Some (Node name (Some count)) else None
+node_form (Word name ∷ []) = Some (Node name (frames_spelled None))
+node_form (Word name ∷ Word fixed ∷ Word count ∷ []) = if bytes_eq fixed (codes "frames") then Some (Node name (frames_spelled (Some count))) else None
 node_form _ = None
 
 -- behind `object`
 abbrev pub object_form : List Token → Option Saying
-object_form (Word var ∷ Word room ∷ Word home ∷ []) = Some (Object var room home)
+object_form (Word var ∷ Word room ∷ Word home ∷ []) = Some (Object var (room_spelled room) home)
 object_form _ = None
 
 -- a fate with a number behind it
-abbrev pub counted_fate : List ℕ → List ℕ → Option FateWords
-counted_fate fixed count =
-    if bytes_eq fixed (codes "twice") then Some (Twice count)
-    else if bytes_eq fixed (codes "late") then Some (Late count)
+abbrev pub counted_fate : List ℕ → Option ℕ → Option SaidFate
+counted_fate fixed late =
+    if bytes_eq fixed (codes "twice") then Some (Twice late)
+    else if bytes_eq fixed (codes "late") then Some (Late late)
     else None
 
-abbrev pub fate_form : List Token → Option FateWords
+abbrev pub fate_form : List Token → Option SaidFate
 fate_form (Word fixed ∷ []) = if bytes_eq fixed (codes "lose") then Some Lose else None
-fate_form (Word fixed ∷ Word count ∷ []) = counted_fate fixed count
+fate_form (Word fixed ∷ Word count ∷ []) = counted_fate fixed (late_spelled count)
 fate_form _ = None
 
-abbrev pub with_link : List ℕ → List ℕ → List ℕ → Option FateWords → Option Saying
+abbrev pub with_link : List ℕ → List ℕ → Option ℕ → Option SaidFate → Option Saying
 with_link from to index None = None
 with_link from to index (Some fate) = if bytes_eq from to then None else Some (Fault from to index fate)
 
 -- behind `fault`
 abbrev pub fault_form : List Token → Option Saying
-fault_form (Word from ∷ Word to ∷ Word index ∷ rest) = with_link from to index (fate_form rest)
+fault_form (Word from ∷ Word to ∷ Word index ∷ rest) = with_link from to (index_spelled index) (fate_form rest)
 fault_form _ = None
 
 -- behind `phase`
@@ -77,6 +77,12 @@ abbrev pub absent : Kind → Option Said
 absent kind.Home = Some (Home None)
 absent _ = None
 
+-- what stands at an argument's place, or nothing, as an argument of a kind
+abbrev pub argument_form : Kind → Option Token → Option Said
+argument_form kind None = absent kind
+argument_form kind (Some (Word word)) = word_argument kind word
+argument_form kind (Some (TextToken text)) = text_argument kind text
+
 abbrev pub in_front : Option Said → Option (List Said) → Option (List Said)
 in_front None rest = None
 in_front (Some first) None = None
@@ -86,9 +92,8 @@ in_front (Some first) (Some rest) = Some (first ∷ rest)
 abbrev pub arguments_form : List Kind → List Token → Option (List Said)
 arguments_form [] [] = Some []
 arguments_form [] (token ∷ rest) = None
-arguments_form (kind ∷ kinds) [] = in_front (absent kind) (arguments_form kinds [])
-arguments_form (kind ∷ kinds) (Word word ∷ rest) = in_front (word_argument kind word) (arguments_form kinds rest)
-arguments_form (kind ∷ kinds) (TextToken text ∷ rest) = in_front (text_argument kind text) (arguments_form kinds rest)
+arguments_form (kind ∷ kinds) [] = in_front (argument_form kind None) (arguments_form kinds [])
+arguments_form (kind ∷ kinds) (token ∷ rest) = in_front (argument_form kind (Some token)) (arguments_form kinds rest)
 
 -- behind a command's word
 abbrev pub does_form : ProcessWord → Verb → Option (List Said) → Option Saying

@@ -6,6 +6,7 @@ pub mod Fates
 pub mod Variables
 pub mod Places
 pub mod Causes
+pub mod SpelledNumbers
 pub mod Words
 pub mod Sayings
 pub mod Forms

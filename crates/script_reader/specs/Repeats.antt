@@ -1,12 +1,11 @@
 -- `repeat`: what was declared is declared again, or a `new` takes the variable of a declared object.
-use Rattle.std.specs.Prelude.{Bool, true, false, not}
+use Rattle.std.specs.Prelude.{Bool, true, false, not, unwrap_or}
 use Rattle.std.specs.List.{list_all}
 use Rattle.dom_history.specs.Plans.{is_set}
 use Rattle.script_reader.specs.Scripts.{Content}
 use Rattle.script_reader.specs.Variables.{is_declared}
 use Rattle.script_reader.specs.Arguments.{Said, NewVar}
 use Rattle.script_reader.specs.Sayings.{Saying, Node, Object, Fault, Phase, Does}
-use Rattle.script_reader.specs.Numbers.{number_in}
 use Rattle.script_reader.specs.NodeNames.{is_node_name, node_number}
 
 -- a new variable is not that of a declared object
@@ -18,6 +17,6 @@ is_fresh s _ = true
 abbrev pub is_repeated : Content → Saying → Bool
 is_repeated s (Node name frames) = is_node_name s.nodes name
 is_repeated s (Object var room home) = is_declared s.objects var
-is_repeated s (Fault from to index fate) = is_set s.plan (node_number s.nodes from) (node_number s.nodes to) (number_in index)
+is_repeated s (Fault from to index fate) = is_set s.plan (node_number s.nodes from) (node_number s.nodes to) (unwrap_or index 0)
 is_repeated s Phase = false
 is_repeated s (Does process verb arguments) = not (list_all (is_fresh s) arguments)

@@ -1,19 +1,19 @@
--- What a line says, in words. What the words spell is not judged here.
+-- What a line says: its words, and the numbers that they spell. What is not in its range is no number.
 use Rattle.std.specs.Prelude.{ℕ, Option, List}
 use Rattle.script_reader.specs.Words.{ProcessWord}
 use Rattle.script_reader.specs.Arguments.{Said}
 use Rattle.script_reader.specs.declared.words.Verb.{Verb}
 
--- the words of a fate
-pub data FateWords : Type 0 where
-  Lose : FateWords
-  Twice : (count : List ℕ) → FateWords
-  Late : (count : List ℕ) → FateWords
+-- a fate of a frame
+pub data SaidFate : Type 0 where
+  Lose : SaidFate
+  Twice : (late : Option ℕ) → SaidFate
+  Late : (late : Option ℕ) → SaidFate
 
--- the words of a line; the arguments of a command are those of its shape
+-- a line; the arguments of a command are those of its shape
 pub data Saying : Type 0 where
-  Node : (name : List ℕ) (frames : Option (List ℕ)) → Saying
-  Object : (var room home : List ℕ) → Saying
-  Fault : (from to index : List ℕ) (fate : FateWords) → Saying
+  Node : (name : List ℕ) (frames : Option ℕ) → Saying
+  Object : (var : List ℕ) (room : Option ℕ) (home : List ℕ) → Saying
+  Fault : (from to : List ℕ) (index : Option ℕ) (fate : SaidFate) → Saying
   Phase : Saying
   Does : (process : ProcessWord) (verb : Verb) (arguments : List Said) → Saying

@@ -5,7 +5,7 @@ use Rattle.uid_names.specs.NameTexts.{IsNameText}
 use Rattle.uid_names.specs.Openings.{Start}
 use Rattle.uid_names.specs.declared.opening.Object.{Object}
 use Rattle.uid_names.specs.declared.mode.ObjKind.TheVariants.{File}
-use Rattle.uid_names.specs.declared.limits.TheConstants.{MAX_NODES, MAX_ROOM}
+use Rattle.uid_names.specs.declared.limits.TheConstants.{MAX_NODES, MAX_PHASES, MAX_ROOM}
 use Rattle.uid_names.specs.Beginnings.{CanBegin}
 use Rattle.dom_history.specs.Plans.{IsPlan}
 use Rattle.dom_history.specs.declared.plan.FateRow.{FateRow}
@@ -52,7 +52,7 @@ pub record IsDraft (s : Content) : Type 0 where
   pub plan : IsPlan s.plan
   pub fates : All (IsFateRow (length s.nodes)) s.plan
   pub phase_low : 1 ≤ s.phases
-  pub phase_high : s.phases ≤ 1000
+  pub phase_high : s.phases ≤ MAX_PHASES
   pub few_commands : length s.commands ≤ 20000
   pub commands : All (IsCommandRow (length s.nodes) s.phases) s.commands
   pub in_order : AllPairs (λ a b. a.phase ≤ b.phase) s.commands

@@ -1,5 +1,5 @@
 -- `unknown`: a node that was not declared, or a variable that the command's process doesn't know.
-use Rattle.std.specs.Prelude.{Bool, true, false, not, ◌&&◌, Some, List}
+use Rattle.std.specs.Prelude.{Bool, true, false, not, ◌&&◌, Some, unwrap_or, List}
 use Rattle.std.specs.List.{list_all}
 use Rattle.uid_names.specs.Names.{ProcName}
 use Rattle.script_reader.specs.Scripts.{Content}
@@ -8,12 +8,11 @@ use Rattle.script_reader.specs.Words.{ProcessWord}
 use Rattle.script_reader.specs.Arguments.{Said, Var, Home}
 use Rattle.script_reader.specs.Sayings.{Saying, Node, Object, Fault, Phase, Does}
 use Rattle.script_reader.specs.declared.script.NodeRow.{NodeRow}
-use Rattle.script_reader.specs.Numbers.{number_in}
 use Rattle.script_reader.specs.NodeNames.{is_node_name, node_number}
 
 -- the process that a line names
 abbrev pub proc_of : List NodeRow → ProcessWord → ProcName
-proc_of nodes process = record { node = node_number nodes process.node; number = number_in process.digits }
+proc_of nodes process = record { node = node_number nodes process.node; number = unwrap_or process.number 0 }
 
 -- an argument's home was declared, and its variable is one that the process knows; a new one need not be
 abbrev pub is_known : Content → ProcName → Said → Bool

@@ -7,6 +7,7 @@ use Rattle.uid_names.specs.NameTexts.{is_name_byte}
 use Rattle.uid_names.specs.Modes.{mode_of_letter}
 use Rattle.uid_names.specs.declared.mode.Mode.{Mode}
 use Rattle.dom_text.specs.Cuts.{cut_at}
+use Rattle.script_reader.specs.SpelledNumbers.{process_spelled}
 use Rattle.script_reader.specs.declared.words.LineWord.{LineWord}
 use Rattle.script_reader.specs.declared.words.LineWord.TheVariants.{Node, Object, Fault, Phase}
 use Rattle.script_reader.specs.declared.words.Verb.{Verb}
@@ -53,14 +54,14 @@ is_name word = nat_le 1 (length word) && (nat_le (length word) 32 && list_all is
 abbrev pub are_digits : List ℕ → Bool
 are_digits word = nat_le 1 (length word) && list_all is_ascii_digit word
 
--- a process as a line names it: a name, a dot and digits. No name has a dot, so the first is the last
+-- a process as a line names it: a name, a dot, and digits that spell its number. No name has a dot, so the first is the last
 pub record ProcessWord : Type 0 where
   pub node : List ℕ
-  pub digits : List ℕ
+  pub number : Option ℕ
 
 abbrev pub process_parts : Option (List ℕ × List ℕ) → Option ProcessWord
 process_parts None = None
-process_parts (Some (node, digits)) = if is_name node && are_digits digits then Some (record { node = node; digits = digits }) else None
+process_parts (Some (node, digits)) = if is_name node && are_digits digits then Some (record { node = node; number = process_spelled digits }) else None
 
 abbrev pub process_word : List ℕ → Option ProcessWord
 process_word word = process_parts (cut_at 46 word)

@@ -1,20 +1,24 @@
-//! The arguments of commands: tokens taken by their kinds, and the tests of them that ask for nothing else. Only what is copied and the list of the arguments take memory.
-ghost use Rattle.std.specs.Prelude.{◌≡◌, List, ◌∷◌, Some, None, MatchOption, IfOk, IfSome};
+//! The arguments of commands: tokens taken by their kinds, and the tests of them that ask for nothing else. Only what is copied takes memory.
+ghost use Rattle.std.specs.Prelude.{◌≡◌, ◌≤◌, Some, None, MatchOption, IfOk, IfSome, length};
 ghost use Rattle.std.specs.List.{list_all};
-ghost use Rattle.script_reader.specs.Forms.{absent as absent_of, arguments_form, in_front, text_argument as text_argument_of, word_argument as word_argument_of};
+ghost use Rattle.dom_text.specs.Lent.{owned};
+ghost use Rattle.script_reader.specs.Forms.{absent as absent_of, argument_form, arguments_form, text_argument as text_argument_of, word_argument as word_argument_of};
 ghost use Rattle.script_reader.specs.NamesAsked.{has_name as has_name_of};
 ghost use Rattle.script_reader.specs.Numbers.{has_number as has_number_of};
 ghost use Rattle.script_reader.specs.SaidCommands.{argument_at as argument_at_place, bytes_of, mode_of as mode_of_argument, number_of};
 ghost use Rattle.script_reader.specs.Walk.Formed.{AreFormed};
-ghost use Rattle.script_reader.specs.Walk.Seen.{seen_argument, seen_arguments, seen_found};
+ghost use Rattle.script_reader.specs.Walk.Seen.{seen_argument, seen_arguments, seen_found, seen_token};
 ghost use Rattle.script_reader.specs.Words.{mode_of_word};
-ghost use Rattle.script_reader.specs.declared.words.Kind.{Kind};
 
 use crate::numbers::{address, count, offset, room};
 use crate::words::{Kind, is_name};
-use dom_text::Token;
+use arrayvec::ArrayVec;
+use dom_text::TokenRef;
 use std::alloc::Global;
 use uid_names::{ByteList, Mode, NoMemory, PAGE_BYTES};
+
+/// The most arguments of a command.
+pub(crate) const MAX_ARGUMENTS: usize = 3;
 
 /// An argument of a command: the number where its word spells one of the kind's range, and else the bytes.
 #[derive(Clone, Copy)]
@@ -28,6 +32,13 @@ pub(crate) enum Argument<'a> {
     Text(&'a [u8]),
     Mode(Mode),
     Home(Option<&'a [u8]>),
+}
+
+impl Default for Argument<'_> {
+    /// A home that is left out.
+    fn default() -> Self {
+        Argument::Home(None)
+    }
 }
 
 impl Argument<'_> {
@@ -150,42 +161,37 @@ fn absent<'a>(kind: Kind) -> Option<Argument<'a>>
     }
 }
 
-/// The argument of a kind that stands first, and the tokens behind it.
-fn first_argument(kind: Kind, tokens: &[Token]) -> Option<(Argument<'_>, &[Token])>
-    ensures { MatchOption result ((kinds : List Kind) → arguments_form (kind ∷ kinds) tokens.now ≡ None) (λ p. (kinds : List Kind) → arguments_form (kind ∷ kinds) tokens.now ≡ in_front (Some (seen_argument p.0)) (arguments_form kinds p.1.now)) }
+/// What stands at an argument's place, or nothing, as an argument of a kind.
+fn token_argument<'a>(kind: Kind, token: Option<&'a TokenRef<'_>>) -> Option<Argument<'a>>
+    ensures { seen_found result ≡ argument_form kind (seen_token token.entry) }
 {
-    let Some((first, rest)) = tokens.split_first() else {
-        return Some((absent(kind)?, tokens));
-    };
-    match first {
-        Token::Word(word) => Some((word_argument(kind, word.bytes())?, rest)),
-        Token::Text(text) => Some((text_argument(kind, text.bytes())?, rest)),
+    match token {
+        Some(TokenRef::Word(word)) => word_argument(kind, *word),
+        Some(TokenRef::Text(text)) => text_argument(kind, text.bytes()),
+        None => absent(kind),
     }
 }
 
 /// Tokens as arguments of these kinds, with none left over; None where they have not that form.
 pub(crate) fn read_arguments<'a>(
-    alloc: Global,
     kinds: &[Kind],
-    tokens: &'a [Token],
-) -> Result<Option<Vec<Argument<'a>>>, NoMemory>
-    ensures form { IfOk result (λ found. MatchOption found (arguments_form kinds.now tokens.now ≡ None) (λ list. arguments_form kinds.now tokens.now ≡ Some (seen_arguments list.items))) }
-    ensures formed { IfOk result (λ found. IfSome found (λ list. AreFormed kinds.now (seen_arguments list.items))) }
+    tokens: &'a [TokenRef<'_>],
+) -> Option<ArrayVec<Argument<'a>, MAX_ARGUMENTS>>
+    requires { length kinds.now ≤ 3 }
+    ensures form { MatchOption result (arguments_form kinds.now (owned tokens.now) ≡ None) (λ list. arguments_form kinds.now (owned tokens.now) ≡ Some (seen_arguments list.items)) }
+    ensures formed { IfSome result (λ list. AreFormed kinds.now (seen_arguments list.items)) }
 {
-    let mut found = Vec::with_capacity(alloc, kinds.len())?;
-    let mut rest = tokens;
-    for kind in kinds {
-        let Some((argument, behind)) = first_argument(*kind, rest) else {
-            return Ok(None);
+    if tokens.len() > kinds.len() {
+        return None;
+    }
+    let mut found = ArrayVec::new();
+    for (at, kind) in kinds.iter().enumerate() {
+        let Some(argument) = token_argument(*kind, tokens.get(at)) else {
+            return None;
         };
-        found.push(argument)?;
-        rest = behind;
+        found.push(argument);
     }
-    if rest.is_empty() {
-        Ok(Some(found))
-    } else {
-        Ok(None)
-    }
+    Some(found)
 }
 
 /// Whether all numbers, addresses and lengths of texts are in their ranges.

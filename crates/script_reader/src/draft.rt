@@ -1,5 +1,5 @@
 //! What the lines of a script have declared and asked for so far.
-ghost use Rattle.std.specs.Prelude.{◌≡◌, ◌≢◌, ◌≤◌, ◌<◌, ◌+◌, ◌-◌, ◌&&◌, ◌==◌, not, ℕ, List, [], ◌∷◌, ◌++◌, true, false, is_some, length, slice_index, IfOk, OnOk, OnErr, IfSome, MatchOption, None, Some};
+ghost use Rattle.std.specs.Prelude.{◌≡◌, ◌≢◌, ◌≤◌, ◌<◌, ◌+◌, ◌-◌, ◌==◌, not, [], true, false, is_some, unwrap_or, length, IfOk, OnOk, OnErr, IfSome, None, Some};
 ghost use Rattle.std.specs.List.{list_all};
 ghost use Rattle.uid_names.specs.Rooms.{IsRoom};
 ghost use Rattle.uid_names.specs.declared.mode.ObjKind.TheVariants.{File};
@@ -9,51 +9,45 @@ ghost use Rattle.script_reader.specs.Walk.Starts.{AreStarts};
 ghost use Rattle.script_reader.specs.Grammar.{nothing};
 ghost use Rattle.dom_text.specs.Answers.{Gives};
 ghost use Rattle.script_reader.specs.Walk.Results.{line_answer};
-ghost use Rattle.script_reader.specs.Scripts.{Content, IsContent};
+ghost use Rattle.script_reader.specs.Scripts.{Content};
 ghost use Rattle.script_reader.specs.Commands.{IsCommand};
 ghost use Rattle.script_reader.specs.Fates.{IsGivenFate};
 ghost use Rattle.script_reader.specs.Variables.{IsSpoken, is_declared, knows};
-ghost use Rattle.script_reader.specs.Numbers.{is_fate, is_no_number, is_number, are_frames, number_in, room_spelled};
+ghost use Rattle.script_reader.specs.Numbers.{is_no_number};
 ghost use Rattle.script_reader.specs.NamesAsked.{is_no_name};
-ghost use Rattle.script_reader.specs.NodeNames.{is_node_name, node_number, place_of};
+ghost use Rattle.script_reader.specs.NodeNames.{is_node_name, place_of};
 ghost use Rattle.script_reader.specs.UnknownNames.{is_known, is_unknown};
 ghost use Rattle.script_reader.specs.Repeats.{is_fresh, is_repeated};
 ghost use Rattle.script_reader.specs.Limits.{is_past_limit, pages_at};
 ghost use Rattle.script_reader.specs.SaidCommands.{bytes_of, command_said, command_with, home_of, number_of};
 ghost use Rattle.script_reader.specs.declared.command.Command.TheVariants.{New as NewCommand, Loadat as LoadatCommand, Storeat as StoreatCommand};
-ghost use Rattle.script_reader.specs.After.{after, declared_at, fate_said, frames_of, with_command, with_declared, with_fate, with_node};
-ghost use Rattle.script_reader.specs.Walk.Formed.{IsFormed};
+ghost use Rattle.script_reader.specs.After.{after, declared_at, fate_said, with_command, with_declared, with_fate, with_node};
+ghost use Rattle.script_reader.specs.Walk.Formed.{IsFormed, IsProcessNumber};
+ghost use Rattle.script_reader.specs.Walk.Found.{AreNodesOf, IsNodeOf};
 ghost use Rattle.script_reader.specs.Judging.{has_begun, judged_saying};
-ghost use Rattle.script_reader.specs.Walk.Seen.{seen, seen_argument, seen_arguments, seen_fate, seen_option};
+ghost use Rattle.script_reader.specs.Walk.Seen.{seen, seen_argument, seen_arguments, seen_fate};
 ghost use Rattle.script_reader.specs.Words.{is_name};
 
 use crate::arguments::{Argument, argument_at};
 use crate::cause::{Cause, LineFault};
 use crate::command::Command;
 use crate::index::{DeclaredVars, NamedVars, Places};
-use crate::line::{FateWords, Line, MAX_FRAMES, MAX_INDEX, MAX_LATE, MAX_PROCESS, MIN_FRAMES};
-use crate::numbers::number;
+use crate::line::{Line, LineFate};
 use crate::script::{CommandRow, NodeRow, Script, VarRow};
 use crate::words::Verb;
 use dom_history::{Fate, FaultPlan};
 use std::alloc::Global;
 use std::marker::Model;
 use uid_names::{
-    ByteList, ENTRY_ROOM, MAX_NODES, MAX_ROOM, NODE_PROCESSES, NoMemory, NodeId, ObjKind, Object,
-    Opening, ProcId, Uid, VOLUME_ROOM, WRITTEN_ROOM,
+    ByteList, ENTRY_ROOM, MAX_NODES, MAX_PHASES, MAX_ROOM, NoMemory, NodeId, ObjKind, Object,
+    Opening, ProcId, Uid, VOLUME_ROOM,
 };
 
 /// How many homes there may be.
 const HOMES: usize = MAX_NODES as usize;
 
-/// The most phases of a script.
-const MAX_PHASES: u32 = 1000;
-
 /// The most commands of a script.
 const MAX_COMMANDS: usize = 20_000;
-
-/// The page frames of a node whose line names none.
-const USUAL_FRAMES: u16 = 64;
 
 /// The counter of the first object that is declared at a home.
 const FIRST_COUNTER: u64 = 2;
@@ -85,6 +79,13 @@ impl Model for Draft {
     ghost view = { content_of };
 
     ghost invariant = { HoldsDraft };
+}
+
+/// The nodes of the first and the second name of a node in a line, where it has such and they were declared.
+#[derive(Drop)]
+struct LineNodes {
+    first: Option<NodeId>,
+    second: Option<NodeId>,
 }
 
 impl Draft {
@@ -125,37 +126,51 @@ impl Draft {
         if line.is_no_name() {
             return Err(LineFault::Bad(Cause::Name));
         }
-        if self.is_unknown(line) {
+        let nodes = self.nodes_of(line);
+        if self.is_unknown(line, &nodes) {
             return Err(LineFault::Bad(Cause::Unknown));
         }
-        if self.is_repeated(line) {
+        if self.is_repeated(line, &nodes) {
             return Err(LineFault::Bad(Cause::Repeat));
         }
-        if self.is_past_limit(line) {
+        if self.is_past_limit(line, &nodes) {
             return Err(LineFault::Bad(Cause::Limit));
         }
-        self.add(alloc, line)?;
+        self.add(alloc, line, &nodes)?;
         Ok(())
     }
 
+    /// The nodes that the line names.
+    fn nodes_of(&self, line: Line<'_>) -> LineNodes
+        ensures { AreNodesOf self.now.nodes (seen line.entry) result }
+    {
+        let (first, second) = match line {
+            Line::Node { name, .. } => (self.node_named(name), None),
+            Line::Object { home, .. } => (self.node_named(home), None),
+            Line::Fault { from, to, .. } => (self.node_named(from), self.node_named(to)),
+            Line::Phase => (None, None),
+            Line::Does { node, .. } => (self.node_named(node), None),
+        };
+        LineNodes { first, second }
+    }
+
     /// Whether the line speaks of a node that was not declared, or of a variable that its process doesn't know.
-    fn is_unknown(&self, line: Line<'_>) -> bool
-        requires { is_no_number (seen line) ≡ false }
+    fn is_unknown(&self, line: Line<'_>, nodes: &LineNodes) -> bool
+        requires formed { IsFormed self.now (seen line) }
+        requires found { AreNodesOf self.now.nodes (seen line) nodes.now }
+        requires numbers { is_no_number (seen line) ≡ false }
         ensures { result ≡ is_unknown self.now (seen line.entry) }
     {
         match line {
             Line::Node { .. } | Line::Phase => false,
-            Line::Object { home, .. } => self.node_named(home).is_none(),
-            Line::Fault { from, to, .. } => {
-                self.node_named(from).is_none() || self.node_named(to).is_none()
-            }
+            Line::Object { .. } => nodes.first.is_none(),
+            Line::Fault { .. } => nodes.first.is_none() || nodes.second.is_none(),
             Line::Does {
-                node,
-                digits,
+                number,
                 arguments,
                 ..
-            } => match self.node_named(node) {
-                Some(node) => !self.are_known(proc_of(node, digits), arguments),
+            } => match nodes.first {
+                Some(node) => !self.are_known(proc_of(node, number), arguments),
                 None => true,
             },
         }
@@ -196,23 +211,17 @@ impl Draft {
     }
 
     /// Whether the line declares what was declared, or makes an object for the variable of a declared one.
-    fn is_repeated(&self, line: Line<'_>) -> bool
-        requires numbers { is_no_number (seen line) ≡ false }
+    fn is_repeated(&self, line: Line<'_>, nodes: &LineNodes) -> bool
+        requires found { AreNodesOf self.now.nodes (seen line) nodes.now }
         requires known { is_unknown self.now (seen line) ≡ false }
         ensures { result ≡ is_repeated self.now (seen line.entry) }
     {
         match line {
-            Line::Node { name, .. } => self.node_named(name).is_some(),
+            Line::Node { .. } => nodes.first.is_some(),
             Line::Object { var, .. } => self.is_declared(var),
-            Line::Fault {
-                from,
-                to,
-                index,
-                ..
-            } => {
-                let index = number(index, 1, MAX_INDEX) as u64;
-                self.plan
-                    .is_set(self.known_node(from), self.known_node(to), index)
+            Line::Fault { index, .. } => {
+                let (from, to) = (known(nodes.first), known(nodes.second));
+                self.plan.is_set(from, to, index.unwrap_or(0) as u64)
             }
             Line::Phase => false,
             Line::Does { arguments, .. } => !self.are_fresh(arguments),
@@ -237,16 +246,17 @@ impl Draft {
     }
 
     /// Whether the line is one more than there may be.
-    fn is_past_limit(&self, line: Line<'_>) -> bool
-        requires numbers { is_no_number (seen line) ≡ false }
+    fn is_past_limit(&self, line: Line<'_>, nodes: &LineNodes) -> bool
+        requires formed { IsFormed self.now (seen line) }
+        requires found { AreNodesOf self.now.nodes (seen line) nodes.now }
         requires known { is_unknown self.now (seen line) ≡ false }
         ensures { result ≡ is_past_limit self.now (seen line.entry) }
     {
         match line {
             Line::Node { .. } => self.nodes.len() >= HOMES,
-            Line::Object { room, home, .. } => {
-                let home = home_index(self.known_node(home));
-                self.pages[home] + room_of(room) > VOLUME_ROOM
+            Line::Object { room, .. } => {
+                let home = home_index(known(nodes.first));
+                self.pages[home] + room.unwrap_or(0) > VOLUME_ROOM
             }
             Line::Fault { .. } => false,
             Line::Phase => self.phases >= MAX_PHASES,
@@ -254,9 +264,10 @@ impl Draft {
         }
     }
 
-    /// Does what a good line says.
-    fn add(&mut self, alloc: Global, line: Line<'_>) -> Result<(), NoMemory>
+    /// Does what a good line says. Its numbers were found, so that no 0 stands for one.
+    fn add(&mut self, alloc: Global, line: Line<'_>, nodes: &LineNodes) -> Result<(), NoMemory>
         requires formed { IsFormed self.old (seen line) }
+        requires found { AreNodesOf self.old.nodes (seen line) nodes.now }
         requires numbers { is_no_number (seen line) ≡ false }
         requires names { is_no_name (seen line) ≡ false }
         requires known { is_unknown self.old (seen line) ≡ false }
@@ -265,31 +276,26 @@ impl Draft {
         ensures { OnOk result (self.new ≡ after self.old (seen line.entry)) }
     {
         match line {
-            Line::Node { name, frames } => self.add_node(alloc, name, frames_in(frames)),
-            Line::Object { var, room, home } => {
-                let home = self.known_node(home);
-                self.add_object(alloc, var, room_of(room), home)
+            Line::Node { name, frames } => self.add_node(alloc, name, frames.unwrap_or(0) as u16),
+            Line::Object { var, room, .. } => {
+                let home = known(nodes.first);
+                self.add_object(alloc, var, room.unwrap_or(0), home)
             }
-            Line::Fault {
-                from,
-                to,
-                index,
-                fate,
-            } => {
-                let (from, to) = (self.known_node(from), self.known_node(to));
-                self.add_fate(from, to, number(index, 1, MAX_INDEX), fate_of(fate))
+            Line::Fault { index, fate, .. } => {
+                let (from, to) = (known(nodes.first), known(nodes.second));
+                self.add_fate(from, to, index.unwrap_or(0), fate_of(fate))
             }
             Line::Phase => {
                 self.add_phase();
                 Ok(())
             }
             Line::Does {
-                node,
-                digits,
+                number,
                 verb,
                 arguments,
+                ..
             } => {
-                let proc = proc_of(self.known_node(node), digits);
+                let proc = proc_of(known(nodes.first), number);
                 let command = self.command_of(alloc, verb, arguments)?;
                 self.add_command(alloc, proc, command)
             }
@@ -298,7 +304,7 @@ impl Draft {
 
     /// Begins a phase.
     fn add_phase(&mut self)
-        requires { self.old.phases < 1000 }
+        requires { self.old.phases < MAX_PHASES }
         ensures { self.new ≡ record self.old { phases = self.old.phases + 1 } }
     {
         self.phases += 1;
@@ -475,26 +481,10 @@ impl Draft {
 
     /// The node of this name.
     fn node_named(&self, name: &[u8]) -> Option<NodeId>
-        ensures found { is_some result ≡ is_node_name self.now.nodes name.now }
-        ensures value { IfSome result (λ node. node ≡ node_number self.now.nodes name.now) }
-        ensures least { IfSome result (λ node. 1 ≤ node) }
-        ensures within { IfSome result (λ node. node ≤ length self.now.nodes) }
+        ensures { IsNodeOf self.now.nodes name.now result }
     {
         let at = place(self.nodes.as_slice(), name)?;
         NodeId::new(at as u8 + 1)
-    }
-
-    /// The node of a name that was declared.
-    fn known_node(&self, name: &[u8]) -> NodeId
-        requires { is_node_name self.now.nodes name.now ≡ true }
-        ensures value { result ≡ node_number self.now.nodes name.now }
-        ensures least { 1 ≤ result }
-        ensures within { result ≤ length self.now.nodes }
-    {
-        match self.node_named(name) {
-            Some(node) => node,
-            None => unreachable!(),
-        }
     }
 
     /// The script, where a node was declared.
@@ -529,6 +519,17 @@ impl Draft {
     }
 }
 
+/// The node that was found.
+fn known(found: Option<NodeId>) -> NodeId
+    requires { is_some found ≡ true }
+    ensures { found ≡ Some result }
+{
+    match found {
+        Some(node) => node,
+        None => unreachable!(),
+    }
+}
+
 /// The opening of so many nodes with these objects.
 fn opening_of(alloc: Global, nodes: u8, starts: &[Object]) -> Result<Opening, NoMemory>
     requires low { 1 ≤ nodes }
@@ -559,29 +560,6 @@ fn note_command(
     }
 }
 
-/// The page frames of a node whose line names these.
-fn frames_in(frames: Option<&[u8]>) -> u16
-    requires { are_frames (seen_option frames) ≡ true }
-    ensures value { result ≡ frames_of (seen_option frames.entry) }
-    ensures few { 5 ≤ result }
-    ensures many { result ≤ 256 }
-{
-    match frames {
-        Some(word) => number(word, MIN_FRAMES, MAX_FRAMES) as u16,
-        None => USUAL_FRAMES,
-    }
-}
-
-/// The room that a word spells.
-#[tactic(auto, using(crate::proofs::Ranges::room_is))]
-fn room_of(word: &[u8]) -> u32
-    requires { is_some (room_spelled word.now) ≡ true }
-    ensures value { result ≡ number_in word.now }
-    ensures room { IsRoom result }
-{
-    number(word, 1, WRITTEN_ROOM)
-}
-
 /// The place of a node's name among the nodes, counted from 0.
 fn place(nodes: &[NodeRow], name: &[u8]) -> Option<usize>
     ensures value { result ≡ place_of nodes.now name.now }
@@ -600,26 +578,26 @@ fn home_index(home: NodeId) -> usize
     home.number() as usize - 1
 }
 
-/// The process of these digits at a node.
-fn proc_of(node: NodeId, digits: &[u8]) -> ProcId
-    requires { is_number 1 NODE_PROCESSES digits.now ≡ true }
-    ensures { result ≡ record { node = node; number = number_in digits.now } }
+/// The process of this number at a node.
+fn proc_of(node: NodeId, number: Option<u32>) -> ProcId
+    requires found { is_some number ≡ true }
+    requires range { IfSome number IsProcessNumber }
+    ensures { result ≡ record { node = node; number = unwrap_or number 0 } }
 {
-    match ProcId::new(node, number(digits, 1, MAX_PROCESS) as u8) {
+    match ProcId::new(node, number.unwrap_or(0) as u8) {
         Some(proc) => proc,
         None => unreachable!(),
     }
 }
 
-/// The fate that its words say.
-fn fate_of(words: FateWords<'_>) -> Fate
-    requires { is_fate (seen_fate words) ≡ true }
-    ensures { result ≡ fate_said (seen_fate words.entry) }
+/// The fate that a line says.
+fn fate_of(fate: LineFate) -> Fate
+    ensures { result ≡ fate_said (seen_fate fate) }
 {
-    match words {
-        FateWords::Lose => Fate::Lose,
-        FateWords::Twice(count) => Fate::Twice(number(count, 1, MAX_LATE)),
-        FateWords::Late(count) => Fate::Late(number(count, 1, MAX_LATE)),
+    match fate {
+        LineFate::Lose => Fate::Lose,
+        LineFate::Twice(late) => Fate::Twice(late.unwrap_or(0)),
+        LineFate::Late(late) => Fate::Late(late.unwrap_or(0)),
     }
 }
 

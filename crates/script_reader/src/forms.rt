@@ -1,88 +1,94 @@
-//! The forms of lines: how many tokens, which of them words or texts, and the fixed words. No function takes memory.
+//! The forms of lines: how many tokens, which of them words or texts, and the fixed words. The numbers of a line are found here.
+//! No function takes memory.
 ghost use Rattle.std.specs.Prelude.{◌≡◌, MatchOption, IfSome, Some, None, ◌∷◌, []};
+ghost use Rattle.dom_text.specs.Lent.{owned};
 ghost use Rattle.dom_text.specs.declared.token.Token.TheVariants.{Word};
 ghost use Rattle.script_reader.specs.Forms.{node_form as node_form_of, object_form as object_form_of, fault_form as fault_form_of, fate_form as fate_form_of};
-ghost use Rattle.script_reader.specs.Walk.Formed.{HasForm};
+ghost use Rattle.script_reader.specs.Walk.Formed.{HasForm, IsFateFound};
 ghost use Rattle.script_reader.specs.Walk.Seen.{seen, seen_fate, BeginsWithNoWord, IsNotOneWord};
 
-use crate::line::{FateWords, Line};
-use dom_text::Token;
+use crate::line::{Line, LineFate};
+use crate::numbers::{frames, index, late, room};
+use dom_text::TokenRef;
 
 /// The word that stands first, and the tokens behind it.
-pub(crate) fn first_word(tokens: &[Token]) -> Option<(&[u8], &[Token])>
-    ensures { MatchOption result (BeginsWithNoWord tokens.now) (λ p. tokens.now ≡ Word p.0.now ∷ p.1.now) }
+pub(crate) fn first_word<'a, 'l>(
+    tokens: &'a [TokenRef<'l>],
+) -> Option<(&'a [u8], &'a [TokenRef<'l>])>
+    ensures { MatchOption result (BeginsWithNoWord (owned tokens.now)) (λ p. owned tokens.now ≡ Word p.0.now ∷ owned p.1.now) }
 {
     let (first, rest) = tokens.split_first()?;
     match first {
-        Token::Word(word) => Some((word.bytes(), rest)),
-        Token::Text(_) => None,
+        TokenRef::Word(word) => Some((*word, rest)),
+        TokenRef::Text(_) => None,
     }
 }
 
 /// A line of these tokens behind `node`.
-pub(crate) fn node_form(tokens: &[Token]) -> Option<Line<'_>>
-    ensures form { MatchOption result (node_form_of tokens.now ≡ None) (λ line. node_form_of tokens.now ≡ Some (seen line)) }
-    ensures link { IfSome result (λ line. HasForm (seen line)) }
+pub(crate) fn node_form<'a>(tokens: &'a [TokenRef<'_>]) -> Option<Line<'a>>
+    ensures form { MatchOption result (node_form_of (owned tokens.now) ≡ None) (λ line. node_form_of (owned tokens.now) ≡ Some (seen line)) }
+    ensures formed { IfSome result (λ line. HasForm (seen line)) }
 {
     let (name, rest) = first_word(tokens)?;
     if rest.is_empty() {
-        return Some(Line::Node { name, frames: None });
+        let frames = frames(None);
+        return Some(Line::Node { name, frames });
     }
     let (fixed, rest) = first_word(rest)?;
-    let frames = only_word(rest)?;
+    let frames = frames(Some(only_word(rest)?));
     if fixed == b"frames".as_slice() {
-        Some(Line::Node {
-            name,
-            frames: Some(frames),
-        })
+        Some(Line::Node { name, frames })
     } else {
         None
     }
 }
 
 /// A line of these tokens behind `object`.
-pub(crate) fn object_form(tokens: &[Token]) -> Option<Line<'_>>
-    ensures form { MatchOption result (object_form_of tokens.now ≡ None) (λ line. object_form_of tokens.now ≡ Some (seen line)) }
-    ensures link { IfSome result (λ line. HasForm (seen line)) }
+pub(crate) fn object_form<'a>(tokens: &'a [TokenRef<'_>]) -> Option<Line<'a>>
+    ensures form { MatchOption result (object_form_of (owned tokens.now) ≡ None) (λ line. object_form_of (owned tokens.now) ≡ Some (seen line)) }
+    ensures formed { IfSome result (λ line. HasForm (seen line)) }
 {
     let (var, rest) = first_word(tokens)?;
-    let (room, rest) = first_word(rest)?;
+    let (pages, rest) = first_word(rest)?;
     let home = only_word(rest)?;
+    let room = room(pages);
     Some(Line::Object { var, room, home })
 }
 
 /// A fate of these tokens.
-fn fate_form(tokens: &[Token]) -> Option<FateWords<'_>>
-    ensures { MatchOption result (fate_form_of tokens.now ≡ None) (λ fate. fate_form_of tokens.now ≡ Some (seen_fate fate)) }
+fn fate_form(tokens: &[TokenRef<'_>]) -> Option<LineFate>
+    ensures form { MatchOption result (fate_form_of (owned tokens.now) ≡ None) (λ fate. fate_form_of (owned tokens.now) ≡ Some (seen_fate fate)) }
+    ensures found { IfSome result (λ fate. IsFateFound (seen_fate fate)) }
 {
     let (fixed, rest) = first_word(tokens)?;
     if rest.is_empty() {
         return if fixed == b"lose".as_slice() {
-            Some(FateWords::Lose)
+            Some(LineFate::Lose)
         } else {
             None
         };
     }
-    let count = only_word(rest)?;
+    let late = late(only_word(rest)?);
     match fixed {
-        b"twice" => Some(FateWords::Twice(count)),
-        b"late" => Some(FateWords::Late(count)),
+        b"twice" => Some(LineFate::Twice(late)),
+        b"late" => Some(LineFate::Late(late)),
         _ => None,
     }
 }
 
 /// A line of these tokens behind `fault`.
-pub(crate) fn fault_form(tokens: &[Token]) -> Option<Line<'_>>
-    ensures form { MatchOption result (fault_form_of tokens.now ≡ None) (λ line. fault_form_of tokens.now ≡ Some (seen line)) }
-    ensures link { IfSome result (λ line. HasForm (seen line)) }
+pub(crate) fn fault_form<'a>(tokens: &'a [TokenRef<'_>]) -> Option<Line<'a>>
+    ensures form { MatchOption result (fault_form_of (owned tokens.now) ≡ None) (λ line. fault_form_of (owned tokens.now) ≡ Some (seen line)) }
+    ensures formed { IfSome result (λ line. HasForm (seen line)) }
 {
     let (from, rest) = first_word(tokens)?;
     let (to, rest) = first_word(rest)?;
-    let (index, rest) = first_word(rest)?;
+    let (number, rest) = first_word(rest)?;
     let fate = fate_form(rest)?;
     if from == to {
         return None;
     }
+    let index = index(number);
     Some(Line::Fault {
         from,
         to,
@@ -92,8 +98,8 @@ pub(crate) fn fault_form(tokens: &[Token]) -> Option<Line<'_>>
 }
 
 /// The word that is the only token.
-fn only_word(tokens: &[Token]) -> Option<&[u8]>
-    ensures { MatchOption result (IsNotOneWord tokens.now) (λ word. tokens.now ≡ Word word.now ∷ []) }
+fn only_word<'a>(tokens: &'a [TokenRef<'_>]) -> Option<&'a [u8]>
+    ensures { MatchOption result (IsNotOneWord (owned tokens.now)) (λ word. owned tokens.now ≡ Word word.now ∷ []) }
 {
     let (word, rest) = first_word(tokens)?;
     if rest.is_empty() { Some(word) } else { None }

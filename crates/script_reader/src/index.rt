@@ -1,5 +1,5 @@
 //! Which variables were declared and named, and where a process's commands stand: look-ups that go over no rows.
-ghost use Rattle.std.specs.Prelude.{◌≡◌, ◌≢◌, ◌<◌, ◌≤◌, slice_index_or, ◌↔◌, ◌⊎◌, ℕ, List, [], ◌∷◌, ◌++◌, Contains, IsTrue, OnOk, OnErr, IfOk, length};
+ghost use Rattle.std.specs.Prelude.{◌≡◌, ◌≢◌, ◌<◌, ◌≤◌, slice_index_or, ◌↔◌, ℕ, List, [], ◌∷◌, ◌++◌, Contains, IsTrue, OnOk, OnErr, IfOk, length};
 ghost use Rattle.uid_names.specs.Names.{place_of_process};
 ghost use Rattle.script_reader.specs.Variables.{declared_object};
 ghost use Rattle.script_reader.specs.Walk.Index.{DeclaresAlso, HasAlso};

@@ -1,83 +1,56 @@
-//! The words of a line that has its form, and the tests of them that ask for nothing else.
+//! What a line says that has its form, and the tests of it that ask for nothing else.
 ghost use Rattle.std.specs.Prelude.{◌≡◌};
-ghost use Rattle.script_reader.specs.Numbers.{are_frames as are_frames_in, is_fate as is_fate_word, is_no_number as is_no_number_in};
+ghost use Rattle.script_reader.specs.Numbers.{is_fate as is_fate_said, is_no_number as is_no_number_in};
 ghost use Rattle.script_reader.specs.NamesAsked.{is_no_name as is_no_name_in};
-ghost use Rattle.script_reader.specs.Walk.Seen.{seen, seen_fate, seen_option};
+ghost use Rattle.script_reader.specs.Walk.Seen.{seen, seen_fate};
 
 use crate::arguments::{Argument, have_names, have_numbers};
-use crate::numbers::{is_number, room as spelled_room};
 use crate::words::{Verb, is_name};
-use uid_names::NODE_PROCESSES;
 
-/// The fewest and the most page frames of a node.
-pub(crate) const MIN_FRAMES: u32 = 5;
-
-pub(crate) const MAX_FRAMES: u32 = 256;
-
-/// The greatest number of a frame whose fate is given.
-pub(crate) const MAX_INDEX: u32 = 1_000_000;
-
-/// The greatest number of a fate.
-pub(crate) const MAX_LATE: u32 = 1000;
-
-/// The greatest number of a process at its node.
-pub(crate) const MAX_PROCESS: u32 = NODE_PROCESSES as u32;
-
-/// The words of a fate.
+/// A fate, with its number where its word spells one.
 #[derive(Clone, Copy)]
-pub(crate) enum FateWords<'a> {
+pub(crate) enum LineFate {
     Lose,
-    Twice(&'a [u8]),
-    Late(&'a [u8]),
+    Twice(Option<u32>),
+    Late(Option<u32>),
 }
 
-/// The words of a line.
+/// A line: its names, and a number of the right range where a word spells one.
 #[derive(Clone, Copy)]
 pub(crate) enum Line<'a> {
     Node {
         name: &'a [u8],
-        frames: Option<&'a [u8]>,
+        frames: Option<u32>,
     },
     Object {
         var: &'a [u8],
-        room: &'a [u8],
+        room: Option<u32>,
         home: &'a [u8],
     },
     Fault {
         from: &'a [u8],
         to: &'a [u8],
-        index: &'a [u8],
-        fate: FateWords<'a>,
+        index: Option<u32>,
+        fate: LineFate,
     },
     Phase,
     Does {
         node: &'a [u8],
-        digits: &'a [u8],
+        number: Option<u32>,
         verb: Verb,
         arguments: &'a [Argument<'a>],
     },
 }
 
-impl FateWords<'_> {
-    /// Whether the number, where there is one, is in its range.
+impl LineFate {
+    /// Whether it has its number, where it has such.
     fn has_number(self) -> bool
-        ensures { result ≡ is_fate_word (seen_fate self.entry) }
+        ensures { result ≡ is_fate_said (seen_fate self) }
     {
         match self {
-            FateWords::Lose => true,
-            FateWords::Twice(count) => is_number(count, 1, MAX_LATE),
-            FateWords::Late(count) => is_number(count, 1, MAX_LATE),
+            LineFate::Lose => true,
+            LineFate::Twice(late) | LineFate::Late(late) => late.is_some(),
         }
-    }
-}
-
-/// Whether a node's frames, where they are given, are in their range.
-fn are_frames(frames: Option<&[u8]>) -> bool
-    ensures { result ≡ are_frames_in (seen_option frames.entry) }
-{
-    match frames {
-        None => true,
-        Some(word) => is_number(word, MIN_FRAMES, MAX_FRAMES),
     }
 }
 
@@ -87,16 +60,15 @@ impl Line<'_> {
         ensures { result ≡ is_no_number_in (seen self.entry) }
     {
         match self {
-            Line::Node { frames, .. } => !are_frames(frames),
-            Line::Object { room, .. } => spelled_room(room).is_none(),
-            Line::Fault { index, fate, .. } => !(is_number(index, 1, MAX_INDEX)
-                && fate.has_number()),
+            Line::Node { frames, .. } => frames.is_none(),
+            Line::Object { room, .. } => room.is_none(),
+            Line::Fault { index, fate, .. } => !(index.is_some() && fate.has_number()),
             Line::Phase => false,
             Line::Does {
-                digits,
+                number,
                 arguments,
                 ..
-            } => !(is_number(digits, 1, MAX_PROCESS) && have_numbers(arguments)),
+            } => !(number.is_some() && have_numbers(arguments)),
         }
     }
 

@@ -1,12 +1,29 @@
 //! The numbers that words spell, each in its range. No function takes memory.
-ghost use Rattle.std.specs.Prelude.{◌≡◌, ◌≤◌, true, IfSome};
+ghost use Rattle.std.specs.Prelude.{◌≡◌, ◌≤◌, IfSome};
 ghost use Rattle.uid_names.specs.Rooms.{IsRoom};
 ghost use Rattle.dom_text.specs.Numbers.{number_spelled};
-ghost use Rattle.script_reader.specs.Commands.{IsAddress, IsCount, IsOffset};
-ghost use Rattle.script_reader.specs.Numbers.{within, is_number as is_number_word, number_in, room_spelled, offset_spelled, count_spelled, address_spelled};
+ghost use Rattle.script_reader.specs.SpelledNumbers.{within, frames_spelled, process_spelled, index_spelled, late_spelled, room_spelled, offset_spelled, count_spelled, address_spelled};
+ghost use Rattle.script_reader.specs.Walk.Formed.{AreFrames, IsProcessNumber, IsIndex, IsLate};
+ghost use Rattle.script_reader.specs.Walk.Seen.{seen_option};
 
 use dom_text::{decimal, hex8};
-use uid_names::{PAGE_BYTES, WRITTEN_ROOM};
+use uid_names::{NODE_PROCESSES, PAGE_BYTES, WRITTEN_ROOM};
+
+/// The fewest and the most page frames of a node, and those of one whose line says no number.
+const MIN_FRAMES: u32 = 5;
+
+const MAX_FRAMES: u32 = 256;
+
+const USUAL_FRAMES: u32 = 64;
+
+/// The greatest number of a process at its node.
+const MAX_PROCESS: u32 = NODE_PROCESSES as u32;
+
+/// The greatest number of a frame whose fate is given.
+const MAX_INDEX: u32 = 1_000_000;
+
+/// The greatest number of a fate.
+const MAX_LATE: u32 = 1000;
 
 /// The greatest address of a command.
 const MAX_ADDRESS: u32 = 0x00ff_ffff;
@@ -35,29 +52,45 @@ fn number_within(word: &[u8], low: u32, high: u32) -> Option<u32>
     }
 }
 
-/// Whether a word spells a number of this range.
-pub(crate) fn is_number(word: &[u8], low: u32, high: u32) -> bool
-    ensures { result ≡ is_number_word low high word.now }
+/// The page frames that a node's line says, or the usual ones where it says none.
+pub(crate) fn frames(word: Option<&[u8]>) -> Option<u32>
+    ensures value { result ≡ frames_spelled (seen_option word.entry) }
+    ensures range { IfSome result AreFrames }
 {
-    number_within(word, low, high).is_some()
+    match word {
+        Some(word) => number_within(word, MIN_FRAMES, MAX_FRAMES),
+        None => Some(USUAL_FRAMES),
+    }
 }
 
-/// The number that a word spells.
-pub(crate) fn number(word: &[u8], low: u32, high: u32) -> u32
-    requires { is_number_word low high word.now ≡ true }
-    ensures value { result ≡ number_in word.now }
-    ensures least { low ≤ result }
-    ensures greatest { result ≤ high }
+/// The number of a process at its node that digits spell.
+pub(crate) fn process(word: &[u8]) -> Option<u32>
+    ensures value { result ≡ process_spelled word.now }
+    ensures range { IfSome result IsProcessNumber }
 {
-    match number_within(word, low, high) {
-        Some(n) => n,
-        None => unreachable!(),
-    }
+    number_within(word, 1, MAX_PROCESS)
+}
+
+/// The number of a frame that a word spells.
+pub(crate) fn index(word: &[u8]) -> Option<u32>
+    ensures value { result ≡ index_spelled word.now }
+    ensures range { IfSome result IsIndex }
+{
+    number_within(word, 1, MAX_INDEX)
+}
+
+/// The number of a fate that a word spells.
+pub(crate) fn late(word: &[u8]) -> Option<u32>
+    ensures value { result ≡ late_spelled word.now }
+    ensures range { IfSome result IsLate }
+{
+    number_within(word, 1, MAX_LATE)
 }
 
 /// The room that a word spells, in pages.
 pub(crate) fn room(word: &[u8]) -> Option<u32>
-    ensures { result ≡ room_spelled word.now }
+    ensures value { result ≡ room_spelled word.now }
+    ensures range { IfSome result IsRoom }
 {
     number_within(word, 1, WRITTEN_ROOM)
 }

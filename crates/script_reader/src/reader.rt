@@ -1,9 +1,10 @@
 //! Reads a script line by line.
-ghost use Rattle.std.specs.Prelude.{◌≡◌, ◌<◌, ◌≤◌, List, ◌∷◌, length, IfOk, IfErr};
+ghost use Rattle.std.specs.Prelude.{◌≡◌, ◌<◌, ◌≤◌, ◌∷◌, length, IfOk, IfErr};
 ghost use Rattle.std.specs.Option.{ForSome};
 ghost use Rattle.script_reader.specs.Grammar.{AreGood, IsScript, nothing, raw_lines, without_cr as without_cr_of};
 ghost use Rattle.script_reader.specs.Judging.{judged, judged_form, judged_place, judged_process, judged_tokens};
 ghost use Rattle.dom_text.specs.Answers.{Gives};
+ghost use Rattle.dom_text.specs.Lent.{owned};
 ghost use Rattle.script_reader.specs.Walk.Formed.{HasForm};
 ghost use Rattle.script_reader.specs.Walk.Results.{RefusesLines, line_answer};
 ghost use Rattle.script_reader.specs.Faults.{IsRefusal};
@@ -18,7 +19,7 @@ use crate::forms::{fault_form, first_word, node_form, object_form};
 use crate::line::Line;
 use crate::script::Script;
 use crate::words::{LineWord, process_word, read_line_word, read_verb};
-use dom_text::{TextFault, Token, cut, tokens};
+use dom_text::{TextFault, TokenRef, cut, lend_tokens};
 use std::alloc::Global;
 use uid_names::SCRIPT_BYTES;
 
@@ -54,12 +55,13 @@ fn read_lines(alloc: Global, bytes: &[u8]) -> Result<Draft, ScriptFault>
     ensures bad { IfErr result (λ fault. RefusesLines bytes.now fault) }
 {
     let mut draft = Draft::new(alloc)?;
+    let mut tokens = Vec::new(alloc);
     let mut rest = bytes;
     let mut number: u32 = 0;
     while !rest.is_empty() {
         let (line, behind) = cut_line(rest);
         number += 1;
-        match read_line(&mut draft, alloc, without_cr(line)) {
+        match read_line(&mut draft, &mut tokens, alloc, without_cr(line)) {
             Ok(()) => {}
             Err(LineFault::Bad(cause)) => {
                 return Err(ScriptFault::Bad {
@@ -96,15 +98,20 @@ fn without_cr(line: &[u8]) -> &[u8]
     }
 }
 
-/// Reads a line without its end.
-fn read_line(draft: &mut Draft, alloc: Global, line: &[u8]) -> Result<(), LineFault>
+/// Reads a line without its end; the list is any, whose memory is used again for the line's tokens.
+fn read_line<'a>(
+    draft: &mut Draft,
+    tokens: &mut Vec<TokenRef<'a>>,
+    alloc: Global,
+    line: &'a [u8],
+) -> Result<(), LineFault>
     ensures { Gives (line_answer draft.new result) (judged draft.old line.now) }
 {
     if line.len() > MAX_LINE {
         return Err(LineFault::Bad(Cause::TooLong));
     }
-    match tokens(alloc, line) {
-        Ok(tokens) => read_tokens(draft, alloc, tokens.items()),
+    match lend_tokens(tokens, alloc, line) {
+        Ok(()) => read_tokens(draft, alloc, tokens.as_slice()),
         Err(TextFault::Byte) => Err(LineFault::Bad(Cause::Byte)),
         Err(TextFault::Quote) => Err(LineFault::Bad(Cause::Quote)),
         Err(TextFault::NoMemory) => Err(LineFault::NoMemory),
@@ -112,8 +119,8 @@ fn read_line(draft: &mut Draft, alloc: Global, line: &[u8]) -> Result<(), LineFa
 }
 
 /// Reads the tokens of a line; a line without tokens is skipped.
-fn read_tokens(draft: &mut Draft, alloc: Global, tokens: &[Token]) -> Result<(), LineFault>
-    ensures { Gives (line_answer draft.new result) (judged_tokens draft.old tokens.now) }
+fn read_tokens(draft: &mut Draft, alloc: Global, tokens: &[TokenRef<'_>]) -> Result<(), LineFault>
+    ensures { Gives (line_answer draft.new result) (judged_tokens draft.old (owned tokens.now)) }
 {
     if tokens.is_empty() {
         return Ok(());
@@ -149,8 +156,8 @@ fn read_declaration(
 }
 
 /// Reads a phase, of which these tokens stand behind its word.
-fn read_phase(draft: &mut Draft, alloc: Global, rest: &[Token]) -> Result<(), LineFault>
-    ensures { Gives (line_answer draft.new result) (judged_form draft.old (phase_form_of rest.now)) }
+fn read_phase(draft: &mut Draft, alloc: Global, rest: &[TokenRef<'_>]) -> Result<(), LineFault>
+    ensures { Gives (line_answer draft.new result) (judged_form draft.old (phase_form_of (owned rest.now))) }
 {
     if !rest.is_empty() {
         return Err(LineFault::Bad(Cause::Form));
@@ -163,11 +170,11 @@ fn read_command(
     draft: &mut Draft,
     alloc: Global,
     word: &[u8],
-    rest: &[Token],
+    rest: &[TokenRef<'_>],
 ) -> Result<(), LineFault>
-    ensures { Gives (line_answer draft.new result) (judged_process draft.old (process_word_of word.now) rest.now) }
+    ensures { Gives (line_answer draft.new result) (judged_process draft.old (process_word_of word.now) (owned rest.now)) }
 {
-    let Some((node, digits)) = process_word(word) else {
+    let Some((node, number)) = process_word(word) else {
         return Err(LineFault::Bad(Cause::Word));
     };
     let Some((verb, rest)) = first_word(rest) else {
@@ -176,14 +183,14 @@ fn read_command(
     let Some(verb) = read_verb(verb) else {
         return Err(LineFault::Bad(Cause::Word));
     };
-    let Some(arguments) = read_arguments(alloc, verb.shape(), rest)? else {
+    let Some(arguments) = read_arguments(verb.shape(), rest) else {
         return Err(LineFault::Bad(Cause::Form));
     };
     draft.take(
         alloc,
         Line::Does {
             node,
-            digits,
+            number,
             verb,
             arguments: arguments.as_slice(),
         },

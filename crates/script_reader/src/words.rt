@@ -1,12 +1,14 @@
 //! The words that begin lines and commands, and how a line names a process. No function takes memory.
-ghost use Rattle.std.specs.Prelude.{◌≡◌, ◌≢◌, Some, None, MatchOption, All, IsTrue, ◌↔◌};
+ghost use Rattle.std.specs.Prelude.{◌≡◌, ◌≢◌, ◌≤◌, length, Some, None, MatchOption, IfSome, All, IsTrue, ◌↔◌};
 ghost use Rattle.std.specs.Char.{is_ascii_digit};
 ghost use Rattle.uid_names.specs.NameTexts.{is_name_byte as may_stand_in_name};
-ghost use Rattle.script_reader.specs.Words.{are_digits as are_digits_in, is_name as is_name_text, line_word_of, line_word_text, process_word as process_word_of, verb_of, verb_text};
+ghost use Rattle.script_reader.specs.Words.{are_digits as are_digits_in, is_name as is_name_text, line_word_text, process_word as process_word_of, verb_text};
 ghost use Rattle.script_reader.specs.Shapes.{shape_of};
+ghost use Rattle.script_reader.specs.Walk.Formed.{IsProcessNumber};
 ghost use Rattle.script_reader.specs.declared.words.LineWord.{LineWord};
 ghost use Rattle.script_reader.specs.declared.words.Verb.{Verb};
 
+use crate::numbers::process;
 use dom_text::cut;
 
 /// The most bytes of a name.
@@ -62,7 +64,8 @@ pub(crate) enum Kind {
 impl Verb {
     /// The kinds of the command's arguments, in order. No command has more than three.
     pub(crate) fn shape(self) -> &'static [Kind]
-        ensures { result.now ≡ shape_of self }
+        ensures value { result.now ≡ shape_of self }
+        ensures few { length result.now ≤ 3 }
     {
         match self {
             Verb::New => &[Kind::NewVar, Kind::Room, Kind::Home],
@@ -113,9 +116,10 @@ pub(crate) fn read_verb(word: &[u8]) -> Option<Verb>
     }
 }
 
-/// The node's name and the digits of a word that names a process.
-pub(crate) fn process_word(word: &[u8]) -> Option<(&[u8], &[u8])>
-    ensures { MatchOption result (process_word_of word.now ≡ None) (λ p. process_word_of word.now ≡ Some (record { node = p.0.now; digits = p.1.now })) }
+/// The node's name of a word that names a process, and the number that its digits spell.
+pub(crate) fn process_word(word: &[u8]) -> Option<(&[u8], Option<u32>)>
+    ensures word { MatchOption result (process_word_of word.now ≡ None) (λ p. process_word_of word.now ≡ Some (record { node = p.0.now; number = p.1 })) }
+    ensures range { IfSome result (λ p. IfSome p.1 IsProcessNumber) }
 {
     let Some((node, digits)) = cut(word, b'.') else {
         return None;
@@ -124,7 +128,7 @@ pub(crate) fn process_word(word: &[u8]) -> Option<(&[u8], &[u8])>
         return None;
     }
     if are_digits(digits) {
-        Some((node, digits))
+        Some((node, process(digits)))
     } else {
         None
     }

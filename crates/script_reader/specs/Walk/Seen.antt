@@ -1,12 +1,14 @@
 -- The words of a line, without where they lie in memory.
 use Rattle.std.specs.Prelude.{ℕ, Option, Some, None, List, ◌∷◌, [], map}
 use Rattle.std.specs.Borrow.{Bor}
+use Rattle.dom_text.specs.Lent.{owned_token}
 use Rattle.dom_text.specs.declared.token.Token.{Token}
+use Rattle.dom_text.specs.declared.token.TokenRef.{TokenRef}
 use Rattle.dom_text.specs.declared.token.Token.TheVariants.{Word, Text as TextToken}
 use Rattle.script_reader.specs.Arguments.{Said, Var, NewVar, Room, Offset, Count, Address, Text, Mode, Home}
-use Rattle.script_reader.specs.Sayings.{Saying, Node, Object, Fault, Phase, Does, FateWords, Lose, Twice, Late}
-use Rattle.script_reader.specs.declared.line.FateWords.{FateWords as FateOfLine}
-use Rattle.script_reader.specs.declared.line.FateWords.TheVariants.{Lose as LoseWords, Twice as TwiceWords, Late as LateWords}
+use Rattle.script_reader.specs.Sayings.{Saying, Node, Object, Fault, Phase, Does, SaidFate, Lose, Twice, Late}
+use Rattle.script_reader.specs.declared.line.LineFate.{LineFate}
+use Rattle.script_reader.specs.declared.line.LineFate.TheVariants.{Lose as LoseOfLine, Twice as TwiceOfLine, Late as LateOfLine}
 use Rattle.script_reader.specs.declared.arguments.Argument.{Argument as ArgumentOfLine}
 use Rattle.script_reader.specs.declared.arguments.Argument.TheVariants as words
 use Rattle.script_reader.specs.declared.line.Line.{Line}
@@ -16,10 +18,10 @@ abbrev pub seen_option : Option (Bor (List ℕ)) → Option (List ℕ)
 seen_option None = None
 seen_option (Some word) = Some word.now
 
-abbrev pub seen_fate : FateOfLine → FateWords
-seen_fate LoseWords = Lose
-seen_fate (TwiceWords count) = Twice count.now
-seen_fate (LateWords count) = Late count.now
+abbrev pub seen_fate : LineFate → SaidFate
+seen_fate LoseOfLine = Lose
+seen_fate (TwiceOfLine late) = Twice late
+seen_fate (LateOfLine late) = Late late
 
 abbrev pub seen_argument : ArgumentOfLine → Said
 seen_argument (words.Var name) = Var name.now
@@ -32,6 +34,11 @@ seen_argument (words.Text text) = Text text.now
 seen_argument (words.Mode mode) = Mode mode
 seen_argument (words.Home name) = Home (seen_option name)
 
+-- the token at a place, where there is one
+abbrev pub seen_token : Option (Bor TokenRef) → Option Token
+seen_token None = None
+seen_token (Some token) = Some (owned_token token.now)
+
 abbrev pub seen_found : Option ArgumentOfLine → Option Said
 seen_found None = None
 seen_found (Some argument) = Some (seen_argument argument)
@@ -40,11 +47,11 @@ abbrev pub seen_arguments : List ArgumentOfLine → List Said
 seen_arguments arguments = map seen_argument arguments
 
 abbrev pub seen : Line → Saying
-seen (NodeLine name frames) = Node name.now (seen_option frames)
-seen (ObjectLine var room home) = Object var.now room.now home.now
-seen (FaultLine from to index fate) = Fault from.now to.now index.now (seen_fate fate)
+seen (NodeLine name frames) = Node name.now frames
+seen (ObjectLine var room home) = Object var.now room home.now
+seen (FaultLine from to index fate) = Fault from.now to.now index (seen_fate fate)
 seen PhaseLine = Phase
-seen (DoesLine node digits verb arguments) = Does (record { node = node.now; digits = digits.now }) verb (seen_arguments arguments.now)
+seen (DoesLine node number verb arguments) = Does (record { node = node.now; number = number }) verb (seen_arguments arguments.now)
 
 -- no word stands first
 abbrev pub BeginsWithNoWord : List Token → Type 0

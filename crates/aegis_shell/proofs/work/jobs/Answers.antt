@@ -12,9 +12,9 @@ loop-place-preserved c =
     let f = job_of (declared_object script.objects) in
     let places = places_of 0 c.args.proc script.commands in
     let i = c.loop-place.place-index in
-    let within = rw c.places_of-place-items.ensures.value at c.loop-place-test.true in
-    let inside = rw c.places_of-place-items.ensures.value at c.places_of-place-items.ensures.bound in
-    let row_is = rw (c.commands-rows.ensures.value, c.places_of-place-items.ensures.value) at c.index-rows-place.is in
+    let within = rw c.places_of-places.ensures.value at c.loop-place-test.true in
+    let inside = rw c.places_of-places.ensures.value at c.places_of-places.ensures.bound in
+    let row_is = rw (c.commands-rows.ensures.value, c.places_of-places.ensures.value) at c.index-rows-place.is in
     c.in_ok-push.ensures.items
     ∙ (ap (λ list. list ++ c.in_ok-job_from.field-0 ∷ []) c.loop-place.invariant
     ∙ (ap (λ job. map f (rows_at script.commands (take i places)) ++ job ∷ []) c.in_ok-job_from.ensures
@@ -25,7 +25,7 @@ returns c =
     let script = c.args.script.now in
     let f = job_of (declared_object script.objects) in
     let places = places_of 0 c.args.proc script.commands in
-    let all : length places ≤ c.loop-place.place-index = rw c.places_of-place-items.ensures.value at c.loop-place-test.false in
+    let all : length places ≤ c.loop-place.place-index = rw c.places_of-places.ensures.value at c.loop-place-test.false in
     c.loop-place.invariant
     ∙ (ap (λ list. map f (rows_at script.commands list)) (take_all c.loop-place.place-index places all)
     ∙ ap (map f) (own_rows c.args.proc script.commands))

@@ -1,17 +1,18 @@
 use Rattle.std.proofs.Common.{rules, ◌≡◌, false, length, sym, subst}
+use Rattle.std.specs.Prelude.{is_some}
 use Rattle.std.specs.List.{list_all}
-use Rattle.uid_names.specs.declared.limits.TheConstants.{NODE_PROCESSES}
-use Rattle.script_reader.specs.Numbers.{has_number, is_fate, is_no_number, is_number}
+use Rattle.script_reader.specs.Numbers.{has_number, is_fate, is_no_number}
 use Rattle.script_reader.specs.NamesAsked.{has_name, is_no_name}
 use Rattle.script_reader.specs.NodeNames.{is_node_name}
 use Rattle.script_reader.specs.Repeats.{is_fresh, is_repeated}
 use Rattle.script_reader.specs.UnknownNames.{is_known, is_unknown, proc_of}
 use Rattle.script_reader.specs.Words.{ProcessWord}
 use Rattle.script_reader.specs.Walk.Formed.{IsFormed}
+use Rattle.script_reader.specs.Walk.Found.{AreNodesOf}
 use Rattle.script_reader.specs.Commands.{IsCommand}
 use Rattle.script_reader.specs.Walk.Seen.{seen, seen_arguments, seen_fate}
 use Rattle.script_reader.proofs.Arguing.{command_is, command_spoken}
-use Rattle.script_reader.proofs.Ranges.{both_true, fate_is, is_true, nodes_apart}
+use Rattle.script_reader.proofs.Ranges.{both_true, fate_is, is_true, node_is, nodes_apart}
 use Rattle.script_reader.proofs.draft.Draft.add.Goals as goal
 
 pub add_fate-requires-clause-apart : goal.add_fate-requires-clause-apart
@@ -21,37 +22,39 @@ add_fate-requires-clause-apart c =
     let to = c.in-Fault.to.now in
     let two = subst (λ l. IsFormed s (seen l)) c.in-Fault.is c.requires.formed in
     let known = both_true (is_node_name s.nodes from) (is_node_name s.nodes to) (subst (λ l. is_unknown s (seen l) ≡ false) c.in-Fault.is c.requires.known) in
-    rw (c.known_node-from.ensures.value, c.known_node-to.ensures.value) (nodes_apart s.nodes from to two known.0 known.1)
-
-pub fate_of-requires : goal.fate_of-requires
-fate_of-requires c =
-    (both_true (is_number 1 1000000 c.in-Fault.index.now) (is_fate (seen_fate c.in-Fault.fate)) (subst (λ l. is_no_number (seen l) ≡ false) c.in-Fault.is c.requires.numbers)).1
+    let found = subst (λ l. AreNodesOf s.nodes (seen l) c.args.nodes.now) c.in-Fault.is c.requires.found in
+    let one = node_is s.nodes from c.args.nodes.now.first c.known-from.result found.0 c.known-from.ensures in
+    let other = node_is s.nodes to c.args.nodes.now.second c.known-to.result found.1 c.known-to.ensures in
+    rw (one.0, other.0) (nodes_apart s.nodes from to two.0 known.0 known.1)
 
 pub add_fate-requires-clause-fate : goal.add_fate-requires-clause-fate
 add_fate-requires-clause-fate c =
-    let good = both_true (is_number 1 1000000 c.in-Fault.index.now) (is_fate (seen_fate c.in-Fault.fate)) (subst (λ l. is_no_number (seen l) ≡ false) c.in-Fault.is c.requires.numbers) in
-    rw c.fate_of.ensures (fate_is (seen_fate c.in-Fault.fate) good.1)
+    let formed = subst (λ l. IsFormed c.args.self.now (seen l)) c.in-Fault.is c.requires.formed in
+    let good = both_true (is_some c.in-Fault.index) (is_fate (seen_fate c.in-Fault.fate)) (subst (λ l. is_no_number (seen l) ≡ false) c.in-Fault.is c.requires.numbers) in
+    rw c.fate_of.ensures (fate_is (seen_fate c.in-Fault.fate) formed.1.1 good.1)
 
 pub add_command-requires-clause-range : goal.add_command-requires-clause-range
 add_command-requires-clause-range c =
     let s = c.args.self.now in
     let arguments = seen_arguments c.in-Does.arguments.now in
     let formed = subst (λ l. IsFormed s (seen l)) c.in-Does.is c.requires.formed in
-    let numbers = both_true (is_number 1 NODE_PROCESSES c.in-Does.digits.now) (list_all has_number arguments) (subst (λ l. is_no_number (seen l) ≡ false) c.in-Does.is c.requires.numbers) in
+    let numbers = both_true (is_some c.in-Does.number) (list_all has_number arguments) (subst (λ l. is_no_number (seen l) ≡ false) c.in-Does.is c.requires.numbers) in
     let names = is_true (list_all has_name arguments) (subst (λ l. is_no_name (seen l) ≡ false) c.in-Does.is c.requires.names) in
-    subst (IsCommand (length s.nodes)) (sym c.in_ok-command-in-Does.ensures) (command_is s.nodes c.in-Does.verb arguments formed numbers.1 names)
+    subst (IsCommand (length s.nodes)) (sym c.in_ok-command-in-Does.ensures) (command_is s.nodes c.in-Does.verb arguments formed.1 numbers.1 names)
 
 pub add_command-requires-clause-spoken : goal.add_command-requires-clause-spoken
 add_command-requires-clause-spoken c =
     let s = c.args.self.now in
     let arguments = seen_arguments c.in-Does.arguments.now in
-    let process : ProcessWord = record { node = c.in-Does.node.now; digits = c.in-Does.digits.now } in
+    let process : ProcessWord = record { node = c.in-Does.node.now; number = c.in-Does.number } in
     let formed = subst (λ l. IsFormed s (seen l)) c.in-Does.is c.requires.formed in
     let known = both_true (is_node_name s.nodes process.node) (list_all (is_known s (proc_of s.nodes process)) arguments) (subst (λ l. is_unknown s (seen l) ≡ false) c.in-Does.is c.requires.known) in
     let fresh = is_true (list_all (is_fresh s) arguments) (subst (λ l. is_repeated s (seen l) ≡ false) c.in-Does.is c.requires.new) in
     let proc : c.proc_of-proc.result ≡ proc_of s.nodes process = search rules in
-    rw (proc, c.in_ok-command-in-Does.ensures) (command_spoken s (proc_of s.nodes process) c.in-Does.verb arguments formed.kinds_are known.1 fresh)
+    rw (proc, c.in_ok-command-in-Does.ensures) (command_spoken s (proc_of s.nodes process) c.in-Does.verb arguments formed.1.kinds_are known.1 fresh)
 
 pub returns-in-Object : goal.returns-in-Object
 returns-in-Object c =
-    rw (c.in-Object.is, ← c.room_of.ensures.value, ← c.known_node-home.ensures.value) c.add_object.ensures
+    let found = subst (λ l. AreNodesOf c.args.self.now.nodes (seen l) c.args.nodes.now) c.in-Object.is c.requires.found in
+    let home = node_is c.args.self.now.nodes c.in-Object.home.now c.args.nodes.now.first c.known-home.result found c.known-home.ensures in
+    rw (c.in-Object.is, ← c.unwrap_or-in-Object.ensures, ← home.0) c.add_object.ensures
