@@ -6,7 +6,6 @@ use Rattle.uid_names.specs.Names.{ObjectName}
 use Rattle.dom_history.specs.declared.op.Op.{Op}
 use Rattle.dom_history.specs.EndWords.{word_of}
 use Rattle.ring_messages.proofs.Asking.{asked-seen}
-use Rattle.ring_messages.specs.Bodies.{Ask, ask_of, body_of_ask}
 use Rattle.fault_handler.specs.declared.access.Access.{Access}
 use Rattle.fault_handler.specs.Desks.{DeskState}
 use Rattle.fault_handler.specs.Outcomes.{Turn, Outcome, Moved, is_done, reply_as, as_access, seen_access, IsNoRefusal}

@@ -10,7 +10,7 @@ ghost use Rattle.fault_handler.specs.ShownPages.{fresh_page, changed_page, store
 ghost use Rattle.fault_handler.specs.Tasks.{page_of, start_of, size_of};
 ghost use Rattle.fault_handler.specs.Unseen.{loaded_at};
 
-use crate::tasks::{Task, part};
+use crate::tasks::{Task, copied};
 use page_cache::{Cache, PageList};
 use page_frames::{FEWEST_FRAMES, Flags, FrameNo, MOST_FRAMES};
 use std::alloc::Global;
@@ -104,14 +104,13 @@ impl ResidentPages {
         ensures left { IfOk result (λ loaded. IfNone loaded (self.new ≡ self.old)) }
         ensures unchanged { OnErr result (self.new ≡ self.old) }
     {
-        match self.cache.find(uid, page) {
-            Some(frame) => {
-                let bytes = part(alloc, self.cache.bytes(frame), start, count)?;
-                self.cache.touch(uid, page);
-                Ok(Some(bytes))
-            }
-            None => Ok(None),
-        }
+        // What wants memory comes first, so that the page is looked up once.
+        let room = Vec::with_capacity(alloc, count as usize)?;
+        let Some(frame) = self.cache.use_page(uid, page) else {
+            return Ok(None);
+        };
+        let bytes = copied(room, self.cache.bytes(frame), start, count);
+        Ok(Some(bytes))
     }
 
     /// The bytes of a resident page.
