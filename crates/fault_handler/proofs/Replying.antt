@@ -1,5 +1,6 @@
 -- What the code of a desk meets where an answer comes to the call of a load or store.
 use Rattle.std.proofs.Common.{◌≡◌, ◌∙◌, ℕ, nat_lt, Bool, true, false, not, ap, Option, Some, None, IsSome, IfSome, Result, IfOk, List, [], ◌∷◌, take, drop, refl, sym, subst, arith}
+use Rattle.std.proofs.lemmas.Result.{IfOk-weaker}
 use Rattle.std.specs.Option.{option_map}
 use Rattle.std.proofs.lemmas.Option.{same_Some}
 use Rattle.uid_names.specs.Names.{ObjectName}
@@ -30,7 +31,6 @@ use Rattle.fault_handler.specs.Conditions.{IsIdle, IsAccessing, MayWantAt}
 use Rattle.fault_handler.specs.Invariant.{IsProc, IsDesk, IsAllowed, is_marked}
 use Rattle.fault_handler.proofs.PageLists.{is_same, same-uid, same-page, found-uid, found-page, without_page-none, page_at-changed_same, page_at-changed_other}
 use Rattle.fault_handler.proofs.TransitKeeps.{open_task, page-comes, coming-absent, going-marked}
-use Rattle.fault_handler.proofs.Outcomes.{IfOk-more}
 use Rattle.fault_handler.proofs.Accessing.{stamp-seen}
 
 -- what holds of the load or store that is open holds of it, whichever it is
@@ -58,7 +58,7 @@ module _ (d : DeskState) (p : ℕ) (is : IsDesk d) (proc : IsProc p) where
   pub loaded-open : {E : Type 0} (r : Result (Option (List ℕ)) E) (bytes : List ℕ) (task : Task) → task_of d p ≡ Some task → IfOk r (λ loaded. loaded ≡ loaded_from bytes (start_of task) task.work)
       → IfOk r (λ loaded. IfSome (task_of d p) (λ t. loaded ≡ loaded_from bytes (start_of t) t.work))
   loaded-open r bytes task there =
-      IfOk-more r (λ loaded. loaded ≡ loaded_from bytes (start_of task) task.work) (λ loaded. IfSome (task_of d p) (λ t. loaded ≡ loaded_from bytes (start_of t) t.work))
+      IfOk-weaker r (λ loaded. loaded ≡ loaded_from bytes (start_of task) task.work) (λ loaded. IfSome (task_of d p) (λ t. loaded ≡ loaded_from bytes (start_of t) t.work))
       (λ loaded takes. of_task (λ t. loaded ≡ loaded_from bytes (start_of t) t.work) (task_of d p) task there takes)
 
 module _ (d : DeskState) (p : ℕ) (is : IsDesk d) (proc : IsProc p) (u : ObjectName) (k : ℕ) where
