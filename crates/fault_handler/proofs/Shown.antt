@@ -1,5 +1,5 @@
 -- What calls on pages in frames do to the pages as they are shown, by their names.
-use Rattle.std.proofs.Common.{◌≡◌, ◌∙◌, ℕ, ◌≤◌, Bool, true, false, not, List, [], ◌∷◌, map, filter, reverse, take, drop, Option, Some, None, IsSome, IfSome, IfNone, Result, Ok, Err, IfOk, OnErr, is_some, count_by, refl, sym, ap, subst, arith}
+use Rattle.std.proofs.Common.{◌≡◌, ◌∙◌, ℕ, ◌≤◌, Bool, true, false, not, List, [], ◌∷◌, map, filter, reverse, take, drop, Option, Some, None, IsSome, IfSome, IfNone, is_some, count_by, refl, sym, ap, subst, arith}
 use Rattle.std.specs.Bool.{OnTrue, OnFalse}
 use Rattle.std.proofs.lemmas.List.{reverse-append, map-append}
 use Rattle.std.specs.List.{find}
@@ -15,9 +15,7 @@ use Rattle.uid_names.proofs.ListLemmas.{by_cases, count_by-cons_passes, count_by
 use Rattle.page_cache.proofs.CacheLemmas.{none_mapped}
 use Rattle.page_cache.proofs.PageLemmas.{changed_in-none}
 use Rattle.fault_handler.specs.ShownPages.{changed_page}
-use Rattle.fault_handler.specs.declared.tasks.Task.{Task}
-use Rattle.fault_handler.specs.Tasks.{start_of}
-use Rattle.fault_handler.specs.Unseen.{unframed, loaded_from, loaded_at}
+use Rattle.fault_handler.specs.Unseen.{unframed}
 use Rattle.fault_handler.proofs.PageLists.{without_page-none, page_at-used}
 
 -- a page is resident where it is shown, and the other way round
@@ -197,11 +195,10 @@ pub cache_by_parts : (f g m n : ℕ) (ps qs : List Resident) → f ≡ g → m �
 cache_by_parts f g m n ps qs frames reserved pages = λ i. record { frames = frames i; reserved = reserved i; pages = pages i }
 
 -- what holds before holds after a load that uses its page or finds none
-pub loaded-keeps : {E : Type 0} (P : Cached → Type 0) (old new : Cached) (u : ObjectName) (k : ℕ) (r : Result (Option (List ℕ)) E) → P old → P (record old { pages = used old.pages u k })
-    → IfOk r (λ loaded. IfSome loaded (λ bytes. new ≡ record old { pages = used old.pages u k })) → IfOk r (λ loaded. IfNone loaded (new ≡ old)) → OnErr r (new ≡ old) → P new
-loaded-keeps P old new u k (Ok (Some bytes)) before after is left unchanged = subst P (sym is) after
-loaded-keeps P old new u k (Ok None) before after is left unchanged = subst P (sym left) before
-loaded-keeps P old new u k (Err e) before after is left unchanged = subst P (sym unchanged) before
+pub loaded-keeps : (P : Cached → Type 0) (old new : Cached) (u : ObjectName) (k : ℕ) (loaded : Option (List ℕ)) → P old → P (record old { pages = used old.pages u k })
+    → IfSome loaded (λ bytes. new ≡ record old { pages = used old.pages u k }) → IfNone loaded (new ≡ old) → P new
+loaded-keeps P old new u k (Some bytes) before after is left = subst P (sym is) after
+loaded-keeps P old new u k None before after is left = subst P (sym left) before
 
 -- and after a store that changes its page or finds none
 pub stored-keeps : (P : Cached → Type 0) (old new changed : Cached) (b : Bool) → P old → P changed → OnTrue b (new ≡ changed) → OnFalse b (new ≡ old) → P new
@@ -216,11 +213,6 @@ taken-there (Some r) start count given bytes has is = let same : r.bytes ≡ giv
 -- none is taken where it is not resident
 pub taken-absent : (pages : List Resident) (u : ObjectName) (k start count : ℕ) → page_at pages u k ≡ None → ◌≡◌ {A = Option (List ℕ)} None (option_map (λ p. take count (drop start p.bytes)) (page_at (map unframed pages) u k))
 taken-absent pages u k start count none = rw (absent-shown pages u k none) refl
-
--- what a load or store takes from its page
-pub loaded-there : {E : Type 0} (o : Option Resident) (task : Task) (given : List ℕ) (r : Result (Option (List ℕ)) E) → option_map (λ p. p.bytes) o ≡ Some given → IfOk r (λ loaded. loaded ≡ loaded_from given (start_of task) task.work) → IfOk r (λ loaded. loaded ≡ loaded_at o task)
-loaded-there None task given r has is = absurd (cc)
-loaded-there (Some p) task given r has is = let same : p.bytes ≡ given = cc in rw same is
 
 -- nothing changes where a page is used that is not resident
 pub used-absent : (pages : List Resident) (u : ObjectName) (k : ℕ) → page_at pages u k ≡ None → used pages u k ≡ pages
