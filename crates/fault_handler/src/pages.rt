@@ -86,7 +86,9 @@ impl ResidentPages {
     }
 
     /// So many bytes of a page, from one on, in a vector with room for them; the page becomes the last used
-    /// one. None where it is not resident. Takes no memory.
+    /// one. None where it is not resident. Takes no memory. Inlined, as are those beside it that hand on the
+    /// vector: else it is stored and read again at each load.
+    #[inline(always)]
     pub(crate) fn load(
         &mut self,
         room: Vec<u8>,

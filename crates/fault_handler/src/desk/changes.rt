@@ -24,6 +24,7 @@ use uid_names::{ByteList, NODE_PROCESSES, NoMemory, PAGE_BYTES, ProcId, Uid};
 impl Desk {
     /// So many bytes of a page, from one on, in a vector with room for them, which uses the page; None where
     /// it is not resident.
+    #[inline(always)]
     pub(super) fn load_page(
         &mut self,
         room: Vec<u8>,
