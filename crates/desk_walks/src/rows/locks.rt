@@ -235,9 +235,11 @@ fn a_length_is_the_last_that_the_node_gave(rt: HostRuntime) -> Result<(), Fail> 
         (Granted(2, 2, 4, 0), Ends(Fine)),
         (Do(2, a, Store(0, 7)), PageIn(a, 0)),
         (Page(2, 4, 0), Ends(Fine)),
-        // An older grant comes late: the node's own length and stamp stay.
-        (Granted(1, 1, 1, 0), Ends(Fine)),
+        // An older grant comes late: the node's own length stays, and its stamp.
+        (Granted(1, 1, 4, 0), Ends(Fine)),
         (ChangedLength(a), Number(Some(1))),
+        (Do(3, a, Lock(Read)), AskLock(a, Read)),
+        (Granted(3, 3, 1, 0), Ends(Fine)),
         (Seen(a), Number(Some(4))),
         // A length that grew since it was sent is sent again.
         (Do(2, a, Unlock), PageOut(a, 0, 2, 4, 7)),
