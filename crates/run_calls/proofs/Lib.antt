@@ -1,0 +1,9 @@
+mod Slots
+mod Walks
+mod Settling
+mod Replies
+mod Progressing
+mod Hearing
+mod HearingRuns
+mod HistoryEntries
+mod Rising

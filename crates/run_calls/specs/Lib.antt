@@ -1,0 +1,6 @@
+pub mod NotedEntries
+pub mod Progress
+pub mod DecidedReplies
+pub mod Since
+pub mod Heard
+pub mod Entries

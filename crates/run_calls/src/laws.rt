@@ -1,0 +1,35 @@
+//! Laws of calls and entries. Each stands on a function without a body, so that the check proves it.
+ghost use Rattle.std.specs.Prelude.{◌≡◌, Some, List};
+ghost use Rattle.dom_history.specs.Histories.{IsRising};
+ghost use Rattle.node_runs.specs.Setups.{Setup, IsSetup};
+ghost use Rattle.node_runs.specs.NodesKeep.{IsTimely};
+ghost use Rattle.node_runs.specs.Runs.{Choice, World, world_after};
+ghost use Rattle.node_runs.specs.RunHistories.{history_in};
+ghost use Rattle.run_calls.specs.DecidedReplies.{AreReplies};
+ghost use Rattle.run_calls.specs.Heard.{AreHeard};
+ghost use Rattle.run_calls.specs.Entries.{AreRepliesHeard, AreAskedHeard};
+
+/// In every run, whatever becomes of frames: each reply on a link, and each answer that a home keeps, is of a call that was
+/// decided.
+pub fn each_reply_was_decided()
+    ensures { (s : Setup) (cs : List Choice) (w : World) → world_after s cs ≡ Some w → AreReplies w }
+{}
+
+/// In every run in which no tick is above 2^40: by place, each process's entries in the history have exactly the replies
+/// that its program heard, in order; and their operations are those that the program asked each time, each once and in its
+/// phase.
+pub fn entries_are_what_programs_heard()
+    ensures replies { (s : Setup) → IsSetup s → (cs : List Choice) (w : World) → world_after s cs ≡ Some w → IsTimely w → AreRepliesHeard s w }
+    ensures asked { (s : Setup) → IsSetup s → (cs : List Choice) (w : World) → world_after s cs ≡ Some w → IsTimely w → AreAskedHeard s w }
+{}
+
+/// So it is note by note: an open operation began behind all that its process was told of, its open call is the last one and
+/// was not decided before it began, and since then no entry of its process was noted.
+pub fn open_operations_stand_last()
+    ensures { (s : Setup) → IsSetup s → (cs : List Choice) (w : World) → world_after s cs ≡ Some w → IsTimely w → AreHeard s w }
+{}
+
+/// In every run the items of the history rise: no place has two entries or acts.
+pub fn items_rise()
+    ensures { (s : Setup) (cs : List Choice) (w : World) → world_after s cs ≡ Some w → IsRising (history_in s w).items }
+{}
