@@ -44,7 +44,7 @@ use Rattle.node_runs.proofs.Worlds.{IsNext, place_at, next-is}
 use Rattle.run_calls.specs.NotedEntries.{entry_if, begun_entry, decided_entry, entries_at}
 use Rattle.run_calls.specs.Progress.{IsSettling, IsAnswered, Progress, opens, goes_on, again, did, told, pauses, is_done, IsApart, ProcStep, rests, comes, told_of}
 use Rattle.run_calls.specs.DecidedReplies.{proc_at, IsDecisionOf, WasDecided, IsReplyOf, AreReplies}
-use Rattle.run_calls.specs.Heard.{IsHeardAt, IsToldOf, AreHeard}
+use Rattle.run_calls.specs.Heard.{IsHeardAt, IsToldOf, IsOfProc, AreHeard}
 use Rattle.run_calls.proofs.Slots.{IsNew, same_proc-refl}
 use Rattle.run_calls.proofs.Walks.{IsSettledBy, settled-decides, first-other, others-not, SomeOf-more}
 use Rattle.run_calls.proofs.Replies.{replies-are}
@@ -202,6 +202,13 @@ module _ (s : Setup) (setup : IsSetup s) (old : World) (c : Choice) (new : World
   all-so : told_by step.note ≡ [] → all_told after.trace ≡ so_far
   all-so none = ap (λ xs. xs ++ so_far) none
 
+  apart-named : (note : Note) → IsApart note → IsOfProc note
+  apart-named Note.Nothing is = tt
+  apart-named (Note.Began q op) is = tt
+  apart-named (Note.Did q phase op reply) is = absurd is
+  apart-named (Note.Ended t) is = absurd is
+  apart-named (Note.Decided q k ask answer) is = tt
+
   abbrev Result : Type 0
   Result = AreHeard s after
 
@@ -210,6 +217,7 @@ module _ (s : Setup) (setup : IsSetup s) (old : World) (c : Choice) (new : World
       let none = apart-none step.note refl apart in
       record {
         places = places-after;
+        named = (apart-named step.note apart, heard.named);
         decided = subst (EachOf (IsToldOf after.trace)) (sym (all-so none.0)) decided-more;
         procs = λ a q proc. subst (λ so. HeardAt a q so after.trace (after.nodes a).tick (proc_of (after.nodes a) q)) (sym (all-so none.0))
             (let same = carried a q so_far (proc_of (old.nodes a) q) (heard.procs a q proc) (ap (entries_of (proc_at a q)) none.1) in
@@ -254,11 +262,12 @@ module _ (s : Setup) (setup : IsSetup s) (old : World) (c : Choice) (new : World
         (λ j is. not-yet old c.node p (proc_of n p).last (next.calls.last c.node p proc) j.place j.note is) next.decisions.each)
         next.decisions.once (λ o k doing answer. answered-call o k doing answer) step.note progress))
 
-    finish : (so : List Told) → all_told after.trace ≡ so → EachOf (IsToldOf after.trace) so
+    finish : (so : List Told) → IsOfProc step.note → all_told after.trace ≡ so → EachOf (IsToldOf after.trace) so
         → ((a q : ℕ) → IsProc q → (a ≡ c.node → q ≡ p → ⊥) → HeardAt a q so old.trace (old.nodes a).tick (proc_of (old.nodes a) q))
         → ((a q : ℕ) → (a ≡ c.node → q ≡ p → ⊥) → entries_of (proc_at a q) (entries_at so (place_at c step) step.note) ≡ []) → Result
-    finish so same decided base none = record {
+    finish so name same decided base none = record {
       places = places-after;
+      named = (name, heard.named);
       decided = subst (EachOf (IsToldOf after.trace)) (sym same) decided;
       procs = λ a q other. subst (λ xs. HeardAt a q xs after.trace (after.nodes a).tick (proc_of (after.nodes a) q)) (sym same)
           (at-node so a q
@@ -270,26 +279,26 @@ module _ (s : Setup) (setup : IsSetup s) (old : World) (c : Choice) (new : World
           (λ away. carried a q so (proc_of (old.nodes a) q) (base a q other (λ here there. away here)) (none a q (λ here there. away here))));
     }
 
-    quietly : told_by step.note ≡ [] → ((a q : ℕ) → (a ≡ c.node → q ≡ p → ⊥) → entries_of (proc_at a q) (entries_at so_far (place_at c step) step.note) ≡ []) → Result
-    quietly none entries = finish so_far (all-so none) decided-more (λ a q other differs. heard.procs a q other) entries
+    quietly : IsOfProc step.note → told_by step.note ≡ [] → ((a q : ℕ) → (a ≡ c.node → q ≡ p → ⊥) → entries_of (proc_at a q) (entries_at so_far (place_at c step) step.note) ≡ []) → Result
+    quietly name none entries = finish so_far name (all-so none) decided-more (λ a q other differs. heard.procs a q other) entries
 
     nothing-noted : step.note ≡ Note.Nothing → Result
-    nothing-noted same = quietly (ap told_by same) (λ a q differs. ap (λ (k : Note). entries_of (proc_at a q) (entries_at so_far (place_at c step) k)) same)
+    nothing-noted same = quietly (subst IsOfProc (sym same) tt) (ap told_by same) (λ a q differs. ap (λ (k : Note). entries_of (proc_at a q) (entries_at so_far (place_at c step) k)) same)
 
     begun-noted : (op : Op) → step.note ≡ Note.Began (proc_at c.node p) op → Result
-    begun-noted op same = quietly (ap told_by same) (λ a q differs.
+    begun-noted op same = quietly (subst IsOfProc (sym same) tt) (ap told_by same) (λ a q differs.
         ap (λ (k : Note). entries_of (proc_at a q) (entries_at so_far (place_at c step) k)) same
         ∙ ap (λ o. entries_of (proc_at a q) (begun_entry (place_at c step) o))
         (place-none (proc_at c.node p) (place_at c step) so_far (EachOf-more (λ (t : Told). t.proc ≡ proc_at c.node p → (t.number ≤ (proc_of n p).last) × (t.begun.tick ≤ (old.nodes c.node).tick)) (λ (t : Told). t.proc ≡ proc_at c.node p → t.begun.tick < step.node.tick) so_far
         (λ t was mine. let e = (was mine).1 in let k = same-tick in let u = up in omega (arith, e, k, u)) was_heard.told)))
 
     did-noted : (phase : ℕ) (op : Op) (reply : Reply) → step.note ≡ Note.Did (proc_at c.node p) phase op reply → Result
-    did-noted phase op reply same = quietly (ap told_by same) (λ a q differs.
+    did-noted phase op reply same = quietly (subst IsOfProc (sym same) proc) (ap told_by same) (λ a q differs.
         let e : Entry = record { place = place_at c step; proc = proc_at c.node p; phase = phase; op = op; reply = reply } in
         ap (λ (k : Note). entries_of (proc_at a q) (entries_at so_far (place_at c step) k)) same ∙ ap (λ b. if b then e ∷ [] else []) (apart-proc a q p differs))
 
     ended-noted : (t : Told) → t.proc ≡ proc_at c.node p → IsNew t so_far → IsToldOf after.trace t → step.note ≡ Note.Ended t → Result
-    ended-noted t mine is_new decided same = finish (t ∷ so_far) (ap (λ (k : Note). told_by k ++ so_far) same) (decided, decided-more)
+    ended-noted t mine is_new decided same = finish (t ∷ so_far) (subst IsOfProc (sym same) (subst (λ (x : ProcName). IsProc x.number) (sym mine) proc)) (ap (λ (k : Note). told_by k ++ so_far) same) (decided, decided-more)
         (λ a q other differs. others-told ((given s a).asks q) (proc_at a q) so_far old.trace (old.nodes a).tick (proc_of (old.nodes a) q) (heard.procs a q other) t is_new
         (subst (λ x. same_proc x (proc_at a q) ≡ false) (sym mine) (apart-proc a q p differs)) (λ e. apart-name a q p differs (sym mine ∙ e)))
         (λ a q differs. ap (λ (k : Note). entries_of (proc_at a q) (entries_at (t ∷ so_far) (place_at c step) k)) same)
@@ -328,7 +337,7 @@ timely-before s old c new is timely a = elim (cases_eq a c.node) [
 
 module _ (s : Setup) (setup : IsSetup s) (procs : HasProcs s) where
   heard-first : AreHeard s (first_world s)
-  heard-first = record { places = tt; decided = tt; procs = λ n. by_proc (λ p. IsHeardAt ((given s n).asks p) (proc_at n p) [] [] 0 (proc_of (first_node (given s n)) p)) (start n 1) (start n 2) (start n 3) (start n 4) }
+  heard-first = record { places = tt; named = tt; decided = tt; procs = λ n. by_proc (λ p. IsHeardAt ((given s n).asks p) (proc_at n p) [] [] 0 (proc_of (first_node (given s n)) p)) (start n 1) (start n 2) (start n 3) (start n 4) }
     where
       start : (n p : ℕ) → IsHeardAt ((given s n).asks p) (proc_at n p) [] [] 0 first_proc
       start n p = record { phase = 1; reaches = starts; in_phase = inl refl; told = tt; doing = tt }

@@ -7,3 +7,4 @@ mod Hearing
 mod HearingRuns
 mod HistoryEntries
 mod Rising
+mod Following

@@ -7,7 +7,7 @@ use Rattle.dom_history.specs.Follows.{Heard, Reaches, entries_of}
 use Rattle.fault_handler.specs.Invariant.{IsProc}
 use Rattle.node_runs.specs.Setups.{Setup, given}
 use Rattle.node_runs.specs.NodeStates.{Await, BegunOp, OpenOp, ProcState, proc_of}
-use Rattle.node_runs.specs.Notes.{Told}
+use Rattle.node_runs.specs.Notes.{Told, Note}
 use Rattle.node_runs.specs.Runs.{Noted, World}
 use Rattle.node_runs.specs.RunHistories.{is_fault, all_told}
 use Rattle.node_runs.specs.CallsKeep.{EachOf}
@@ -45,7 +45,14 @@ pub record IsHeardAt (ask : Heard → Want) (p : ProcName) (so_far : List Told) 
 abbrev pub IsToldOf : List Noted → Told → Type 0
 IsToldOf notes t = (is_fault t.reply ≡ true) ⊎ WasDecided notes t.proc t.number
 
+-- what ended was an operation of one of the four processes
+abbrev pub IsOfProc : Note → Type 0
+IsOfProc (Note.Did p phase op reply) = IsProc p.number
+IsOfProc (Note.Ended t) = IsProc t.proc.number
+IsOfProc note = Unit {0}
+
 pub record AreHeard (s : Setup) (w : World) : Type 0 where
   pub places : EachOf (λ (j : Noted). j.place.tick ≤ (w.nodes j.place.node).tick) w.trace
+  pub named : EachOf (λ (j : Noted). IsOfProc j.note) w.trace
   pub decided : EachOf (IsToldOf w.trace) (all_told w.trace)
   pub procs : (n p : ℕ) → IsProc p → IsHeardAt ((given s n).asks p) (proc_at n p) (all_told w.trace) w.trace (w.nodes n).tick (proc_of (w.nodes n) p)

@@ -1,13 +1,18 @@
 //! Laws of calls and entries. Each stands on a function without a body, so that the check proves it.
-ghost use Rattle.std.specs.Prelude.{◌≡◌, Some, List};
+ghost use Rattle.std.specs.Prelude.{◌≡◌, Some, List, [], ◌∷◌};
+ghost use Rattle.dom_history.specs.declared.op.Reply.TheVariants.{Made, Fine, Bytes};
+ghost use Rattle.dom_history.specs.Events.{Happening};
+ghost use Rattle.dom_history.specs.Follows.{Follows};
 ghost use Rattle.dom_history.specs.Histories.{IsRising};
 ghost use Rattle.node_runs.specs.Setups.{Setup, IsSetup};
 ghost use Rattle.node_runs.specs.NodesKeep.{IsTimely};
-ghost use Rattle.node_runs.specs.Runs.{Choice, World, world_after};
-ghost use Rattle.node_runs.specs.RunHistories.{history_in};
+ghost use Rattle.node_runs.specs.Runs.{Choice, World, world_after, world_of};
+ghost use Rattle.node_runs.specs.RunHistories.{history_in, history_of};
 ghost use Rattle.run_calls.specs.DecidedReplies.{AreReplies};
 ghost use Rattle.run_calls.specs.Heard.{AreHeard};
-ghost use Rattle.run_calls.specs.Entries.{AreRepliesHeard, AreAskedHeard};
+ghost use Rattle.run_calls.specs.Entries.{AreRepliesHeard, AreAskedHeard, entries_after, heard_after};
+ghost use Rattle.node_runs.specs.FirstRun as one;
+ghost use Rattle.node_runs.specs.SecondRun as two;
 
 /// In every run, whatever becomes of frames: each reply on a link, and each answer that a home keeps, is of a call that was
 /// decided.
@@ -21,6 +26,21 @@ pub fn each_reply_was_decided()
 pub fn entries_are_what_programs_heard()
     ensures replies { (s : Setup) → IsSetup s → (cs : List Choice) (w : World) → world_after s cs ≡ Some w → IsTimely w → AreRepliesHeard s w }
     ensures asked { (s : Setup) → IsSetup s → (cs : List Choice) (w : World) → world_after s cs ≡ Some w → IsTimely w → AreAskedHeard s w }
+{}
+
+/// So the history of every such run follows its programs: each process did what its program asks, each once and in order,
+/// and what is open is what it asks next.
+pub fn histories_follow_programs()
+    ensures { (s : Setup) → IsSetup s → (es : List Happening) (w : World) → world_of s es ≡ Some w → IsTimely w → Follows s.asks (history_of s es) }
+{}
+
+/// What two runs heard, and their entries.
+pub fn the_sample_entries()
+    ensures first { entries_after one.setup 1 one.events ≡ Some (Fine ∷ Bytes one.hi ∷ Fine ∷ Fine ∷ Made one.x ∷ []) }
+    ensures first_heard { heard_after one.setup 1 one.events ≡ Some (Fine ∷ Bytes one.hi ∷ Fine ∷ Fine ∷ Made one.x ∷ []) }
+    ensures second { entries_after two.setup 1 two.events ≡ Some (Fine ∷ Fine ∷ []) }
+    ensures second_heard { heard_after two.setup 1 two.events ≡ Some (Fine ∷ Fine ∷ []) }
+    ensures none { entries_after two.setup 2 two.events ≡ Some [] }
 {}
 
 /// So it is note by note: an open operation began behind all that its process was told of, its open call is the last one and
