@@ -25,10 +25,11 @@ use Rattle.node_runs.proofs.Bools.{left-true, right-true, equal}
 use Rattle.node_runs.proofs.Receiving.{EachOf-more}
 use Rattle.run_calls.specs.NotedEntries.{entry_of, begun_entry, entries_at, noted_entries}
 use Rattle.run_calls.specs.Progress.{IsAnswered, IsNewAwait, IsUntold, IsEnd, told_of, Progress, opens, goes_on, again, did, told, pauses, is_done}
+use Rattle.run_calls.specs.Placed.{IsSettledBy}
 use Rattle.run_calls.specs.Since.{IsUndecided, Since, here, later}
 use Rattle.run_calls.specs.Heard.{IsLastCall, IsOpenSince, IsDoingSince, IsHeardAt}
 use Rattle.run_calls.proofs.Slots.{IsNew, place-is, same_proc-refl}
-use Rattle.run_calls.proofs.Walks.{entries-append, IsSettledBy, Inserted, others-noted, since-others, walk-fault, walk-settled, since-awaits, since-same}
+use Rattle.run_calls.proofs.Walks.{entries-append, Inserted, others-noted, since-others, walk-fault, walk-settled, since-awaits, since-same}
 
 pub EachOf-all : {A : Type 0} (P : A → Type 0) (xs : List A) → ((x : A) → P x) → EachOf P xs
 EachOf-all P [] all = tt

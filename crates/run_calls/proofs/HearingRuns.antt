@@ -44,9 +44,10 @@ use Rattle.node_runs.proofs.Worlds.{IsNext, place_at, next-is}
 use Rattle.run_calls.specs.NotedEntries.{entry_if, begun_entry, decided_entry, entries_at}
 use Rattle.run_calls.specs.Progress.{IsSettling, IsAnswered, Progress, opens, goes_on, again, did, told, pauses, is_done, IsApart, ProcStep, rests, comes, told_of}
 use Rattle.run_calls.specs.DecidedReplies.{proc_at, IsDecisionOf, WasDecided, IsReplyOf, AreReplies}
+use Rattle.run_calls.specs.Placed.{IsSettledBy}
 use Rattle.run_calls.specs.Heard.{IsHeardAt, IsToldOf, IsOfProc, AreHeard}
 use Rattle.run_calls.proofs.Slots.{IsNew, same_proc-refl}
-use Rattle.run_calls.proofs.Walks.{IsSettledBy, settled-decides, first-other, others-not, SomeOf-more}
+use Rattle.run_calls.proofs.Walks.{settled-decides, first-other, others-not, SomeOf-more}
 use Rattle.run_calls.proofs.Replies.{replies-are}
 use Rattle.run_calls.proofs.Progressing.{did-progress}
 use Rattle.run_calls.proofs.Hearing.{carry, others-told, place-none, open-since, new-told, progress-on}
@@ -84,7 +85,7 @@ decides-settled w n p c call settling x (Note.Decided q k ask answer) decided is
     subst (λ (r : ProcName). IsCallAt (w.calls r.node r.number) c.waiting.number x.node ask) is.0 (subst (λ j. IsCallAt (w.calls q.node q.number) j x.node ask) is.1 decided.1) in
     (is.0, is.1, subst IsSettling (sym (same-ask _ x.node c.home ask c.ask at call)) settling)
 
-SomeOf-both : {A : Type 0} (P Q R : A → Type 0) (xs : List A) → ((x : A) → P x → Q x → R x) → SomeOf P xs → EachOf Q xs → SomeOf R xs
+pub SomeOf-both : {A : Type 0} (P Q R : A → Type 0) (xs : List A) → ((x : A) → P x → Q x → R x) → SomeOf P xs → EachOf Q xs → SomeOf R xs
 SomeOf-both P Q R [] both some each = some
 SomeOf-both P Q R (x ∷ xs) both (inl is) each = inl (both x is each.0)
 SomeOf-both P Q R (x ∷ xs) both (inr some) each = inr (SomeOf-both P Q R xs both some each.1)
@@ -121,7 +122,7 @@ module _ (s : Setup) (setup : IsSetup s) (old : World) (c : Choice) (new : World
   abbrev g : Given
   g = given s c.node
 
-  abbrev n : NodeState
+  abbrev pub n : NodeState
   n = ticked (old.nodes c.node) next.is.incoming
 
   abbrev step : Stepped
@@ -136,7 +137,7 @@ module _ (s : Setup) (setup : IsSetup s) (old : World) (c : Choice) (new : World
   up : (old.nodes c.node).tick < n.tick
   up = omega arith
 
-  proc-step : ProcStep g n next.is.incoming step
+  pub proc-step : ProcStep g n next.is.incoming step
   proc-step =
       let node = next.kept.nodes c.node next.is.node in
       did-progress g n (next.calls.four c.node) (given-procs g (setup-gives s setup c.node next.is.node).programs) node.agrees (λ p proc. (node.followed p proc).wanted) c.what next.is.incoming step
@@ -240,7 +241,7 @@ module _ (s : Setup) (setup : IsSetup s) (old : World) (c : Choice) (new : World
     was_heard = heard.procs c.node p proc
 
     -- the reply that ended an operation is of a call that was decided
-    answered-call : (o : BegunOp) (k : Asked) → (proc_of n p).doing ≡ asking o k → IsAnswered next.is.incoming p k → SomeOf (λ (j : Noted). IsSettledBy (proc_at c.node p) k.waiting.number j.note) old.trace
+    pub answered-call : (o : BegunOp) (k : Asked) → (proc_of n p).doing ≡ asking o k → IsAnswered next.is.incoming p k → SomeOf (λ (j : Noted). IsSettledBy (proc_at c.node p) k.waiting.number j.note) old.trace
     answered-call o k doing answer =
         let good : IsGoodReply old.trace c.node next.is.incoming =
         incoming-is (IsGoodReply old.trace c.node) tt (λ number tick. tt) (λ tick. tt) (λ m. ask_of m.body ≡ None → WasDecided old.trace (proc_at c.node m.proc) m.number) (λ m is. is) old c.node
@@ -342,21 +343,26 @@ module _ (s : Setup) (setup : IsSetup s) (procs : HasProcs s) where
       start : (n p : ℕ) → IsHeardAt ((given s n).asks p) (proc_at n p) [] [] 0 first_proc
       start n p = record { phase = 1; reaches = starts; in_phase = inl refl; told = tt; doing = tt }
 
-  then-one : (cs : List Choice) (c : Choice) (w : World) (o : Option World) → world_after s cs ≡ o → ((old : World) → o ≡ Some old → IsTimely old → AreHeard s old) → then_next s o c ≡ Some w → world_after s (c ∷ cs) ≡ Some w → IsTimely w → AreHeard s w
-  then-one cs c w None has before e whole timely = absurd (cc)
-  then-one cs c w (Some old) has before e whole timely =
-      let is = next-is s old c w e in
-      let was = timely-before s old c w is timely in
-      step-heard s setup old c w (record {
-        is = is;
-        kept = (run-keeps s setup cs old has).kept was;
-        calls = calls-are s procs cs old has;
-        decisions = decisions-are s procs cs old has;
-        once = (decisions-are s procs (c ∷ cs) w whole).once;
-        replies = replies-are s cs old has;
-      }) (before old refl was)
+  -- what holds at the start, and after each event of a run, holds of every run
+  module _ (P : World → Type 0) (first : P (first_world s)) (later : (cs : List Choice) (old : World) (c : Choice) (new : World) → world_after s cs ≡ Some old → IsTimely old → IsKeptNext s old c new → P old → P new) where
+    then-one : (cs : List Choice) (c : Choice) (w : World) (o : Option World) → world_after s cs ≡ o → ((old : World) → o ≡ Some old → IsTimely old → P old) → then_next s o c ≡ Some w → world_after s (c ∷ cs) ≡ Some w → IsTimely w → P w
+    then-one cs c w None has before e whole timely = absurd (cc)
+    then-one cs c w (Some old) has before e whole timely =
+        let is = next-is s old c w e in
+        let was = timely-before s old c w is timely in
+        later cs old c w has was (record {
+          is = is;
+          kept = (run-keeps s setup cs old has).kept was;
+          calls = calls-are s procs cs old has;
+          decisions = decisions-are s procs cs old has;
+          once = (decisions-are s procs (c ∷ cs) w whole).once;
+          replies = replies-are s cs old has;
+        }) (before old refl was)
+
+    pub every-kept-run : (cs : List Choice) (w : World) → world_after s cs ≡ Some w → IsTimely w → P w
+    every-kept-run [] w e timely = subst P (some-is (first_world s) w e) first
+    every-kept-run (c ∷ cs) w e timely = then-one cs c w (world_after s cs) refl (λ old before was. every-kept-run cs old before was) e e timely
 
   -- in every run
   pub heard-are : (cs : List Choice) (w : World) → world_after s cs ≡ Some w → IsTimely w → AreHeard s w
-  heard-are [] w e timely = subst (AreHeard s) (some-is (first_world s) w e) heard-first
-  heard-are (c ∷ cs) w e timely = then-one cs c w (world_after s cs) refl (λ old before was. heard-are cs old before was) e e timely
+  heard-are = every-kept-run (AreHeard s) heard-first (λ cs old c new e timely next heard. step-heard s setup old c new next heard)

@@ -8,3 +8,4 @@ mod HearingRuns
 mod HistoryEntries
 mod Rising
 mod Following
+mod Placing

@@ -18,12 +18,8 @@ use Rattle.node_runs.specs.Runs.{Noted, World, Choice, first_world, is_above, wo
 use Rattle.node_runs.specs.CallsKeep.{EachOf}
 use Rattle.node_runs.specs.RunHistories.{is_fault, change_reply, act_item, fault_item, begun_item, told_item, open_item, settled_item, decided_item, settled_op, ended_at, ended_by, doing_of, items_of, items_from, all_told, history_in}
 use Rattle.node_runs.proofs.Receiving.{EachOf-more}
+use Rattle.run_calls.specs.Placed.{AreRisingNotes}
 use Rattle.node_runs.proofs.Worlds.{IsNext, place_at, every-run}
-
--- the notes rise
-abbrev AreRisingNotes : List Noted → Type 0
-AreRisingNotes [] = Unit {0}
-AreRisingNotes (m ∷ older) = EachOf (λ (j : Noted). place_lt j.place m.place ≡ true) older × AreRisingNotes older
 
 abbrev is_above_notes : Place → List Noted → Bool
 is_above_notes x [] = true
@@ -47,7 +43,7 @@ notes-later s old c new is at = subst AreAtEvents (sym is.world) (record {
   rising = (above-all (place_at c is.step) old.trace at.rising (sym (at.top (place_at c is.step)) ∙ is.above), at.rising);
 })
 
-notes-rise : (s : Setup) (cs : List Choice) (w : World) → world_after s cs ≡ Some w → AreAtEvents w
+pub notes-rise : (s : Setup) (cs : List Choice) (w : World) → world_after s cs ≡ Some w → AreAtEvents w
 notes-rise s = every-run s AreAtEvents (record { top = λ x. refl; rising = tt }) (notes-later s)
 
 -- a note adds one item at most, at its place

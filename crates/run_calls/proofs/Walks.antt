@@ -18,17 +18,12 @@ use Rattle.node_runs.specs.DecidedCalls.{IsOther, IsFirst, AreDecidedOnce}
 use Rattle.node_runs.proofs.Receiving.{EachOf-more}
 use Rattle.run_calls.specs.NotedEntries.{entry_of, entries_at, noted_entries}
 use Rattle.run_calls.specs.DecidedReplies.{IsDecisionOf}
+use Rattle.run_calls.specs.Placed.{IsSettledBy}
 use Rattle.run_calls.specs.Since.{IsUndecided, Since, here, later}
-use Rattle.run_calls.specs.Progress.{IsSettling}
 use Rattle.run_calls.proofs.Slots.{IsSlot, IsNew, Slot, off-slot, in-slot, others-same, same_proc-refl}
 
 pub entries-append : (p : ProcName) (xs ys : List Entry) → entries_of p (xs ++ ys) ≡ entries_of p xs ++ entries_of p ys
 entries-append p xs ys = filter-append (λ e. same_proc e.proc p) xs ys
-
--- a decision on the call of this number that settles its operation
-abbrev pub IsSettledBy : ProcName → ℕ → Note → Type 0
-IsSettledBy p number (Note.Decided q k ask answer) = (q ≡ p) × (k ≡ number) × IsSettling ask
-IsSettledBy p number note = ⊥
 
 pub settled-decides : (p : ProcName) (number : ℕ) (note : Note) → IsSettledBy p number note → IsDecisionOf p number note
 settled-decides p number Note.Nothing is = absurd is

@@ -9,6 +9,7 @@ ghost use Rattle.node_runs.specs.NodesKeep.{IsTimely};
 ghost use Rattle.node_runs.specs.Runs.{Choice, World, world_after, world_of};
 ghost use Rattle.node_runs.specs.RunHistories.{history_in, history_of};
 ghost use Rattle.run_calls.specs.DecidedReplies.{AreReplies};
+ghost use Rattle.run_calls.specs.Placed.{AreRisingNotes, AreEndsPlaced};
 ghost use Rattle.run_calls.specs.Heard.{AreHeard};
 ghost use Rattle.run_calls.specs.Entries.{AreRepliesHeard, AreAskedHeard, entries_after, heard_after};
 ghost use Rattle.node_runs.specs.FirstRun as one;
@@ -47,6 +48,14 @@ pub fn the_sample_entries()
 /// was not decided before it began, and since then no entry of its process was noted.
 pub fn open_operations_stand_last()
     ensures { (s : Setup) → IsSetup s → (cs : List Choice) (w : World) → world_after s cs ≡ Some w → IsTimely w → AreHeard s w }
+{}
+
+/// In every run in which no tick is above 2^40: an operation that an answer or a link fault ended began before, and where no
+/// link fault ended it, the home that its last call asked decided that call between the Begin and the end. No decision on
+/// that call stands before the Begin. So the place of its entry lies between the Begin of its operation and its end.
+pub fn entries_stand_within_their_operations()
+    ensures ends { (s : Setup) → IsSetup s → (cs : List Choice) (w : World) → world_after s cs ≡ Some w → IsTimely w → AreEndsPlaced w.trace }
+    ensures rising { (s : Setup) (cs : List Choice) (w : World) → world_after s cs ≡ Some w → AreRisingNotes w.trace }
 {}
 
 /// In every run the items of the history rise: no place has two entries or acts.
