@@ -286,9 +286,9 @@ module _ (ask : Heard → Want) (p : ProcName) (so_far : List Told) (notes : Lis
 
   pub progress-on : (note : Note) → Progress ask p now incoming old new note → Goal note
   progress-on note (opens op a asks none doing awaits same e) = subst Goal (sym e) (opens-on op a doing awaits same)
-  progress-on note (goes_on o a b was doing awaits same e) = subst Goal (sym e) (goes-on o a b was doing awaits same)
+  progress-on note (goes_on o a b part was doing awaits same e) = subst Goal (sym e) (goes-on o a b was doing awaits same)
   progress-on note (again o c was doing last same e) = subst Goal (sym e) (again-on o (Await.Answer c) _ was doing (λ call. call) (λ k other. other) last same)
-  progress-on note (did op reply asks end e) = subst Goal (sym e) (did-on op reply asks end)
+  progress-on note (did op reply part asks end e) = subst Goal (sym e) (did-on op reply asks end)
   progress-on note (told o c reply asks was end e by) = subst Goal (sym e) (told-on o c reply asks was end by)
-  progress-on note (pauses asks none last heard phase e) = subst Goal (sym e) (pauses-on asks none last heard phase)
-  progress-on note (is_done asks none last heard e) = subst Goal (sym e) (done-on asks none last heard)
+  progress-on note (pauses was asks none last heard phase e) = subst Goal (sym e) (pauses-on asks none last heard phase)
+  progress-on note (is_done was asks none last heard e) = subst Goal (sym e) (done-on asks none last heard)

@@ -309,9 +309,9 @@ module _ (s : Setup) (setup : IsSetup s) (old : World) (c : Choice) (new : World
       where
         by : Progress (g.asks p) (name_of g p) n.tick next.is.incoming (proc_of n p) (proc_of step.node p) step.note → Result
         by (opens op a asks none doing awaits same e) = begun-noted op e
-        by (goes_on o a b was doing awaits same e) = nothing-noted e
+        by (goes_on o a b part was doing awaits same e) = nothing-noted e
         by (again o k was doing last same e) = nothing-noted e
-        by (did op reply asks end e) = did-noted (proc_of n p).phase op reply e
+        by (did op reply part asks end e) = did-noted (proc_of n p).phase op reply e
         by (told o k reply asks was end e tells) =
             let open_was = open-since (g.asks p) (proc_at c.node p) so_far old.trace (old.nodes c.node).tick (proc_of n p) was_heard o (Await.Answer k) was in
             ended-noted (told_of (proc_at c.node p) (proc_of n p) o k.waiting.number reply) refl (new-told (proc_at c.node p) so_far old.trace (old.nodes c.node).tick (proc_of n p) o k reply open_was)
@@ -320,8 +320,8 @@ module _ (s : Setup) (setup : IsSetup s) (old : World) (c : Choice) (new : World
               | inr answer ↦ inr (inr (SomeOf-more (λ (j : Noted). IsSettledBy (proc_at c.node p) k.waiting.number j.note) (λ (j : Noted). IsDecisionOf (proc_at c.node p) k.waiting.number j.note) old.trace
                   (λ j is. settled-decides (proc_at c.node p) k.waiting.number j.note is) (answered-call o k was answer)))
             ]) e
-        by (pauses asks none last h phase e) = nothing-noted e
-        by (is_done asks none last h e) = nothing-noted e
+        by (pauses was asks none last h phase e) = nothing-noted e
+        by (is_done was asks none last h e) = nothing-noted e
 
   pub step-heard : AreHeard s new
   step-heard = subst (AreHeard s) (sym next.is.world) (elim proc-step [ rests all apart ↦ when-rests all apart | comes p proc others progress ↦ when-comes p proc others progress ])

@@ -77,17 +77,17 @@ module _ (s : Setup) (setup : IsSetup s) (old : World) (c : Choice) (new : World
     where
       by : Progress ((given s c.node).asks p) (name_of (given s c.node) p) (acting s setup old c new next heard).tick next.is.incoming (proc_of (acting s setup old c new next heard) p) (proc_of next.is.step.node p) next.is.step.note → IsPlaced next.is.step.note old.trace
       by (opens op a asks none doing awaits same e) = subst (λ k. IsPlaced k old.trace) (sym e) tt
-      by (goes_on o a b was doing awaits same e) = subst (λ k. IsPlaced k old.trace) (sym e) tt
+      by (goes_on o a b part was doing awaits same e) = subst (λ k. IsPlaced k old.trace) (sym e) tt
       by (again o k was doing last same e) = subst (λ k. IsPlaced k old.trace) (sym e) tt
-      by (did op reply asks end e) = subst (λ k. IsPlaced k old.trace) (sym e) tt
+      by (did op reply part asks end e) = subst (λ k. IsPlaced k old.trace) (sym e) tt
       by (told o k reply asks was end e tells) =
           let q = proc_of (acting s setup old c new next heard) p in
           let open_was = open-since ((given s c.node).asks p) (proc_at c.node p) _ old.trace _ q (heard.procs c.node p proc) o (Await.Answer k) was in
           subst (λ x. IsPlaced x old.trace) (sym e)
           (end-of (proc_at c.node p) o _ k old.trace q.phase reply open_was.since rising
           (elim tells [ inl fault ↦ inl fault | inr answer ↦ inr (answered-call s setup old c new next heard p proc others progress o k was answer) ]))
-      by (pauses asks none last h phase e) = subst (λ k. IsPlaced k old.trace) (sym e) tt
-      by (is_done asks none last h e) = subst (λ k. IsPlaced k old.trace) (sym e) tt
+      by (pauses was asks none last h phase e) = subst (λ k. IsPlaced k old.trace) (sym e) tt
+      by (is_done was asks none last h e) = subst (λ k. IsPlaced k old.trace) (sym e) tt
 
 module _ (s : Setup) (setup : IsSetup s) where
   ends-later : (cs : List Choice) (old : World) (c : Choice) (new : World) → world_after s cs ≡ Some old → IsTimely old → IsKeptNext s old c new → AreEndsPlaced old.trace → AreEndsPlaced new.trace

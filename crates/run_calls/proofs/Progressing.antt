@@ -30,24 +30,24 @@ use Rattle.node_runs.specs.Following.{IsWanted}
 use Rattle.node_runs.specs.RunHistories.{is_fault}
 use Rattle.node_runs.proofs.Bools.{equal}
 use Rattle.node_runs.proofs.CallSteps.{IsFrameProc}
-use Rattle.run_calls.specs.Progress.{IsSettling, IsAnswered, Progress, opens, goes_on, again, did, told, pauses, is_done, IsApart, ProcStep, rests, comes}
+use Rattle.run_calls.specs.Progress.{IsSettling, IsAnswered, IsPart, IsPartDoing, Progress, opens, goes_on, again, did, told, pauses, is_done, IsApart, ProcStep, rests, comes}
 use Rattle.run_calls.proofs.Settling.{IsFaultTurn, SettlesOr, MaySettle, said-settles, failed-fault}
 
 -- how an operation that ends is told of
 abbrev TellsTurn : Incoming → ℕ → Asked → Turn → Type 0
 TellsTurn incoming p c (Turn.Ends reply) = (is_fault reply ≡ true) ⊎ IsAnswered incoming p c
-TellsTurn incoming p c (Turn.Asks home ask) = Unit {0}
-TellsTurn incoming p c (Turn.Waits u k) = Unit {0}
+TellsTurn incoming p c (Turn.Asks home ask) = IsSettling c.ask → ⊥
+TellsTurn incoming p c (Turn.Waits u k) = IsSettling c.ask → ⊥
 
 fault-tells : (incoming : Incoming) (p : ℕ) (c : Asked) (turn : Turn) → IsFaultTurn turn → TellsTurn incoming p c turn
 fault-tells incoming p c (Turn.Ends reply) is = inl is
-fault-tells incoming p c (Turn.Asks home ask) is = tt
-fault-tells incoming p c (Turn.Waits u k) is = tt
+fault-tells incoming p c (Turn.Asks home ask) is = absurd is
+fault-tells incoming p c (Turn.Waits u k) is = absurd is
 
 answer-tells : (m : Message) (p : ℕ) (c : Asked) (turn : Turn) → ask_of m.body ≡ None → m.proc ≡ p → m.number ≡ c.waiting.number → SettlesOr c.ask turn → TellsTurn (Incoming.Frame m) p c turn
 answer-tells m p c (Turn.Ends reply) none proc number is = inr (record { frame = m; received = refl; replies = none; proc = proc; number = number; settling = is })
-answer-tells m p c (Turn.Asks home ask) none proc number is = tt
-answer-tells m p c (Turn.Waits u k) none proc number is = tt
+answer-tells m p c (Turn.Asks home ask) none proc number is = is
+answer-tells m p c (Turn.Waits u k) none proc number is = is
 
 module _ (g : Given) (n : NodeState) (four : length n.procs ≡ 4) (incoming : Incoming) where
   step-by : (s : Stepped) (p : ℕ) (proc : IsProc p) (new : ProcState) → s.node.procs ≡ put_at n.procs p new → Progress (g.asks p) (name_of g p) n.tick incoming (proc_of n p) new s.note → ProcStep g n incoming s
@@ -61,15 +61,15 @@ module _ (g : Given) (n : NodeState) (four : length n.procs ≡ 4) (incoming : I
 
     starts : (op : Op) → (proc_of n p).doing ≡ None → g.asks p (proc_of n p).heard ≡ Do op → (d : DeskState) (turn : Turn) (dropped : List (ObjectName × ℕ))
         → ProcStep g n incoming (dropping dropped (turned g (record n { desk = d }) p (begun_at g n op) Stage.Starts turn))
-    starts op none asks d (Turn.Ends reply) dropped = step-by _ p proc _ refl (did op reply asks (record { doing = refl; last = refl; heard = refl; phase = refl }) refl)
+    starts op none asks d (Turn.Ends reply) dropped = step-by _ p proc _ refl (did op reply (subst IsPartDoing (sym none) tt) asks (record { doing = refl; last = refl; heard = refl; phase = refl }) refl)
     starts op none asks d (Turn.Asks home ask) dropped = step-by _ p proc _ refl (opens op (Await.Answer (next_call (proc_of n p) home ask)) asks none refl (refl, refl) (record { heard = refl; phase = refl }) refl)
     starts op none asks d (Turn.Waits u k) dropped = step-by _ p proc _ refl (opens op (Await.Page u k) asks none refl refl (record { heard = refl; phase = refl }) refl)
 
-    resumes : (o : BegunOp) (a : Await) → (proc_of n p).doing ≡ Some (record { began = o; awaits = a }) → g.asks p (proc_of n p).heard ≡ Do o.op → (d : DeskState) (turn : Turn) (dropped : List (ObjectName × ℕ))
+    resumes : (o : BegunOp) (a : Await) → IsPart a → (proc_of n p).doing ≡ Some (record { began = o; awaits = a }) → g.asks p (proc_of n p).heard ≡ Do o.op → (d : DeskState) (turn : Turn) (dropped : List (ObjectName × ℕ))
         → ProcStep g n incoming (dropping dropped (turned g (record n { desk = d }) p o Stage.Resumes turn))
-    resumes o a is asks d (Turn.Ends reply) dropped = step-by _ p proc _ refl (did o.op reply asks (record { doing = refl; last = refl; heard = refl; phase = refl }) refl)
-    resumes o a is asks d (Turn.Asks home ask) dropped = step-by _ p proc _ refl (goes_on o a (Await.Answer (next_call (proc_of n p) home ask)) is refl (refl, refl) (record { heard = refl; phase = refl }) refl)
-    resumes o a is asks d (Turn.Waits u k) dropped = step-by _ p proc _ refl (goes_on o a (Await.Page u k) is refl refl (record { heard = refl; phase = refl }) refl)
+    resumes o a part is asks d (Turn.Ends reply) dropped = step-by _ p proc _ refl (did o.op reply (subst IsPartDoing (sym is) part) asks (record { doing = refl; last = refl; heard = refl; phase = refl }) refl)
+    resumes o a part is asks d (Turn.Asks home ask) dropped = step-by _ p proc _ refl (goes_on o a (Await.Answer (next_call (proc_of n p) home ask)) part is refl (refl, refl) (record { heard = refl; phase = refl }) refl)
+    resumes o a part is asks d (Turn.Waits u k) dropped = step-by _ p proc _ refl (goes_on o a (Await.Page u k) part is refl refl (record { heard = refl; phase = refl }) refl)
 
     settles : (o : BegunOp) (c : Asked) (number : ℕ) → number ≡ c.waiting.number → (proc_of n p).doing ≡ asking o c → g.asks p (proc_of n p).heard ≡ Do o.op → (d : DeskState) (turn : Turn) (dropped : List (ObjectName × ℕ))
         → TellsTurn incoming p c turn → ProcStep g n incoming (dropping dropped (turned g (record n { desk = d }) p o (Stage.Settles number) turn))
@@ -77,8 +77,8 @@ module _ (g : Given) (n : NodeState) (four : length n.procs ≡ 4) (incoming : I
         step-by _ p proc _ refl (told o c reply asks is (record { doing = refl; last = refl; heard = refl; phase = refl })
         (ap (λ k. Note.Ended (record { proc = name_of g p; phase = (proc_of n p).phase; op = o.op; begun = o.begun; number = k; reply = reply })) same) tells)
     settles o c number same is asks d (Turn.Asks home ask) dropped tells =
-        step-by _ p proc _ refl (goes_on o (Await.Answer c) (Await.Answer (next_call (proc_of n p) home ask)) is refl (refl, refl) (record { heard = refl; phase = refl }) refl)
-    settles o c number same is asks d (Turn.Waits u k) dropped tells = step-by _ p proc _ refl (goes_on o (Await.Answer c) (Await.Page u k) is refl refl (record { heard = refl; phase = refl }) refl)
+        step-by _ p proc _ refl (goes_on o (Await.Answer c) (Await.Answer (next_call (proc_of n p) home ask)) tells is refl (refl, refl) (record { heard = refl; phase = refl }) refl)
+    settles o c number same is asks d (Turn.Waits u k) dropped tells = step-by _ p proc _ refl (goes_on o (Await.Answer c) (Await.Page u k) tells is refl refl (record { heard = refl; phase = refl }) refl)
 
   served-apart : (how : Looked) (m : Message) (ask : Ask) (answer : Answer) → IsApart (served_note how (caller_of m) m.number ask answer)
   served-apart Fresh m ask answer = tt
@@ -95,7 +95,7 @@ heard-step : (g : Given) (n : NodeState) (four : length n.procs ≡ 4) (m : Mess
 heard-step g n four m proc o c none is number asks (Said.Replies reply) to may moves =
     settles g n four (Incoming.Frame m) m.proc proc o c m.number number is asks to.desk to.turn to.dropped
     (subst (λ (x : Moved). TellsTurn (Incoming.Frame m) m.proc c x.turn) (sym moves) (answer-tells m m.proc c (Turn.Ends reply) none refl number may))
-heard-step g n four m proc o c none is number asks (Said.ToAccess answer) to may moves = resumes g n four (Incoming.Frame m) m.proc proc o (Await.Answer c) is asks to.desk to.turn to.dropped
+heard-step g n four m proc o c none is number asks (Said.ToAccess answer) to may moves = resumes g n four (Incoming.Frame m) m.proc proc o (Await.Answer c) may is asks to.desk to.turn to.dropped
 heard-step g n four m proc o c none is number asks (Said.ToLock answer) to may moves =
     settles g n four (Incoming.Frame m) m.proc proc o c m.number number is asks to.desk to.turn to.dropped
     (subst (λ (x : Moved). TellsTurn (Incoming.Frame m) m.proc c x.turn) (sym moves) (answer-tells m m.proc c (answer_came_of n.desk m.proc answer).turn none refl number may))
@@ -106,10 +106,10 @@ module _ (g : Given) (n : NodeState) (four : length n.procs ≡ 4) (procs : (p :
   wants p proc o is = subst (IsWanted (g.asks p (proc_of n p).heard)) is (wanted p proc)
 
   pub did-progress : (what : What) (incoming : Incoming) (s : Stepped) → IsFrameProc incoming → Did g n what incoming s → ProcStep g n incoming s
-  did-progress what incoming s frame (paused p has none is) = step-by g n four incoming _ p (procs p has) _ refl (pauses is none refl refl refl refl)
-  did-progress what incoming s frame (finished p has none is) = step-by g n four incoming _ p (procs p has) _ refl (is_done is none refl refl refl)
+  did-progress what incoming s frame (paused p has none is) = step-by g n four incoming _ p (procs p has) _ refl (pauses none is none refl refl refl refl)
+  did-progress what incoming s frame (finished p has none is) = step-by g n four incoming _ p (procs p has) _ refl (is_done none is none refl refl refl)
   did-progress what incoming s frame (began p op to has none is may) = starts g n four incoming p (procs p has) op none is to.desk to.turn to.dropped
-  did-progress what incoming s frame (resumed p o u k accessed to has is come goes may) = resumes g n four incoming p (procs p has) o (Await.Page u k) is (wants p (procs p has) _ is) to.desk to.turn to.dropped
+  did-progress what incoming s frame (resumed p o u k accessed to has is come goes may) = resumes g n four incoming p (procs p has) o (Await.Page u k) tt is (wants p (procs p has) _ is) to.desk to.turn to.dropped
   did-progress what incoming s frame (served from index m ask answer sender receiver asks is) = rests (λ q. refl) (served-apart g n four incoming (looked m.number (last_of (caller_of m) n.side.served)) m ask answer)
   did-progress what incoming s frame (passed_over from index m ask sender receiver asks is) = rests (λ q. refl) tt
   did-progress what incoming s frame (heard from index m o c said to sender receiver asks is same fits may) =

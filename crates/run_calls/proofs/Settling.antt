@@ -2,6 +2,7 @@
 -- up ends it by a link fault.
 use Rattle.std.proofs.Common.{◌≡◌, ℕ, Bool, true, false, List, Option, Some, None, refl, sym, ap, subst, ◌∙◌}
 use Rattle.uid_names.specs.Names.{ObjectName}
+use Rattle.uid_names.specs.declared.mode.Mode.{Mode}
 use Rattle.uid_names.specs.Steps.{◌>>=◌}
 use Rattle.dom_history.specs.declared.op.Op.{Op}
 use Rattle.dom_history.specs.declared.op.Op.TheVariants as ops
@@ -39,27 +40,32 @@ IsFaultTurn (Turn.Ends reply) = is_fault reply ≡ true
 IsFaultTurn (Turn.Asks home ask) = ⊥
 IsFaultTurn (Turn.Waits u k) = ⊥
 
--- where the answer ends the operation, the call was one that settles it
+-- the operation ends exactly where the call was one that settles it
 abbrev pub SettlesOr : Ask → Turn → Type 0
 SettlesOr ask (Turn.Ends reply) = IsSettling ask
-SettlesOr ask (Turn.Asks home asked) = Unit {0}
-SettlesOr ask (Turn.Waits u k) = Unit {0}
+SettlesOr ask (Turn.Asks home asked) = IsSettling ask → ⊥
+SettlesOr ask (Turn.Waits u k) = IsSettling ask → ⊥
 
--- of a load or store nothing is said: it is done at the desk
+abbrev EndsIt : Turn → Type 0
+EndsIt (Turn.Ends reply) = Unit {0}
+EndsIt (Turn.Asks home asked) = ⊥
+EndsIt (Turn.Waits u k) = ⊥
+
+-- a load's or store's never settles it: it is done at the desk
 abbrev pub MaySettle : DeskState → ℕ → Ask → Said → Type 0
 MaySettle d p ask (Said.Replies reply) = IsSettling ask
-MaySettle d p ask (Said.ToAccess answer) = Unit {0}
+MaySettle d p ask (Said.ToAccess answer) = IsSettling ask → ⊥
 MaySettle d p ask (Said.ToLock answer) = SettlesOr ask (answer_came_of d p answer).turn
 
-goes-settles : (ask : Ask) (turn : Turn) → GoesOn turn → SettlesOr ask turn
-goes-settles ask (Turn.Ends reply) goes = absurd goes
-goes-settles ask (Turn.Asks home asked) goes = tt
-goes-settles ask (Turn.Waits u k) goes = tt
+goes-settles : (ask : Ask) (turn : Turn) → GoesOn turn → (IsSettling ask → ⊥) → SettlesOr ask turn
+goes-settles ask (Turn.Ends reply) goes part = absurd goes
+goes-settles ask (Turn.Asks home asked) goes part = part
+goes-settles ask (Turn.Waits u k) goes part = part
 
-settles-all : (ask : Ask) (turn : Turn) → IsSettling ask → SettlesOr ask turn
-settles-all ask (Turn.Ends reply) is = is
-settles-all ask (Turn.Asks home asked) is = tt
-settles-all ask (Turn.Waits u k) is = tt
+settles-all : (ask : Ask) (turn : Turn) → EndsIt turn → IsSettling ask → SettlesOr ask turn
+settles-all ask (Turn.Ends reply) ends is = is
+settles-all ask (Turn.Asks home asked) ends is = absurd ends
+settles-all ask (Turn.Waits u k) ends is = absurd ends
 
 module _ (d : DeskState) (p : ℕ) (u : ObjectName) (delete : Bool) where
   length_first-goes : (o : Option ℕ) → GoesOn (length_first d p u delete o).turn
@@ -78,7 +84,7 @@ module _ (d : DeskState) (p : ℕ) (u : ObjectName) (delete : Bool) where
   release_of-goes = transit_first-goes (other_transit d.moving p u)
 
 -- the request of a lock, an unlock or a removal settles it
-lock-settles : (moving : Option Transit) (u : ObjectName) (m : _) (ask : Ask) → IsRequestOf moving (calls.Lock u m) ask → IsSettling ask
+lock-settles : (moving : Option Transit) (u : ObjectName) (m : Mode) (ask : Ask) → IsRequestOf moving (calls.Lock u m) ask → IsSettling ask
 lock-settles moving u m (Ask.PageIn v k) is = absurd is
 lock-settles moving u m (Ask.PageOut v k grant base bytes) is = absurd is
 lock-settles moving u m (Ask.AttrOut v n grant base) is = absurd is
@@ -108,6 +114,37 @@ remove-settles moving u (Ask.Remove v) is = tt
 remove-settles moving u (Ask.Make kind room) is = tt
 remove-settles moving u (Ask.ListLocks after) is = tt
 
+-- that of a page or a length does not
+access-part : (moving : Option Transit) (ask : Ask) → IsRequestOf moving calls.Access ask → IsSettling ask → ⊥
+access-part moving (Ask.PageIn v j) is = λ settles. settles
+access-part moving (Ask.PageOut v j grant base bytes) is = λ settles. settles
+access-part moving (Ask.AttrOut v n grant base) is = λ settles. settles
+access-part moving (Ask.Lock v n) is = λ settles. absurd is
+access-part moving (Ask.Unlock v) is = λ settles. absurd is
+access-part moving (Ask.Remove v) is = λ settles. absurd is
+access-part moving (Ask.Make kind room) is = λ settles. absurd is
+access-part moving (Ask.ListLocks after) is = λ settles. absurd is
+
+page-part : (moving : Option Transit) (u : ObjectName) (k : ℕ) (delete : Bool) (ask : Ask) → IsRequestOf moving (calls.PageOut u k delete) ask → IsSettling ask → ⊥
+page-part moving u k delete (Ask.PageIn v j) is = λ settles. settles
+page-part moving u k delete (Ask.PageOut v j grant base bytes) is = λ settles. settles
+page-part moving u k delete (Ask.AttrOut v n grant base) is = λ settles. settles
+page-part moving u k delete (Ask.Lock v n) is = λ settles. absurd is
+page-part moving u k delete (Ask.Unlock v) is = λ settles. absurd is
+page-part moving u k delete (Ask.Remove v) is = λ settles. absurd is
+page-part moving u k delete (Ask.Make kind room) is = λ settles. absurd is
+page-part moving u k delete (Ask.ListLocks after) is = λ settles. absurd is
+
+length-part : (moving : Option Transit) (u : ObjectName) (length : ℕ) (delete : Bool) (ask : Ask) → IsRequestOf moving (calls.AttrOut u length delete) ask → IsSettling ask → ⊥
+length-part moving u length delete (Ask.PageIn v j) is = λ settles. settles
+length-part moving u length delete (Ask.PageOut v j grant base bytes) is = λ settles. settles
+length-part moving u length delete (Ask.AttrOut v n grant base) is = λ settles. settles
+length-part moving u length delete (Ask.Lock v n) is = λ settles. absurd is
+length-part moving u length delete (Ask.Unlock v) is = λ settles. absurd is
+length-part moving u length delete (Ask.Remove v) is = λ settles. absurd is
+length-part moving u length delete (Ask.Make kind room) is = λ settles. absurd is
+length-part moving u length delete (Ask.ListLocks after) is = λ settles. absurd is
+
 module _ (d : DeskState) (p : ℕ) (ask : Ask) where
   page-goes : (u : ObjectName) (k : ℕ) (delete : Bool) (answer : Answer) (said : LockAnswer) → lock_answer (LockCall.PageOut u k delete) answer ≡ Some said → GoesOn (answer_came_of d p said).turn
   page-goes u k delete (Answer.Stored stamp) said e = subst (λ a. GoesOn (answer_came_of d p a).turn) (some-is (LockAnswer.PageSettled u delete true stamp) said e) (release_of-goes (with_raised (with_page_done (with_call d p None) p true) u stamp) p u delete)
@@ -119,21 +156,35 @@ module _ (d : DeskState) (p : ℕ) (ask : Ask) where
   length-goes u n delete (Answer.Stale stamp) said e = subst (λ a. GoesOn (answer_came_of d p a).turn) (some-is (LockAnswer.LengthSettled u n delete false stamp) said e) (release_of-goes (with_raised (with_length_done (with_call d p None) u n false) u stamp) p u delete)
   length-goes u n delete answer said e = absurd (cc)
 
+  lock-ends : (u : ObjectName) (m : Mode) (answer : Answer) (said : LockAnswer) → lock_answer (LockCall.Lock u m) answer ≡ Some said → EndsIt (answer_came_of d p said).turn
+  lock-ends u m (Answer.Granted grant stamp kind room n) said e = subst (λ a. EndsIt (answer_came_of d p a).turn) (some-is (LockAnswer.Granted u m grant stamp room n) said e) tt
+  lock-ends u m (Answer.Conflict q held) said e = subst (λ a. EndsIt (answer_came_of d p a).turn) (some-is (LockAnswer.Refused q held) said e) tt
+  lock-ends u m Answer.NoObject said e = subst (λ a. EndsIt (answer_came_of d p a).turn) (some-is (LockAnswer.Gone u) said e) tt
+  lock-ends u m answer said e = absurd (cc)
+
+  unlock-ends : (u : ObjectName) (answer : Answer) (said : LockAnswer) → lock_answer (LockCall.Unlock u) answer ≡ Some said → EndsIt (answer_came_of d p said).turn
+  unlock-ends u Answer.Done said e = subst (λ a. EndsIt (answer_came_of d p a).turn) (some-is (LockAnswer.Released u) said e) tt
+  unlock-ends u answer said e = absurd (cc)
+
+  remove-ends : (u : ObjectName) (answer : Answer) (said : LockAnswer) → lock_answer (LockCall.Remove u) answer ≡ Some said → EndsIt (answer_came_of d p said).turn
+  remove-ends u Answer.Done said e = subst (λ a. EndsIt (answer_came_of d p a).turn) (some-is (LockAnswer.Removed u) said e) tt
+  remove-ends u answer said e = absurd (cc)
+
   said-lock : (moving : Option Transit) (call : LockCall) (answer : Answer) (said : LockAnswer) → lock_answer call answer ≡ Some said → IsRequestOf moving (open_call call) ask → SettlesOr ask (answer_came_of d p said).turn
-  said-lock moving (LockCall.Lock u m) answer said e is = settles-all ask (answer_came_of d p said).turn (lock-settles moving u m ask is)
-  said-lock moving (LockCall.PageOut u k delete) answer said e is = goes-settles ask (answer_came_of d p said).turn (page-goes u k delete answer said e)
-  said-lock moving (LockCall.AttrOut u n delete) answer said e is = goes-settles ask (answer_came_of d p said).turn (length-goes u n delete answer said e)
-  said-lock moving (LockCall.Unlock u) answer said e is = settles-all ask (answer_came_of d p said).turn (unlock-settles moving u ask is)
-  said-lock moving (LockCall.Remove u) answer said e is = settles-all ask (answer_came_of d p said).turn (remove-settles moving u ask is)
+  said-lock moving (LockCall.Lock u m) answer said e is = settles-all ask (answer_came_of d p said).turn (lock-ends u m answer said e) (lock-settles moving u m ask is)
+  said-lock moving (LockCall.PageOut u k delete) answer said e is = goes-settles ask (answer_came_of d p said).turn (page-goes u k delete answer said e) (page-part moving u k delete ask is)
+  said-lock moving (LockCall.AttrOut u n delete) answer said e is = goes-settles ask (answer_came_of d p said).turn (length-goes u n delete answer said e) (length-part moving u n delete ask is)
+  said-lock moving (LockCall.Unlock u) answer said e is = settles-all ask (answer_came_of d p said).turn (unlock-ends u answer said e) (unlock-settles moving u ask is)
+  said-lock moving (LockCall.Remove u) answer said e is = settles-all ask (answer_came_of d p said).turn (remove-ends u answer said e) (remove-settles moving u ask is)
 
   to-lock : (moving : Option Transit) (call : LockCall) (answer : Answer) (said : Said) → said_to_lock d p answer (Some call) ≡ Some said → IsRequestOf moving (open_call call) ask → MaySettle d p ask said
   to-lock moving call answer said e is = let found = map-some Said.ToLock (lock_answer call answer) said e in subst (MaySettle d p ask) (sym found.2) (said-lock moving call answer found.0 found.1 is)
 
-  to-access : (answer : Answer) (said : Said) → said_to_lock d p answer None ≡ Some said → MaySettle d p ask said
-  to-access answer said e = let found = map-some Said.ToAccess (page_answer d p answer) said e in subst (MaySettle d p ask) (sym found.2) tt
+  to-access : (moving : Option Transit) (answer : Answer) (said : Said) → said_to_lock d p answer None ≡ Some said → IsRequestOf moving calls.Access ask → MaySettle d p ask said
+  to-access moving answer said e is = let found = map-some Said.ToAccess (page_answer d p answer) said e in subst (MaySettle d p ask) (sym found.2) (access-part moving ask is)
 
   to-call : (moving : Option Transit) (answer : Answer) (call : OpenCall) (said : Said) → said_to_call d p answer call ≡ Some said → IsRequestOf moving call ask → MaySettle d p ask said
-  to-call moving answer calls.Access said e is = to-access answer said e
+  to-call moving answer calls.Access said e is = to-access moving answer said e is
   to-call moving answer (calls.Lock u m) said e is = to-lock moving (LockCall.Lock u m) answer said e is
   to-call moving answer (calls.PageOut u k delete) said e is = to-lock moving (LockCall.PageOut u k delete) answer said e is
   to-call moving answer (calls.AttrOut u n delete) said e is = to-lock moving (LockCall.AttrOut u n delete) answer said e is

@@ -34,6 +34,15 @@ pub record IsAnswered (incoming : Incoming) (p : ℕ) (c : Asked) : Type 0 where
   pub number : frame.number ≡ c.waiting.number
   pub settling : IsSettling c.ask
 
+-- a call that brings or sends a page or a length, and does not settle its operation
+abbrev pub IsPart : Await → Type 0
+IsPart (Await.Answer c) = IsSettling c.ask → ⊥
+IsPart (Await.Page u k) = Unit {0}
+
+abbrev pub IsPartDoing : Option OpenOp → Type 0
+IsPartDoing None = Unit {0}
+IsPartDoing (Some o) = IsPart o.awaits
+
 -- what it awaits now is a new call, or a page
 abbrev pub IsNewAwait : ProcState → ProcState → Await → Type 0
 IsNewAwait old new (Await.Answer c) = (c.waiting.number ≡ old.last + 1) × (new.last ≡ c.waiting.number)
@@ -59,14 +68,14 @@ told_of p old o number reply = record { proc = p; phase = old.phase; op = o.op; 
 pub data Progress (ask : Heard → Want) (p : ProcName) (tick : ℕ) (incoming : Incoming) (old new : ProcState) (note : Note) : Type 0 where
   opens : (op : Op) (a : Await) → ask old.heard ≡ Do op → old.doing ≡ None → new.doing ≡ Some (record { began = record { op = op; begun = record { tick = tick; node = p.node } }; awaits = a })
       → IsNewAwait old new a → IsUntold old new → note ≡ Note.Began p op → Progress ask p tick incoming old new note
-  goes_on : (o : BegunOp) (a b : Await) → old.doing ≡ Some (record { began = o; awaits = a }) → new.doing ≡ Some (record { began = o; awaits = b }) → IsNewAwait old new b → IsUntold old new → note ≡ Note.Nothing
+  goes_on : (o : BegunOp) (a b : Await) → IsPart a → old.doing ≡ Some (record { began = o; awaits = a }) → new.doing ≡ Some (record { began = o; awaits = b }) → IsNewAwait old new b → IsUntold old new → note ≡ Note.Nothing
       → Progress ask p tick incoming old new note
   again : (o : BegunOp) (c : Asked) → old.doing ≡ asking o c → new.doing ≡ asking o (noticed_call c) → new.last ≡ old.last → IsUntold old new → note ≡ Note.Nothing → Progress ask p tick incoming old new note
-  did : (op : Op) (reply : Reply) → ask old.heard ≡ Do op → IsEnd old new reply → note ≡ Note.Did p old.phase op reply → Progress ask p tick incoming old new note
+  did : (op : Op) (reply : Reply) → IsPartDoing old.doing → ask old.heard ≡ Do op → IsEnd old new reply → note ≡ Note.Did p old.phase op reply → Progress ask p tick incoming old new note
   told : (o : BegunOp) (c : Asked) (reply : Reply) → ask old.heard ≡ Do o.op → old.doing ≡ asking o c → IsEnd old new reply → note ≡ Note.Ended (told_of p old o c.waiting.number reply)
       → (is_fault reply ≡ true) ⊎ IsAnswered incoming p.number c → Progress ask p tick incoming old new note
-  pauses : ask old.heard ≡ Phase → new.doing ≡ None → new.last ≡ old.last → new.heard ≡ None ∷ old.heard → new.phase ≡ old.phase + 1 → note ≡ Note.Nothing → Progress ask p tick incoming old new note
-  is_done : ask old.heard ≡ Done → new.doing ≡ None → new.last ≡ old.last → new.heard ≡ old.heard → note ≡ Note.Nothing → Progress ask p tick incoming old new note
+  pauses : old.doing ≡ None → ask old.heard ≡ Phase → new.doing ≡ None → new.last ≡ old.last → new.heard ≡ None ∷ old.heard → new.phase ≡ old.phase + 1 → note ≡ Note.Nothing → Progress ask p tick incoming old new note
+  is_done : old.doing ≡ None → ask old.heard ≡ Done → new.doing ≡ None → new.last ≡ old.last → new.heard ≡ old.heard → note ≡ Note.Nothing → Progress ask p tick incoming old new note
 
 -- a home's decision, or nothing
 abbrev pub IsApart : Note → Type 0
