@@ -70,7 +70,7 @@ not-yet w n p last same x (Note.Decided q k ask answer) is = λ same_p same_k.
     past-call (last + 1) (w.calls n p) x.node ask (omega (arith, same))
     (subst (λ (r : ProcName). IsCallAt (w.calls r.node r.number) (last + 1) x.node ask) same_p (subst (λ j. IsCallAt (w.calls q.node q.number) j x.node ask) same_k is.1))
 
-same-ask : (o : Option Asked) (a b : ℕ) (x y : Ask) → AsksThis o a x → AsksThis o b y → x ≡ y
+pub same-ask : (o : Option Asked) (a b : ℕ) (x y : Ask) → AsksThis o a x → AsksThis o b y → x ≡ y
 same-ask None a b x y is other = absurd is
 same-ask (Some c) a b x y is other = sym is.1 ∙ other.1
 

@@ -9,3 +9,4 @@ mod HistoryEntries
 mod Rising
 mod Following
 mod Placing
+mod Lasting

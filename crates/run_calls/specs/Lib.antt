@@ -5,3 +5,4 @@ pub mod Placed
 pub mod Since
 pub mod Heard
 pub mod Entries
+pub mod LastCalls

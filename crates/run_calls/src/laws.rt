@@ -10,6 +10,7 @@ ghost use Rattle.node_runs.specs.Runs.{Choice, World, world_after, world_of};
 ghost use Rattle.node_runs.specs.RunHistories.{history_in, history_of};
 ghost use Rattle.run_calls.specs.DecidedReplies.{AreReplies};
 ghost use Rattle.run_calls.specs.Placed.{AreRisingNotes, AreEndsPlaced};
+ghost use Rattle.run_calls.specs.LastCalls.{AreLastCalls};
 ghost use Rattle.run_calls.specs.Heard.{AreHeard};
 ghost use Rattle.run_calls.specs.Entries.{AreRepliesHeard, AreAskedHeard, entries_after, heard_after};
 ghost use Rattle.node_runs.specs.FirstRun as one;
@@ -56,6 +57,12 @@ pub fn open_operations_stand_last()
 pub fn entries_stand_within_their_operations()
     ensures ends { (s : Setup) → IsSetup s → (cs : List Choice) (w : World) → world_after s cs ≡ Some w → IsTimely w → AreEndsPlaced w.trace }
     ensures rising { (s : Setup) (cs : List Choice) (w : World) → world_after s cs ≡ Some w → AreRisingNotes w.trace }
+{}
+
+/// In every run in which no tick is above 2^40: a call that settles its operation, of a lock, an unlock, a removal, a new
+/// object or a list, is open, or was the last call of its operation.
+pub fn each_operation_is_settled_by_its_last_call()
+    ensures { (s : Setup) → IsSetup s → (cs : List Choice) (w : World) → world_after s cs ≡ Some w → IsTimely w → AreLastCalls w }
 {}
 
 /// In every run the items of the history rise: no place has two entries or acts.
