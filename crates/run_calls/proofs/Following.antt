@@ -36,7 +36,7 @@ use Rattle.run_calls.proofs.Slots.{same_proc-refl}
 use Rattle.run_calls.proofs.HearingRuns.{heard-are}
 use Rattle.run_calls.proofs.HistoryEntries.{history-entries, asked-heard}
 
-EachOf-append : {A : Type 0} (P : A → Type 0) (xs ys : List A) → EachOf P xs → EachOf P ys → EachOf P (xs ++ ys)
+pub EachOf-append : {A : Type 0} (P : A → Type 0) (xs ys : List A) → EachOf P xs → EachOf P ys → EachOf P (xs ++ ys)
 EachOf-append P [] ys is more = more
 EachOf-append P (x ∷ xs) ys is more = (is.0, EachOf-append P xs ys is.1 more)
 

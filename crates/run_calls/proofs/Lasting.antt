@@ -82,6 +82,10 @@ module _ (old : World) (k : ℕ) (step_procs : ℕ → ProcState) where
     ]
   ]
 
+-- each call is of one of the four processes
+abbrev AreOwnCalls : World → Type 0
+AreOwnCalls w = (n p number home : ℕ) (ask : Ask) → IsCallAt (w.calls n p) number home ask → IsProc p
+
 module _ (s : Setup) (setup : IsSetup s) (old : World) (c : Choice) (new : World) (next : IsKeptNext s old c new) (heard : AreHeard s old) (last_calls : AreLastCalls old) where
   abbrev m : NodeState
   m = acting s setup old c new next heard
@@ -134,8 +138,16 @@ module _ (s : Setup) (setup : IsSetup s) (old : World) (c : Choice) (new : World
     ]
   ]
 
+  -- a call is of one of the four processes
+  owned : AreOwnCalls old → AreOwnCalls after
+  owned own a q number home ask call = elim (known number home ask a q call) [ inl before ↦ own a q number home ask before | inr fresh ↦ fresh.1 ]
+
 module _ (s : Setup) (setup : IsSetup s) where
   -- in every run
   pub last-calls-are : (cs : List Choice) (w : World) → world_after s cs ≡ Some w → IsTimely w → AreLastCalls w
   last-calls-are = every-kept-run s setup (setup-procs s setup) AreLastCalls (λ n p proc number home ask call settling. absurd call)
       (λ cs old c new e timely next last_calls. subst AreLastCalls (sym next.is.world) (lasting s setup old c new next (heard-are s setup (setup-procs s setup) cs old e timely) last_calls))
+
+  pub calls-of-procs : (cs : List Choice) (w : World) → world_after s cs ≡ Some w → IsTimely w → AreOwnCalls w
+  calls-of-procs = every-kept-run s setup (setup-procs s setup) AreOwnCalls (λ n p number home ask call. absurd call)
+      (λ cs old c new e timely next own. subst AreOwnCalls (sym next.is.world) (owned s setup old c new next (heard-are s setup (setup-procs s setup) cs old e timely) (last-calls-are cs old e timely) own))

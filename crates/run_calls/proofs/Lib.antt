@@ -10,3 +10,4 @@ mod Rising
 mod Following
 mod Placing
 mod Lasting
+mod Acting

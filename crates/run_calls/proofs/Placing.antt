@@ -41,7 +41,7 @@ module _ (p : ProcName) (o : BegunOp) (so_far : List Told) where
   began-no c note same is = subst (IsDecisionOf p c.waiting.number) same is
 
   -- each decision on the open call stands behind that
-  since-behind : (c : Asked) (notes : List Noted) → Since p o (Await.Answer c) so_far notes → AreRisingNotes notes → EachOf (λ (j : Noted). IsDecisionOf p c.waiting.number j.note → place_lt o.begun j.place ≡ true) notes
+  pub since-behind : (c : Asked) (notes : List Noted) → Since p o (Await.Answer c) so_far notes → AreRisingNotes notes → EachOf (λ (j : Noted). IsDecisionOf p c.waiting.number j.note → place_lt o.begun j.place ≡ true) notes
   since-behind c [] is rising = elim is [ ]
   since-behind c (m ∷ older) (here place note apart none) rising =
       ((λ is. absurd (began-no c m.note note is)),

@@ -6,3 +6,4 @@ pub mod Since
 pub mod Heard
 pub mod Entries
 pub mod LastCalls
+pub mod Acts

@@ -11,6 +11,8 @@ ghost use Rattle.node_runs.specs.RunHistories.{history_in, history_of};
 ghost use Rattle.run_calls.specs.DecidedReplies.{AreReplies};
 ghost use Rattle.run_calls.specs.Placed.{AreRisingNotes, AreEndsPlaced};
 ghost use Rattle.run_calls.specs.LastCalls.{AreLastCalls};
+ghost use Rattle.node_runs.specs.CallsKeep.{EachOf};
+ghost use Rattle.run_calls.specs.Acts.{IsBehindBegin};
 ghost use Rattle.run_calls.specs.Heard.{AreHeard};
 ghost use Rattle.run_calls.specs.Entries.{AreRepliesHeard, AreAskedHeard, entries_after, heard_after};
 ghost use Rattle.node_runs.specs.FirstRun as one;
@@ -63,6 +65,11 @@ pub fn entries_stand_within_their_operations()
 /// object or a list, is open, or was the last call of its operation.
 pub fn each_operation_is_settled_by_its_last_call()
     ensures { (s : Setup) → IsSetup s → (cs : List Choice) (w : World) → world_after s cs ≡ Some w → IsTimely w → AreLastCalls w }
+{}
+
+/// In every run in which no tick is above 2^40 each act in the history stands behind the Begin of its operation.
+pub fn acts_stand_behind_the_begin()
+    ensures { (s : Setup) → IsSetup s → (cs : List Choice) (w : World) → world_after s cs ≡ Some w → IsTimely w → EachOf IsBehindBegin (history_in s w).items }
 {}
 
 /// In every run the items of the history rise: no place has two entries or acts.
