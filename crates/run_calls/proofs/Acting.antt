@@ -1,6 +1,6 @@
 -- In every run each act stands behind the Begin of its operation.
-use Rattle.std.proofs.Common.{◌≡◌, ℕ, Bool, true, false, List, [], ◌∷◌, ◌++◌, Option, Some, None, IfSome, inl, inr, refl, sym, ap, subst, ◌∙◌}
-use Rattle.std.specs.Prelude.{◌⊎◌, ◌&&◌, ◌==◌, if◌then◌else◌}
+use Rattle.std.proofs.Common.{◌≡◌, ℕ, Bool, true, false, List, [], ◌∷◌, Option, Some, None, IfSome, inl, inr, refl, sym, ap, subst, ◌∙◌}
+use Rattle.std.specs.Prelude.{◌&&◌, ◌==◌, if◌then◌else◌}
 use Rattle.std.proofs.lemmas.Bool.{eq-eqb}
 use Rattle.uid_names.proofs.ListLemmas.{by_cases}
 use Rattle.uid_names.proofs.Orders.{same_proc_is}
@@ -8,7 +8,7 @@ use Rattle.uid_names.specs.Names.{ProcName, same_proc}
 use Rattle.uid_names.specs.declared.ids.Place.{Place}
 use Rattle.dom_history.specs.declared.op.Op.{Op}
 use Rattle.dom_history.specs.declared.op.Reply.{Reply}
-use Rattle.dom_history.specs.Histories.{Item, SomeOf, place_lt}
+use Rattle.dom_history.specs.Histories.{SomeOf, place_lt}
 use Rattle.ring_messages.specs.Bodies.{Ask, Answer}
 use Rattle.fault_handler.specs.Invariant.{IsProc}
 use Rattle.node_runs.specs.Setups.{Setup, IsSetup}
@@ -17,15 +17,14 @@ use Rattle.node_runs.specs.Notes.{Told, Note}
 use Rattle.node_runs.specs.NodesKeep.{IsTimely}
 use Rattle.node_runs.specs.Runs.{World, Noted, Choice, world_after}
 use Rattle.node_runs.specs.RunHistories.{is_fault, change_reply, act_item, fault_item, begun_item, told_item, open_item, settled_item, decided_item, settled_op, ended_at, ended_by, told_by, all_told, doing_of, items_of, items_from, history_in}
-use Rattle.node_runs.specs.CallsKeep.{IsCallAt, EachOf}
+use Rattle.node_runs.specs.CallsKeep.{EachOf}
 use Rattle.node_runs.specs.DecidedCalls.{IsDecided}
 use Rattle.node_runs.proofs.Bools.{left-true, right-true, equal}
 use Rattle.node_runs.proofs.Receiving.{EachOf-more}
 use Rattle.node_runs.proofs.SettingUp.{setup-procs}
 use Rattle.node_runs.proofs.Decisions.{decisions-are}
-use Rattle.run_calls.specs.Progress.{IsSettling}
 use Rattle.run_calls.specs.DecidedReplies.{proc_at, IsDecisionOf}
-use Rattle.run_calls.specs.Placed.{AreRisingNotes, IsBegin, IsEndOf, IsPlaced, AreEndsPlaced}
+use Rattle.run_calls.specs.Placed.{AreRisingNotes, IsBegin, IsPlaced, AreEndsPlaced}
 use Rattle.run_calls.specs.Heard.{IsOpenSince, IsDoingSince}
 use Rattle.run_calls.specs.LastCalls.{HasNumber, IsOpenNumber, IsOpenOrTold}
 use Rattle.run_calls.specs.Acts.{IsBehindBegin}
@@ -94,10 +93,10 @@ own-behind m (Note.Decided p number ask answer) same = tt
 all-behind : (notes : List Noted) → AreEndsPlaced notes → AreRisingNotes notes → EachOf (λ (j : Noted). EachOf (IsBehind j) (all_told notes)) notes
 all-behind [] ends rising = tt
 all-behind (m ∷ older) ends rising = (
-    EachOf-append (IsBehind m) (told_by m.note) (all_told older) (own-behind m m.note refl)
-    (EachOf-more (HasBegun older) (IsBehind m) (all_told older) (λ t begun is. SomeOf-place (λ x. place_lt x m.place ≡ true) t.proc t.op t.begun older begun rising.0) (told-begun older ends.1)),
-    EachOf-both (λ (j : Noted). EachOf (IsBehind j) (told_by m.note)) (λ (j : Noted). EachOf (IsBehind j) (all_told older)) (λ (j : Noted). EachOf (IsBehind j) (all_told (m ∷ older))) older
-    (λ j a b. EachOf-append (IsBehind j) (told_by m.note) (all_told older) a b) (placed-behind m.note older ends.0) (all-behind older ends.1 rising.1),
+  EachOf-append (IsBehind m) (told_by m.note) (all_told older) (own-behind m m.note refl)
+      (EachOf-more (HasBegun older) (IsBehind m) (all_told older) (λ t begun is. SomeOf-place (λ x. place_lt x m.place ≡ true) t.proc t.op t.begun older begun rising.0) (told-begun older ends.1)),
+  EachOf-both (λ (j : Noted). EachOf (IsBehind j) (told_by m.note)) (λ (j : Noted). EachOf (IsBehind j) (all_told older)) (λ (j : Noted). EachOf (IsBehind j) (all_told (m ∷ older))) older
+      (λ j a b. EachOf-append (IsBehind j) (told_by m.note) (all_told older) a b) (placed-behind m.note older ends.0) (all-behind older ends.1 rising.1),
 )
 
 -- a call of which nobody was told

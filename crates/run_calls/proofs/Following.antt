@@ -1,6 +1,6 @@
 -- The history of a run follows its programs, with what is open.
-use Rattle.std.proofs.Common.{◌≡◌, ℕ, zero, suc, ◌+◌, ◌≤◌, Bool, true, false, List, [], ◌∷◌, ◌++◌, Option, Some, None, IfSome, inl, inr, refl, sym, ap, subst, ◌∙◌, arith}
-use Rattle.std.specs.Prelude.{All, map, filter, if◌then◌else◌, nat_le, ◌&&◌, ◌⊎◌}
+use Rattle.std.proofs.Common.{◌≡◌, ℕ, zero, suc, ◌≤◌, Bool, true, false, List, [], ◌∷◌, ◌++◌, Option, Some, None, IfSome, refl, sym, ap, subst, ◌∙◌, arith}
+use Rattle.std.specs.Prelude.{All, map, filter, if◌then◌else◌, nat_le, ◌&&◌}
 use Rattle.std.specs.List.{find, AllByRecursion}
 use Rattle.std.proofs.lemmas.List.Elements.{All-from_recursion}
 use Rattle.std.proofs.lemmas.Bool.Decides.{nat_tests}
@@ -14,11 +14,11 @@ use Rattle.dom_history.specs.declared.op.Want.TheVariants.{Do}
 use Rattle.dom_history.specs.Events.{Happening}
 use Rattle.dom_history.specs.Objects.{is_node}
 use Rattle.dom_history.specs.Histories.{Pending, entries}
-use Rattle.dom_history.specs.Follows.{Heard, Reaches, starts, entries_of, open_of, FollowsAt, Follows}
+use Rattle.dom_history.specs.Follows.{Reaches, starts, entries_of, open_of, FollowsAt, Follows}
 use Rattle.fault_handler.specs.Desks.{procs}
 use Rattle.fault_handler.specs.Invariant.{IsProc}
 use Rattle.fault_handler.proofs.Fours.{first, second, third, fourth}
-use Rattle.node_runs.specs.Setups.{Setup, IsSetup, given}
+use Rattle.node_runs.specs.Setups.{Setup, IsSetup}
 use Rattle.node_runs.specs.NodeStates.{OpenOp, proc_of}
 use Rattle.node_runs.specs.Notes.{Told, Note}
 use Rattle.node_runs.specs.Runs.{Noted, World, Choice, choice_of, world_after, world_of}
@@ -29,7 +29,7 @@ use Rattle.node_runs.specs.RunHistories.{is_fault, settled_op, told_by, ended_at
 use Rattle.node_runs.proofs.Receiving.{EachOf-more}
 use Rattle.node_runs.proofs.SettingUp.{setup-procs}
 use Rattle.node_runs.proofs.Running.{run-keeps}
-use Rattle.run_calls.specs.NotedEntries.{entry_of, entry_if, begun_entry, decided_entry, entries_at, noted_entries}
+use Rattle.run_calls.specs.NotedEntries.{entry_if, begun_entry, decided_entry, entries_at, noted_entries}
 use Rattle.run_calls.specs.DecidedReplies.{proc_at}
 use Rattle.run_calls.specs.Heard.{IsOfProc}
 use Rattle.run_calls.proofs.Slots.{same_proc-refl}

@@ -26,7 +26,7 @@ use Rattle.node_runs.proofs.Receiving.{EachOf-more}
 use Rattle.run_calls.specs.NotedEntries.{entry_of, begun_entry, entries_at, noted_entries}
 use Rattle.run_calls.specs.Progress.{IsAnswered, IsNewAwait, IsUntold, IsEnd, told_of, Progress, opens, goes_on, again, did, told, pauses, is_done}
 use Rattle.run_calls.specs.Placed.{IsSettledBy}
-use Rattle.run_calls.specs.Since.{IsUndecided, Since, here, later}
+use Rattle.run_calls.specs.Since.{IsUndecided, here, later}
 use Rattle.run_calls.specs.Heard.{IsLastCall, IsOpenSince, IsDoingSince, IsHeardAt}
 use Rattle.run_calls.proofs.Slots.{IsNew, place-is, same_proc-refl}
 use Rattle.run_calls.proofs.Walks.{entries-append, Inserted, others-noted, since-others, walk-fault, walk-settled, since-awaits, since-same}
@@ -114,9 +114,9 @@ await-last old new (Await.Page u k) is = omega (arith, is)
 
 await-call : (p : ProcName) (so_far : List Told) (tick : ℕ) (old new : ProcState) (a : Await) → IsNewAwait old new a → EachOf (λ (t : Told). t.proc ≡ p → (t.number ≤ old.last) × (t.begun.tick ≤ tick)) so_far → IsLastCall p so_far new.last a
 await-call p so_far tick old new (Await.Answer c) is each = (
-    sym is.1,
-    EachOf-more (λ (t : Told). t.proc ≡ p → (t.number ≤ old.last) × (t.begun.tick ≤ tick)) (λ (t : Told). t.proc ≡ p → t.number < c.waiting.number) so_far
-    (λ t was same. let e = (was same).0 in let f = is.0 in omega (arith, e, f)) each,
+  sym is.1,
+  EachOf-more (λ (t : Told). t.proc ≡ p → (t.number ≤ old.last) × (t.begun.tick ≤ tick)) (λ (t : Told). t.proc ≡ p → t.number < c.waiting.number) so_far
+      (λ t was same. let e = (was same).0 in let f = is.0 in omega (arith, e, f)) each,
 )
 await-call p so_far tick old new (Await.Page u k) is each = tt
 

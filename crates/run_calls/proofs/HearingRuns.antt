@@ -1,33 +1,30 @@
 -- In every run each process's entries have what its program asked and heard.
-use Rattle.std.proofs.Common.{◌≡◌, ◌≢◌, ℕ, ◌+◌, ◌<◌, ◌≤◌, Bool, true, false, List, [], ◌∷◌, ◌++◌, length, Option, Some, None, inl, inr, refl, sym, ap, subst, ◌∙◌, arith}
-use Rattle.std.specs.Prelude.{◌⊎◌, ◌&&◌, ◌==◌, not, max, if◌then◌else◌}
+use Rattle.std.proofs.Common.{◌≡◌, ◌≢◌, ℕ, ◌+◌, ◌<◌, ◌≤◌, false, List, [], ◌∷◌, ◌++◌, length, Option, Some, None, inl, inr, refl, sym, ap, subst, ◌∙◌, arith}
+use Rattle.std.specs.Prelude.{◌&&◌, ◌==◌, not, if◌then◌else◌}
 use Rattle.std.proofs.lemmas.Bool.{cases_eq}
 use Rattle.std.proofs.lemmas.Bool.Decides.{nat_tests}
 use Rattle.uid_names.proofs.ListLemmas.{by_cases}
 use Rattle.uid_names.proofs.Orders.{same_proc_is}
 use Rattle.uid_names.specs.Names.{ProcName, same_proc}
 use Rattle.uid_names.specs.declared.ids.Place.{Place}
-use Rattle.dom_history.specs.declared.event.What.{What}
 use Rattle.dom_history.specs.declared.op.Entry.{Entry}
 use Rattle.dom_history.specs.declared.op.Op.{Op}
 use Rattle.dom_history.specs.declared.op.Reply.{Reply}
 use Rattle.dom_history.specs.Histories.{SomeOf}
-use Rattle.dom_history.specs.Follows.{Heard, starts, entries_of}
-use Rattle.ring_messages.specs.Bodies.{Ask, Answer, ask_of}
-use Rattle.ring_messages.specs.Frames.{Message}
-use Rattle.fault_handler.specs.Desks.{at}
+use Rattle.dom_history.specs.Follows.{starts, entries_of}
+use Rattle.ring_messages.specs.Bodies.{Ask, ask_of}
 use Rattle.fault_handler.specs.Invariant.{IsProc}
 use Rattle.fault_handler.proofs.Fours.{by_proc}
 use Rattle.node_runs.specs.Setups.{Setup, IsSetup, Given, given}
-use Rattle.node_runs.specs.NodeStates.{Asked, Await, BegunOp, OpenOp, ProcState, NodeState, first_proc, first_node, proc_of, name_of}
-use Rattle.node_runs.specs.Incomings.{Incoming, tick_of}
+use Rattle.node_runs.specs.NodeStates.{Asked, Await, BegunOp, ProcState, NodeState, first_proc, first_node, proc_of, name_of}
+use Rattle.node_runs.specs.Incomings.{Incoming}
 use Rattle.node_runs.specs.Notes.{Told, Note}
 use Rattle.node_runs.specs.Doings.{ticked}
 use Rattle.node_runs.specs.Dones.{asking}
 use Rattle.node_runs.specs.Outcomes.{Stepped}
-use Rattle.node_runs.specs.NodesKeep.{IsNodeOf, IsTimely}
+use Rattle.node_runs.specs.NodesKeep.{IsTimely}
 use Rattle.node_runs.specs.Runs.{World, Noted, Choice, first_world, numbered, then_next, world_with, world_after}
-use Rattle.node_runs.specs.RunHistories.{is_fault, settled_op, told_by, all_told, ended_by}
+use Rattle.node_runs.specs.RunHistories.{settled_op, told_by, all_told, ended_by}
 use Rattle.node_runs.specs.CallsKeep.{HasProcs, AsksThis, IsCallAt, EachOf, IsOpenAt, AreCalls}
 use Rattle.node_runs.specs.DecidedCalls.{IsDecided, IsOther, IsFirst, AreDecidedOnce, AreDecisions}
 use Rattle.node_runs.proofs.Somes.{some-is}
@@ -35,7 +32,7 @@ use Rattle.node_runs.proofs.Bools.{left-true, right-true, equal}
 use Rattle.node_runs.proofs.SettingUp.{given-procs, setup-gives}
 use Rattle.node_runs.proofs.Doing.{step_of-did}
 use Rattle.node_runs.proofs.Ticks.{step_of-tick}
-use Rattle.node_runs.proofs.Receiving.{EachOf-more, numbered-each, incoming-is}
+use Rattle.node_runs.proofs.Receiving.{EachOf-more, incoming-is}
 use Rattle.node_runs.proofs.Calls.{put-same, put-other, calls-are}
 use Rattle.node_runs.proofs.CallSteps.{IsFrameProc}
 use Rattle.node_runs.proofs.Decisions.{decisions-are}
@@ -43,10 +40,10 @@ use Rattle.node_runs.proofs.Running.{AreKept, run-keeps}
 use Rattle.node_runs.proofs.Worlds.{IsNext, place_at, next-is}
 use Rattle.run_calls.specs.NotedEntries.{entry_if, begun_entry, decided_entry, entries_at}
 use Rattle.run_calls.specs.Progress.{IsSettling, IsAnswered, Progress, opens, goes_on, again, did, told, pauses, is_done, IsApart, ProcStep, rests, comes, told_of}
-use Rattle.run_calls.specs.DecidedReplies.{proc_at, IsDecisionOf, WasDecided, IsReplyOf, AreReplies}
+use Rattle.run_calls.specs.DecidedReplies.{proc_at, IsDecisionOf, WasDecided, AreReplies}
 use Rattle.run_calls.specs.Placed.{IsSettledBy}
 use Rattle.run_calls.specs.Heard.{IsHeardAt, IsToldOf, IsOfProc, AreHeard}
-use Rattle.run_calls.proofs.Slots.{IsNew, same_proc-refl}
+use Rattle.run_calls.proofs.Slots.{IsNew}
 use Rattle.run_calls.proofs.Walks.{settled-decides, first-other, others-not, SomeOf-more}
 use Rattle.run_calls.proofs.Replies.{replies-are}
 use Rattle.run_calls.proofs.Progressing.{did-progress}
@@ -174,9 +171,11 @@ module _ (s : Setup) (setup : IsSetup s) (old : World) (c : Choice) (new : World
   apart-none (Note.Began q op) same is = absurd is
   apart-none (Note.Did q phase op reply) same is = absurd is
   apart-none (Note.Ended t) same is = absurd is
-  apart-none (Note.Decided q k ask answer) same is =
-      (refl, decided-none (place_at c step) q k (settled_op c.node ask) old.trace so_far heard.decided
-      (first-other q k (Note.Decided q k ask answer) old.trace (refl, refl) (subst (λ (x : Note). IsFirst x old.trace) (sym same) first)))
+  apart-none (Note.Decided q k ask answer) same is = (
+    refl,
+    decided-none (place_at c step) q k (settled_op c.node ask) old.trace so_far heard.decided
+        (first-other q k (Note.Decided q k ask answer) old.trace (refl, refl) (subst (λ (x : Note). IsFirst x old.trace) (sym same) first)),
+  )
     where
       first : IsFirst step.note old.trace
       first = (subst (λ (w : World). AreDecidedOnce w.trace) next.is.world next.once).0

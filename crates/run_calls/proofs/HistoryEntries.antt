@@ -1,7 +1,6 @@
 -- The history of a run has the entries of its notes, each at the place of its note.
-use Rattle.std.proofs.Common.{◌≡◌, ℕ, Bool, true, false, List, [], ◌∷◌, ◌++◌, Option, Some, None, inl, inr, refl, sym, ap, subst, ◌∙◌, arith, map}
-use Rattle.std.specs.Prelude.{◌⊎◌, not, All, IsTrue, ◌||◌, ◌&&◌, ◌==◌, nat_lt}
-use Rattle.std.proofs.lemmas.Bool.Decides.{nat_tests}
+use Rattle.std.proofs.Common.{◌≡◌, ℕ, Bool, true, false, List, [], ◌∷◌, ◌++◌, Option, Some, None, refl, sym, ap, subst, ◌∙◌, map}
+use Rattle.std.specs.Prelude.{not}
 use Rattle.uid_names.specs.Names.{ProcName}
 use Rattle.uid_names.specs.declared.ids.Place.{Place}
 use Rattle.dom_history.specs.declared.op.Entry.{Entry}
@@ -11,12 +10,12 @@ use Rattle.dom_history.specs.Histories.{Item, Answered, Acted, entries}
 use Rattle.dom_history.specs.Follows.{Heard, Reaches, starts, answered, passed, entries_of}
 use Rattle.dom_history.specs.declared.op.Want.{Want}
 use Rattle.ring_messages.specs.Bodies.{Answer}
-use Rattle.node_runs.specs.Setups.{Setup, IsSetup, given}
+use Rattle.node_runs.specs.Setups.{Setup, IsSetup}
 use Rattle.node_runs.specs.NodeStates.{OpenOp, proc_of}
 use Rattle.node_runs.specs.Notes.{Told, Note}
 use Rattle.node_runs.specs.Runs.{Noted, World, Choice, world_after}
 use Rattle.node_runs.specs.NodesKeep.{IsTimely}
-use Rattle.node_runs.specs.RunHistories.{is_fault, change_reply, act_item, fault_item, begun_item, told_item, open_item, settled_item, decided_item, settled_op, ended_at, ended_by, doing_of, items_of, items_from, all_told}
+use Rattle.node_runs.specs.RunHistories.{is_fault, change_reply, act_item, fault_item, begun_item, told_item, open_item, decided_item, settled_op, ended_at, ended_by, doing_of, items_of, items_from, all_told}
 use Rattle.node_runs.proofs.SettingUp.{setup-procs}
 use Rattle.run_calls.specs.NotedEntries.{entry_if, begun_entry, decided_entry, entries_at, noted_entries}
 use Rattle.run_calls.specs.Entries.{replies_in, AreRepliesHeard, AreAskedHeard}

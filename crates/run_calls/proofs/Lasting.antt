@@ -1,5 +1,5 @@
 -- In every run the call that settles an operation is its last one.
-use Rattle.std.proofs.Common.{◌≡◌, ◌≢◌, ℕ, ◌+◌, List, [], ◌∷◌, ◌++◌, length, Option, Some, None, inl, inr, refl, sym, ap, subst, ◌∙◌, arith}
+use Rattle.std.proofs.Common.{◌≡◌, ◌≢◌, ℕ, ◌+◌, List, [], ◌∷◌, ◌++◌, length, Option, Some, None, inl, inr, refl, sym, ap, subst, ◌∙◌}
 use Rattle.std.specs.Prelude.{◌⊎◌, ◌==◌, if◌then◌else◌}
 use Rattle.std.proofs.lemmas.Bool.{cases_eq}
 use Rattle.uid_names.proofs.ListLemmas.{by_cases}
@@ -11,12 +11,12 @@ use Rattle.ring_messages.specs.Bodies.{Ask}
 use Rattle.ring_messages.specs.Frames.{Message}
 use Rattle.fault_handler.specs.Invariant.{IsProc}
 use Rattle.node_runs.specs.Setups.{Setup, IsSetup, given}
-use Rattle.node_runs.specs.NodeStates.{Asked, Await, BegunOp, OpenOp, ProcState, NodeState, proc_of, name_of}
+use Rattle.node_runs.specs.NodeStates.{Asked, Await, BegunOp, OpenOp, ProcState, NodeState, proc_of}
 use Rattle.node_runs.specs.Incomings.{Incoming}
 use Rattle.node_runs.specs.Notes.{Told, Note}
 use Rattle.node_runs.specs.Dones.{asking}
 use Rattle.node_runs.specs.NodesKeep.{IsTimely}
-use Rattle.node_runs.specs.Runs.{World, Noted, Choice, first_world, put, numbered, calls_after, world_with, world_after}
+use Rattle.node_runs.specs.Runs.{World, Choice, numbered, calls_after, world_with, world_after}
 use Rattle.node_runs.specs.RunHistories.{told_by, all_told}
 use Rattle.node_runs.specs.CallsKeep.{AsksThis, IsCallAt, IsOpenAt, IsOnLink}
 use Rattle.node_runs.proofs.Bools.{equal}

@@ -1,24 +1,23 @@
 -- In every run each operation's entry stands between its Begin and its end.
-use Rattle.std.proofs.Common.{◌≡◌, ℕ, Bool, true, false, List, [], ◌∷◌, Option, Some, None, inl, inr, refl, sym, ap, subst, ◌∙◌}
+use Rattle.std.proofs.Common.{◌≡◌, ℕ, true, List, [], ◌∷◌, Some, inl, inr, sym, subst}
 use Rattle.std.specs.Prelude.{◌⊎◌}
 use Rattle.uid_names.specs.Names.{ProcName}
 use Rattle.uid_names.specs.declared.ids.Place.{Place}
 use Rattle.dom_history.specs.declared.op.Reply.{Reply}
 use Rattle.dom_history.specs.Histories.{SomeOf, place_lt}
-use Rattle.fault_handler.specs.Invariant.{IsProc}
 use Rattle.node_runs.specs.Setups.{Setup, IsSetup, given}
-use Rattle.node_runs.specs.NodeStates.{Asked, Await, BegunOp, NodeState, proc_of, name_of}
+use Rattle.node_runs.specs.NodeStates.{Asked, Await, BegunOp, proc_of, name_of}
 use Rattle.node_runs.specs.Notes.{Told, Note}
 use Rattle.node_runs.specs.NodesKeep.{IsTimely}
-use Rattle.node_runs.specs.Runs.{World, Noted, Choice, first_world, world_after}
+use Rattle.node_runs.specs.Runs.{World, Noted, Choice, world_after}
 use Rattle.node_runs.specs.RunHistories.{is_fault}
 use Rattle.node_runs.specs.CallsKeep.{EachOf}
 use Rattle.node_runs.proofs.Receiving.{EachOf-more}
 use Rattle.node_runs.proofs.SettingUp.{setup-procs}
-use Rattle.run_calls.specs.Progress.{IsAnswered, Progress, opens, goes_on, again, did, told, pauses, is_done, IsApart, ProcStep, rests, comes, told_of}
+use Rattle.run_calls.specs.Progress.{Progress, opens, goes_on, again, did, told, pauses, is_done, IsApart, ProcStep, rests, comes}
 use Rattle.run_calls.specs.DecidedReplies.{proc_at, IsDecisionOf}
 use Rattle.run_calls.specs.Since.{Since, here, later}
-use Rattle.run_calls.specs.Heard.{IsOpenSince, AreHeard}
+use Rattle.run_calls.specs.Heard.{AreHeard}
 use Rattle.run_calls.specs.Placed.{IsSettledBy, AreRisingNotes, IsBegin, IsDecidedBehind, IsEndOf, IsPlaced, AreEndsPlaced}
 use Rattle.run_calls.proofs.Walks.{other-not, settled-decides}
 use Rattle.run_calls.proofs.Hearing.{open-since}
@@ -43,9 +42,10 @@ module _ (p : ProcName) (o : BegunOp) (so_far : List Told) where
   -- each decision on the open call stands behind that
   pub since-behind : (c : Asked) (notes : List Noted) → Since p o (Await.Answer c) so_far notes → AreRisingNotes notes → EachOf (λ (j : Noted). IsDecisionOf p c.waiting.number j.note → place_lt o.begun j.place ≡ true) notes
   since-behind c [] is rising = elim is [ ]
-  since-behind c (m ∷ older) (here place note apart none) rising =
-      ((λ is. absurd (began-no c m.note note is)),
-      EachOf-more _ (λ (j : Noted). IsDecisionOf p c.waiting.number j.note → place_lt o.begun j.place ≡ true) older (λ j other is. absurd (other-not p c.waiting.number j.note other is)) none)
+  since-behind c (m ∷ older) (here place note apart none) rising = (
+    (λ is. absurd (began-no c m.note note is)),
+    EachOf-more _ (λ (j : Noted). IsDecisionOf p c.waiting.number j.note → place_lt o.begun j.place ≡ true) older (λ j other is. absurd (other-not p c.waiting.number j.note other is)) none,
+  )
   since-behind c (m ∷ older) (later place none since) rising =
       ((λ is. since-place (Await.Answer c) (λ x. place_lt x m.place ≡ true) older since rising.0), since-behind c older since rising.1)
 

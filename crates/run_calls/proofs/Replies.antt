@@ -1,5 +1,5 @@
 -- In every run each reply on a link has its decision.
-use Rattle.std.proofs.Common.{◌≡◌, ℕ, Bool, true, false, List, ◌∷◌, Option, Some, None, inl, inr, refl, sym, ap, subst, ◌∙◌, arith}
+use Rattle.std.proofs.Common.{◌≡◌, ℕ, true, List, ◌∷◌, Option, Some, None, inl, inr, refl, sym, ap, subst, ◌∙◌, arith}
 use Rattle.std.specs.Prelude.{IfSome, if◌then◌else◌, ◌==◌, nat_lt, ◌&&◌, unwrap_or}
 use Rattle.std.proofs.lemmas.Bool.{cases_eq}
 use Rattle.std.proofs.lemmas.Bool.Decides.{nat_tests}
@@ -7,7 +7,6 @@ use Rattle.uid_names.proofs.ListLemmas.{by_cases}
 use Rattle.uid_names.specs.Names.{ProcName, ObjectName, same_proc}
 use Rattle.uid_names.proofs.Orders.{same_proc_is}
 use Rattle.dom_history.specs.declared.event.What.{What}
-use Rattle.dom_history.specs.Histories.{SomeOf}
 use Rattle.call_once.specs.declared.served.Looked.{Looked}
 use Rattle.call_once.specs.declared.served.Looked.TheVariants.{Fresh, Again, Old}
 use Rattle.call_once.specs.Calls.{Call, call_of, body_in, number_in, last_of, looked, with_call}
@@ -20,13 +19,13 @@ use Rattle.page_server.specs.Serving.{serve_as, serve_of, reply_to}
 use Rattle.fault_handler.specs.Desks.{DeskState}
 use Rattle.fault_handler.specs.Outcomes.{Turn, Moved}
 use Rattle.node_runs.specs.Setups.{Setup, Given, given}
-use Rattle.node_runs.specs.NodeStates.{Asked, BegunOp, NodeState, proc_of}
+use Rattle.node_runs.specs.NodeStates.{BegunOp, NodeState, proc_of}
 use Rattle.node_runs.specs.Incomings.{Incoming}
 use Rattle.node_runs.specs.Notes.{Note}
 use Rattle.node_runs.specs.Outcomes.{Stepped, Stage, request, next_call, turned, dropping, moved}
-use Rattle.node_runs.specs.Doings.{ticked, begun_at, stage_of, noticed_call, served_note, in_next_phase, others_marked}
+use Rattle.node_runs.specs.Doings.{ticked, begun_at, stage_of, noticed_call, served_note, others_marked}
 use Rattle.node_runs.specs.Dones.{Did, paused, finished, began, resumed, served, passed_over, heard, ignored, resent, gave_up, got_ready, marked}
-use Rattle.node_runs.specs.Runs.{World, Noted, Choice, first_world, frames_after, world_with, world_after}
+use Rattle.node_runs.specs.Runs.{World, Choice, frames_after, world_with, world_after}
 use Rattle.node_runs.specs.CallsKeep.{EachOf}
 use Rattle.node_runs.proofs.Doing.{step_of-did}
 use Rattle.node_runs.proofs.Sides.{next-side}

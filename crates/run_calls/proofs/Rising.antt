@@ -1,6 +1,6 @@
 -- The items of a run's history rise: each stands at the place of its note, and no place has two.
-use Rattle.std.proofs.Common.{◌≡◌, ℕ, Bool, true, false, List, [], ◌∷◌, ◌++◌, Option, Some, None, inl, inr, refl, sym, ap, subst, ◌∙◌, arith}
-use Rattle.std.specs.Prelude.{◌⊎◌, All, IsTrue, ◌||◌, ◌&&◌, ◌==◌, nat_lt}
+use Rattle.std.proofs.Common.{◌≡◌, Bool, true, false, List, [], ◌∷◌, ◌++◌, Option, Some, None, refl, sym, ap, subst, ◌∙◌, arith}
+use Rattle.std.specs.Prelude.{All, IsTrue}
 use Rattle.std.specs.List.{AllByRecursion}
 use Rattle.std.proofs.lemmas.List.Elements.{All-from_recursion}
 use Rattle.std.proofs.lemmas.Bool.Decides.{nat_tests}
@@ -8,15 +8,14 @@ use Rattle.uid_names.specs.Names.{ProcName}
 use Rattle.uid_names.specs.declared.ids.Place.{Place}
 use Rattle.dom_history.specs.declared.op.Op.{Op}
 use Rattle.dom_history.specs.declared.op.Reply.{Reply}
-use Rattle.dom_history.specs.Events.{Happening}
-use Rattle.dom_history.specs.Histories.{Item, Answered, Acted, place_of, place_lt, IsRising}
+use Rattle.dom_history.specs.Histories.{Item, place_of, place_lt, IsRising}
 use Rattle.ring_messages.specs.Bodies.{Answer}
 use Rattle.node_runs.specs.Setups.{Setup}
 use Rattle.node_runs.specs.NodeStates.{OpenOp}
 use Rattle.node_runs.specs.Notes.{Told, Note}
-use Rattle.node_runs.specs.Runs.{Noted, World, Choice, first_world, is_above, world_with, world_after}
+use Rattle.node_runs.specs.Runs.{Noted, World, Choice, is_above, world_after}
 use Rattle.node_runs.specs.CallsKeep.{EachOf}
-use Rattle.node_runs.specs.RunHistories.{is_fault, change_reply, act_item, fault_item, begun_item, told_item, open_item, settled_item, decided_item, settled_op, ended_at, ended_by, doing_of, items_of, items_from, all_told, history_in}
+use Rattle.node_runs.specs.RunHistories.{is_fault, change_reply, act_item, fault_item, begun_item, told_item, open_item, decided_item, settled_op, ended_at, ended_by, doing_of, items_of, items_from, all_told, history_in}
 use Rattle.node_runs.proofs.Receiving.{EachOf-more}
 use Rattle.run_calls.specs.Placed.{AreRisingNotes}
 use Rattle.node_runs.proofs.Worlds.{IsNext, place_at, every-run}

@@ -1,12 +1,11 @@
 -- Which call settles an operation: an answer to a page or a length that was sent never ends one, and a call that is given
 -- up ends it by a link fault.
-use Rattle.std.proofs.Common.{◌≡◌, ℕ, Bool, true, false, List, Option, Some, None, refl, sym, ap, subst, ◌∙◌}
+use Rattle.std.proofs.Common.{◌≡◌, ℕ, Bool, true, false, Option, Some, None, refl, sym, subst}
 use Rattle.uid_names.specs.Names.{ObjectName}
 use Rattle.uid_names.specs.declared.mode.Mode.{Mode}
 use Rattle.uid_names.specs.Steps.{◌>>=◌}
 use Rattle.dom_history.specs.declared.op.Op.{Op}
 use Rattle.dom_history.specs.declared.op.Op.TheVariants as ops
-use Rattle.dom_history.specs.declared.op.Reply.{Reply}
 use Rattle.page_cache.specs.Numbers.{dirty_page}
 use Rattle.ring_messages.specs.declared.body.Body.{Body}
 use Rattle.ring_messages.specs.Bodies.{Ask, Answer, answer_of}
@@ -18,7 +17,7 @@ use Rattle.fault_handler.specs.Desks.{DeskState, open_call_of, moving_of, other_
 use Rattle.fault_handler.specs.Changes.{with_call, with_raised, with_page_done, with_length_done}
 use Rattle.fault_handler.specs.Outcomes.{Turn, Moved}
 use Rattle.fault_handler.specs.LockCalls.{LockCall, LockAnswer, lock_call, open_call, lock_answer}
-use Rattle.fault_handler.specs.PageReplies.{PageAnswer, page_answer}
+use Rattle.fault_handler.specs.PageReplies.{page_answer}
 use Rattle.fault_handler.specs.Next.{IsRequestOf, IsRequest}
 use Rattle.lock_validate.specs.Releases.{length_first, page_first, transit_first, release_of}
 use Rattle.lock_validate.specs.Answers.{answer_came_of}

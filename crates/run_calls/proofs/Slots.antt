@@ -1,14 +1,12 @@
 -- Where the entry of an operation that was ended stands: at one note, and no other note's entries change.
-use Rattle.std.proofs.Common.{◌≡◌, ◌≢◌, ℕ, Bool, true, false, List, [], ◌∷◌, Option, Some, None, inl, inr, refl, sym, ap, subst, ◌∙◌, arith}
+use Rattle.std.proofs.Common.{◌≡◌, ℕ, true, false, List, [], ◌∷◌, Some, None, inl, inr, refl, sym, ap, subst, ◌∙◌}
 use Rattle.std.specs.Prelude.{◌==◌, ◌&&◌, not, ◌⊎◌, if◌then◌else◌}
-use Rattle.std.proofs.lemmas.Bool.Decides.{nat_tests}
 use Rattle.std.proofs.lemmas.Bool.{eq-eqb}
 use Rattle.uid_names.proofs.ListLemmas.{by_cases}
 use Rattle.uid_names.proofs.Orders.{same_proc_is}
 use Rattle.uid_names.specs.Names.{ProcName, same_proc}
 use Rattle.uid_names.specs.declared.ids.Place.{Place}
 use Rattle.dom_history.specs.declared.op.Op.{Op}
-use Rattle.dom_history.specs.declared.op.Entry.{Entry}
 use Rattle.dom_history.specs.Histories.{same_place}
 use Rattle.dom_history.specs.Follows.{entries_of}
 use Rattle.ring_messages.specs.Bodies.{Ask, Answer}
@@ -73,33 +71,33 @@ module _ (t : Told) (told : List Told) (is_new : IsNew t told) where
   begun-slot : (x : Place) (p : ProcName) (op : Op) → Either x (Note.Began p op)
   begun-slot x p op = by_cases (same_proc t.proc p && same_place t.begun x) (Either x (Note.Began p op))
       (λ h.
-          let same_p = same_proc_is t.proc p (left-true _ _ h) in
-          let same_x = place-is t.begun x (right-true (same_proc t.proc p) _ h) in
-          let old : ended_at p x told ≡ None = subst (λ q. ended_at q x told ≡ None) same_p (subst (λ y. ended_at t.proc y told ≡ None) same_x is_new.by_place) in
-          let new : ended_at p x (t ∷ told) ≡ Some t = ap (λ b. if b then Some t else ended_at p x told) h in
-          by_cases (is_fault t.reply) (Either x (Note.Began p op))
-          (λ f. inl (record { is = (sym same_p, sym same_x, f); before = ap (begun_entry x) old; after = ap (begun_entry x) new ∙ ap (λ b. entry_if b x t) f }))
-          (λ f. inr (ap (begun_entry x) new ∙ ap (λ b. entry_if b x t) f ∙ sym (ap (begun_entry x) old))))
+      let same_p = same_proc_is t.proc p (left-true _ _ h) in
+      let same_x = place-is t.begun x (right-true (same_proc t.proc p) _ h) in
+      let old : ended_at p x told ≡ None = subst (λ q. ended_at q x told ≡ None) same_p (subst (λ y. ended_at t.proc y told ≡ None) same_x is_new.by_place) in
+      let new : ended_at p x (t ∷ told) ≡ Some t = ap (λ b. if b then Some t else ended_at p x told) h in
+      by_cases (is_fault t.reply) (Either x (Note.Began p op))
+      (λ f. inl (record { is = (sym same_p, sym same_x, f); before = ap (begun_entry x) old; after = ap (begun_entry x) new ∙ ap (λ b. entry_if b x t) f }))
+      (λ f. inr (ap (begun_entry x) new ∙ ap (λ b. entry_if b x t) f ∙ sym (ap (begun_entry x) old))))
       (λ h. inr (ap (λ b. begun_entry x (if b then Some t else ended_at p x told)) h))
 
   decided-slot : (x : Place) (p : ProcName) (number : ℕ) (ask : Ask) (answer : Answer) → Either x (Note.Decided p number ask answer)
   decided-slot x p number ask answer = by_cases (same_proc t.proc p && (t.number == number)) (Either x (Note.Decided p number ask answer))
       (λ h.
-          let same_p = same_proc_is t.proc p (left-true _ _ h) in
-          let same_k = equal t.number number (right-true (same_proc t.proc p) _ h) in
-          let old : ended_by p number told ≡ None = subst (λ q. ended_by q number told ≡ None) same_p (subst (λ k. ended_by t.proc k told ≡ None) same_k is_new.by_number) in
-          let new : ended_by p number (t ∷ told) ≡ Some t = ap (λ b. if b then Some t else ended_by p number told) h in
-          elim (settles x.node ask) [
-            | inl none ↦ inr (ap (λ o. decided_entry x o (ended_by p number (t ∷ told))) none ∙ sym (ap (λ o. decided_entry x o (ended_by p number told)) none))
-            | inr some ↦
-                let op = some.1.0 in
-                let was : entries_at told x (Note.Decided p number ask answer) ≡ [] = ap (λ o. decided_entry x o (ended_by p number told)) some.1.1 ∙ ap (decided_entry x (Some op)) old in
-                let now : entries_at (t ∷ told) x (Note.Decided p number ask answer) ≡ entry_if (not (is_fault t.reply)) x t =
-                ap (λ o. decided_entry x o (ended_by p number (t ∷ told))) some.1.1 ∙ ap (decided_entry x (Some op)) new in
-                by_cases (is_fault t.reply) (Either x (Note.Decided p number ask answer))
-                (λ f. inr (now ∙ ap (λ b. entry_if (not b) x t) f ∙ sym was))
-                (λ f. inl (record { is = (sym same_p, sym same_k, some.0, f); before = was; after = now ∙ ap (λ b. entry_if (not b) x t) f }))
-          ])
+      let same_p = same_proc_is t.proc p (left-true _ _ h) in
+      let same_k = equal t.number number (right-true (same_proc t.proc p) _ h) in
+      let old : ended_by p number told ≡ None = subst (λ q. ended_by q number told ≡ None) same_p (subst (λ k. ended_by t.proc k told ≡ None) same_k is_new.by_number) in
+      let new : ended_by p number (t ∷ told) ≡ Some t = ap (λ b. if b then Some t else ended_by p number told) h in
+      elim (settles x.node ask) [
+        | inl none ↦ inr (ap (λ o. decided_entry x o (ended_by p number (t ∷ told))) none ∙ sym (ap (λ o. decided_entry x o (ended_by p number told)) none))
+        | inr some ↦
+            let op = some.1.0 in
+            let was : entries_at told x (Note.Decided p number ask answer) ≡ [] = ap (λ o. decided_entry x o (ended_by p number told)) some.1.1 ∙ ap (decided_entry x (Some op)) old in
+            let now : entries_at (t ∷ told) x (Note.Decided p number ask answer) ≡ entry_if (not (is_fault t.reply)) x t =
+            ap (λ o. decided_entry x o (ended_by p number (t ∷ told))) some.1.1 ∙ ap (decided_entry x (Some op)) new in
+            by_cases (is_fault t.reply) (Either x (Note.Decided p number ask answer))
+            (λ f. inr (now ∙ ap (λ b. entry_if (not b) x t) f ∙ sym was))
+            (λ f. inl (record { is = (sym same_p, sym same_k, some.0, f); before = was; after = now ∙ ap (λ b. entry_if (not b) x t) f }))
+      ])
       (λ h. inr (ap (λ b. decided_entry x (settled_op x.node ask) (if b then Some t else ended_by p number told)) h))
 
   pub slot-of : (x : Place) (note : Note) → Either x note

@@ -1,15 +1,13 @@
 -- Once an operation is told of, its entry stands above all entries of its process.
-use Rattle.std.proofs.Common.{◌≡◌, ◌≢◌, ℕ, Bool, true, false, List, [], ◌∷◌, ◌++◌, Option, Some, None, inl, inr, refl, sym, ap, subst, ◌∙◌}
-use Rattle.std.specs.Prelude.{◌⊎◌, if◌then◌else◌}
+use Rattle.std.proofs.Common.{◌≡◌, ◌≢◌, ℕ, true, false, List, [], ◌∷◌, ◌++◌, inl, inr, refl, sym, ap, subst, ◌∙◌}
+use Rattle.std.specs.Prelude.{if◌then◌else◌}
 use Rattle.std.proofs.lemmas.List.Elements.{filter-append}
 use Rattle.uid_names.specs.Names.{ProcName, same_proc}
 use Rattle.uid_names.specs.declared.ids.Place.{Place}
 use Rattle.dom_history.specs.declared.op.Entry.{Entry}
-use Rattle.dom_history.specs.declared.op.Op.{Op}
 use Rattle.dom_history.specs.Histories.{SomeOf}
 use Rattle.dom_history.specs.Follows.{entries_of}
-use Rattle.ring_messages.specs.Bodies.{Ask}
-use Rattle.node_runs.specs.NodeStates.{Asked, Await, BegunOp}
+use Rattle.node_runs.specs.NodeStates.{Await, BegunOp}
 use Rattle.node_runs.specs.Notes.{Told, Note}
 use Rattle.node_runs.specs.Runs.{Noted}
 use Rattle.node_runs.specs.RunHistories.{is_fault}
@@ -20,7 +18,7 @@ use Rattle.run_calls.specs.NotedEntries.{entry_of, entries_at, noted_entries}
 use Rattle.run_calls.specs.DecidedReplies.{IsDecisionOf}
 use Rattle.run_calls.specs.Placed.{IsSettledBy}
 use Rattle.run_calls.specs.Since.{IsUndecided, Since, here, later}
-use Rattle.run_calls.proofs.Slots.{IsSlot, IsNew, Slot, off-slot, in-slot, others-same, same_proc-refl}
+use Rattle.run_calls.proofs.Slots.{IsSlot, IsNew, off-slot, in-slot, others-same, same_proc-refl}
 
 pub entries-append : (p : ProcName) (xs ys : List Entry) → entries_of p (xs ++ ys) ≡ entries_of p xs ++ entries_of p ys
 entries-append p xs ys = filter-append (λ e. same_proc e.proc p) xs ys
