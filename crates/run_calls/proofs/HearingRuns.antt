@@ -12,6 +12,7 @@ use Rattle.dom_history.specs.declared.op.Op.{Op}
 use Rattle.dom_history.specs.declared.op.Reply.{Reply}
 use Rattle.dom_history.specs.Histories.{SomeOf}
 use Rattle.dom_history.specs.Follows.{starts, entries_of}
+use Rattle.ring_messages.specs.Frames.{Message}
 use Rattle.ring_messages.specs.Bodies.{Ask, ask_of}
 use Rattle.fault_handler.specs.Invariant.{IsProc}
 use Rattle.fault_handler.proofs.Fours.{by_proc}
@@ -40,12 +41,12 @@ use Rattle.node_runs.proofs.Running.{AreKept, run-keeps}
 use Rattle.node_runs.proofs.Worlds.{IsNext, place_at, next-is}
 use Rattle.run_calls.specs.NotedEntries.{entry_if, begun_entry, decided_entry, entries_at}
 use Rattle.run_calls.specs.Progress.{IsSettling, IsAnswered, Progress, opens, goes_on, again, did, told, pauses, is_done, IsApart, ProcStep, rests, comes, told_of}
-use Rattle.run_calls.specs.DecidedReplies.{proc_at, IsDecisionOf, WasDecided, AreReplies}
+use Rattle.run_calls.specs.DecidedReplies.{proc_at, IsDecisionOf, WasDecided, AreReplies, IsReplyOf}
 use Rattle.run_calls.specs.Placed.{IsSettledBy}
 use Rattle.run_calls.specs.Heard.{IsHeardAt, IsToldOf, IsOfProc, AreHeard}
 use Rattle.run_calls.proofs.Slots.{IsNew}
 use Rattle.run_calls.proofs.Walks.{settled-decides, first-other, others-not, SomeOf-more}
-use Rattle.run_calls.proofs.Replies.{replies-are}
+use Rattle.run_calls.proofs.Replies.{replies-are, answered-decided}
 use Rattle.run_calls.proofs.Progressing.{did-progress}
 use Rattle.run_calls.proofs.Hearing.{carry, others-told, place-none, open-since, new-told, progress-on}
 
@@ -244,7 +245,8 @@ module _ (s : Setup) (setup : IsSetup s) (old : World) (c : Choice) (new : World
     answered-call o k doing answer =
         let good : IsGoodReply old.trace c.node next.is.incoming =
         incoming-is (IsGoodReply old.trace c.node) tt (λ number tick. tt) (λ tick. tt) (λ m. ask_of m.body ≡ None → WasDecided old.trace (proc_at c.node m.proc) m.number) (λ m is. is) old c.node
-        (λ from. next.replies.frames from c.node) c.what next.is.incoming next.is.comes in
+        (λ from. EachOf-more (IsReplyOf old.trace from c.node) (λ (m : Message). ask_of m.body ≡ None → WasDecided old.trace (proc_at c.node m.proc) m.number) (old.frames from c.node)
+        (λ m is none. let was = is none in answered-decided from (proc_at c.node m.proc) m.number was.0 old.trace was.2) (next.replies.frames from c.node)) c.what next.is.incoming next.is.comes in
         let here : WasDecided old.trace (proc_at c.node answer.frame.proc) answer.frame.number = (subst (IsGoodReply old.trace c.node) answer.received good) answer.replies in
         let mine : WasDecided old.trace (proc_at c.node p) k.waiting.number = subst (λ i. WasDecided old.trace (proc_at c.node p) i) answer.number (subst (λ q. WasDecided old.trace (proc_at c.node q) answer.frame.number) answer.proc here) in
         let call : IsCallAt (old.calls c.node p) k.waiting.number k.home k.ask = subst (IsOpenAt (old.calls c.node p)) doing (next.calls.opened c.node p proc) in

@@ -1,5 +1,5 @@
 -- In every run each reply on a link has its decision.
-use Rattle.std.proofs.Common.{◌≡◌, ℕ, true, List, ◌∷◌, Option, Some, None, inl, inr, refl, sym, ap, subst, ◌∙◌, arith}
+use Rattle.std.proofs.Common.{◌≡◌, ℕ, true, List, [], ◌∷◌, Option, Some, None, inl, inr, refl, sym, ap, subst, ◌∙◌, arith}
 use Rattle.std.specs.Prelude.{IfSome, if◌then◌else◌, ◌==◌, nat_lt, ◌&&◌, unwrap_or}
 use Rattle.std.proofs.lemmas.Bool.{cases_eq}
 use Rattle.std.proofs.lemmas.Bool.Decides.{nat_tests}
@@ -25,14 +25,15 @@ use Rattle.node_runs.specs.Notes.{Note}
 use Rattle.node_runs.specs.Outcomes.{Stepped, Stage, request, next_call, turned, dropping, moved}
 use Rattle.node_runs.specs.Doings.{ticked, begun_at, stage_of, noticed_call, served_note, others_marked}
 use Rattle.node_runs.specs.Dones.{Did, paused, finished, began, resumed, served, passed_over, heard, ignored, resent, gave_up, got_ready, marked}
-use Rattle.node_runs.specs.Runs.{World, Choice, frames_after, world_with, world_after}
+use Rattle.node_runs.specs.Runs.{World, Choice, frames_after, world_with, world_after, Noted}
 use Rattle.node_runs.specs.CallsKeep.{EachOf}
+use Rattle.node_runs.proofs.Somes.{some-is}
 use Rattle.node_runs.proofs.Doing.{step_of-did}
 use Rattle.node_runs.proofs.Sides.{next-side}
 use Rattle.node_runs.proofs.Worlds.{IsNext, place_at, every-run}
 use Rattle.node_runs.proofs.Receiving.{EachOf-more}
 use Rattle.node_runs.proofs.Calls.{put-same, put-other, frames-one}
-use Rattle.run_calls.specs.DecidedReplies.{proc_at, IsDecisionOf, WasDecided, IsReplyOf, AreReplies}
+use Rattle.run_calls.specs.DecidedReplies.{proc_at, IsDecisionOf, WasDecided, IsAnswerOf, IsAnswerAt, WasAnswered, IsReplyOf, AreReplies}
 
 -- a body that asks something is a request
 asks-request : (ask : Ask) → is_request (body_of_ask ask) ≡ true
@@ -50,16 +51,16 @@ caller-at : (m : Message) (ask : Ask) → ask_of m.body ≡ Some ask → caller_
 caller-at m ask asks = ap (λ b. proc_at (if b then m.from else m.to) m.proc) (ap is_request (asked-body m.body ask asks) ∙ asks-request ask)
 
 -- the caller of a request is decided now, or was before
-pub data Answering (n : NodeState) (s : Stepped) (m : Message) : Type 0 where
-  kept_again : s.node.side ≡ n.side → (call : Call Answer) → call_of (caller_of m) n.side.served ≡ Some call → call.number ≡ m.number → Answering n s m
-  newly : (ask : Ask) (answer : Answer) → s.note ≡ Note.Decided (caller_of m) m.number ask answer
-      → s.node.side.served ≡ with_call (record { proc = caller_of m; number = m.number; body = answer }) n.side.served → Answering n s m
+pub data Answering (n : NodeState) (s : Stepped) (m : Message) (answer : Answer) : Type 0 where
+  kept_again : s.node.side ≡ n.side → (call : Call Answer) → call_of (caller_of m) n.side.served ≡ Some call → call.number ≡ m.number → call.body ≡ answer → Answering n s m answer
+  newly : (ask : Ask) → s.note ≡ Note.Decided (caller_of m) m.number ask answer
+      → s.node.side.served ≡ with_call (record { proc = caller_of m; number = m.number; body = answer }) n.side.served → Answering n s m answer
 
 -- no frame or one that asks is sent; a request is answered
 pub data ReplyStep (n : NodeState) (s : Stepped) : Type 0 where
   mute : s.node.side ≡ n.side → s.frame ≡ None → ReplyStep n s
   sends : (m : Message) (ask : Ask) → s.node.side ≡ n.side → s.frame ≡ Some m → ask_of m.body ≡ Some ask → ReplyStep n s
-  answers : (m : Message) (ask : Ask) (answer : Answer) → ask_of m.body ≡ Some ask → s.frame ≡ Some (reply_to m n.tick answer) → Answering n s m → ReplyStep n s
+  answers : (m : Message) (ask : Ask) (answer : Answer) → ask_of m.body ≡ Some ask → s.frame ≡ Some (reply_to m n.tick answer) → Answering n s m answer → ReplyStep n s
 
 again-same : (number last : ℕ) → looked number last ≡ Again → number ≡ last
 again-same number last is = by_cases (nat_lt last number) (number ≡ last)
@@ -69,15 +70,15 @@ again-same number last is = by_cases (nat_lt last number) (number ≡ last)
 module _ (g : Given) (n : NodeState) where
   module _ (m : Message) (ask : Ask) (answer : Answer) (s : Stepped) (is : (serve_of n.side (caller_of m) m.number ask).answer ≡ Some answer) (side : s.node.side ≡ (serve_of n.side (caller_of m) m.number ask).side) where
     -- an answer that is kept is that of a call
-    from_kept : (o : Option (Call Answer)) → call_of (caller_of m) n.side.served ≡ o → body_in o ≡ Some answer → m.number ≡ last_of (caller_of m) n.side.served → s.node.side ≡ n.side → Answering n s m
+    from_kept : (o : Option (Call Answer)) → call_of (caller_of m) n.side.served ≡ o → body_in o ≡ Some answer → m.number ≡ last_of (caller_of m) n.side.served → s.node.side ≡ n.side → Answering n s m answer
     from_kept None found body number same = absurd (cc)
-    from_kept (Some call) found body number same = kept_again same call found (sym (number ∙ ap number_in found))
+    from_kept (Some call) found body number same = kept_again same call found (sym (number ∙ ap number_in found)) (some-is call.body answer body)
 
-    served-by : (how : Looked) → how ≡ looked m.number (last_of (caller_of m) n.side.served) → s.note ≡ served_note how (caller_of m) m.number ask answer → Answering n s m
+    served-by : (how : Looked) → how ≡ looked m.number (last_of (caller_of m) n.side.served) → s.note ≡ served_note how (caller_of m) m.number ask answer → Answering n s m answer
     served-by Fresh same note =
         let at : serve_of n.side (caller_of m) m.number ask ≡ serve_as Fresh n.side (caller_of m) m.number ask = ap (λ h. serve_as h n.side (caller_of m) m.number ask) (sym same) in
         let told : answer ≡ (decide n.side.home n.side.locks (caller_of m) ask).answer = ap (λ (o : Option Answer). unwrap_or o answer) (sym is ∙ ap (λ v. v.answer) at) in
-        newly ask answer note
+        newly ask note
         (ap (λ x. x.served) side ∙ ap (λ v. v.side.served) at
         ∙ ap (λ (a : Answer). with_call (record { proc = caller_of m; number = m.number; body = a }) n.side.served) (sym told))
     served-by Again same note =
@@ -120,50 +121,51 @@ module _ (old : World) (replies : AreReplies old) (c : Choice) (step : Stepped) 
   abbrev after : World
   after = world_with old (place_at c step) c.what step
 
-  abbrev Kept : Option (Call Answer) → ProcName → Type 0
-  Kept o p = IfSome o (λ call. WasDecided after.trace p call.number)
+  abbrev Kept : ℕ → Option (Call Answer) → ProcName → Type 0
+  Kept a o p = IfSome o (λ call. WasAnswered after.trace a p call.number call.body)
 
   lift-frames : (from to : ℕ) → EachOf (IsReplyOf after.trace from to) (old.frames from to)
-  lift-frames from to = EachOf-more (IsReplyOf old.trace from to) (IsReplyOf after.trace from to) (old.frames from to) (λ m is none. inr (is none)) (replies.frames from to)
+  lift-frames from to = EachOf-more (IsReplyOf old.trace from to) (IsReplyOf after.trace from to) (old.frames from to) (λ m is none. let was = is none in (was.0, was.1, inr was.2)) (replies.frames from to)
 
-  lift-kept : (p : ProcName) (o : Option (Call Answer)) → IfSome o (λ call. WasDecided old.trace p call.number) → Kept o p
-  lift-kept p None is = tt
-  lift-kept p (Some call) is = inr is
+  lift-kept : (a : ℕ) (p : ProcName) (o : Option (Call Answer)) → IfSome o (λ call. WasAnswered old.trace a p call.number call.body) → Kept a o p
+  lift-kept a p None is = tt
+  lift-kept a p (Some call) is = inr is
 
-  abbrev KeptAt : NodeState → Type 0
-  KeptAt x = (p : ProcName) → Kept (call_of p x.side.served) p
+  abbrev KeptAt : ℕ → NodeState → Type 0
+  KeptAt a x = (p : ProcName) → Kept a (call_of p x.side.served) p
 
-  kept-old : (a : ℕ) → KeptAt (old.nodes a)
-  kept-old a p = lift-kept p (call_of p (old.nodes a).side.served) (replies.kept a p)
+  kept-old : (a : ℕ) → KeptAt a (old.nodes a)
+  kept-old a p = lift-kept a p (call_of p (old.nodes a).side.served) (replies.kept a p)
 
-  kept-here : KeptAt n
-  kept-here p = subst (λ x. Kept (call_of p x.served) p) (sym side) (kept-old c.node p)
+  kept-here : KeptAt c.node n
+  kept-here p = subst (λ x. Kept c.node (call_of p x.served) p) (sym side) (kept-old c.node p)
 
-  kept-all : KeptAt step.node → (a : ℕ) → KeptAt (after.nodes a)
+  kept-all : KeptAt c.node step.node → (a : ℕ) → KeptAt a (after.nodes a)
   kept-all here a = elim (cases_eq a c.node) [
-    | inl same ↦ subst KeptAt (sym (put-same old.nodes c.node a step.node same)) here
-    | inr away ↦ subst KeptAt (sym (put-other old.nodes c.node a step.node away)) (kept-old a)
+    | inl same ↦ subst (λ b. KeptAt b (after.nodes b)) (sym same) (subst (KeptAt c.node) (sym (put-same old.nodes c.node c.node step.node refl)) here)
+    | inr away ↦ subst (KeptAt a) (sym (put-other old.nodes c.node a step.node away)) (kept-old a)
   ]
 
-  kept-same : step.node.side ≡ n.side → (a : ℕ) → KeptAt (after.nodes a)
-  kept-same same = kept-all (λ p. subst (λ x. Kept (call_of p x.served) p) (sym same) (kept-here p))
+  kept-same : step.node.side ≡ n.side → (a : ℕ) → KeptAt a (after.nodes a)
+  kept-same same = kept-all (λ p. subst (λ x. Kept c.node (call_of p x.served) p) (sym same) (kept-here p))
 
-  answer-kept : (m : Message) → Answering n step m → KeptAt step.node
-  answer-kept m (kept_again same call found number) p = subst (λ x. Kept (call_of p x.served) p) (sym same) (kept-here p)
-  answer-kept m (newly ask answer note served_now) p =
+  answer-kept : (m : Message) (answer : Answer) → Answering n step m answer → KeptAt c.node step.node
+  answer-kept m answer (kept_again same call found number body) p = subst (λ x. Kept c.node (call_of p x.served) p) (sym same) (kept-here p)
+  answer-kept m answer (newly ask note served_now) p =
       let new : Call Answer = record { proc = caller_of m; number = m.number; body = answer } in
       let found : call_of p step.node.side.served ≡ (if same_proc (caller_of m) p then Some new else call_of p n.side.served) = ap (call_of p) served_now ∙ call_of-with_call new n.side.served p in
-      subst (λ o. Kept o p) (sym found)
-      (by_cases (same_proc (caller_of m) p) (Kept (if same_proc (caller_of m) p then Some new else call_of p n.side.served) p)
-      (λ h. subst (λ b. Kept (if b then Some new else call_of p n.side.served) p) (sym h) (inl (subst (IsDecisionOf p m.number) (sym note) (same_proc_is (caller_of m) p h, refl))))
-      (λ h. subst (λ b. Kept (if b then Some new else call_of p n.side.served) p) (sym h) (kept-here p)))
+      subst (λ o. Kept c.node o p) (sym found)
+      (by_cases (same_proc (caller_of m) p) (Kept c.node (if same_proc (caller_of m) p then Some new else call_of p n.side.served) p)
+      (λ h. subst (λ b. Kept c.node (if b then Some new else call_of p n.side.served) p) (sym h) (inl (refl, subst (IsAnswerOf p m.number answer) (sym note) (same_proc_is (caller_of m) p h, refl, refl))))
+      (λ h. subst (λ b. Kept c.node (if b then Some new else call_of p n.side.served) p) (sym h) (kept-here p)))
 
-  answer-decided : (m : Message) (ask : Ask) → ask_of m.body ≡ Some ask → Answering n step m → WasDecided after.trace (proc_at m.from m.proc) m.number
-  answer-decided m ask asks (kept_again same call found number) =
-      let at_old : Kept (call_of (caller_of m) n.side.served) (caller_of m) = kept-here (caller_of m) in
-      let now : WasDecided after.trace (caller_of m) call.number = subst (λ o. Kept o (caller_of m)) found at_old in
-      subst (λ p. WasDecided after.trace p m.number) (caller-at m ask asks) (subst (λ k. WasDecided after.trace (caller_of m) k) number now)
-  answer-decided m ask asks (newly asked answer note served_now) = inl (subst (IsDecisionOf (proc_at m.from m.proc) m.number) (sym note) (caller-at m ask asks, refl))
+  answer-decided : (m : Message) (ask : Ask) (answer : Answer) → ask_of m.body ≡ Some ask → Answering n step m answer → WasAnswered after.trace c.node (proc_at m.from m.proc) m.number answer
+  answer-decided m ask answer asks (kept_again same call found number body) =
+      let at_old : Kept c.node (call_of (caller_of m) n.side.served) (caller_of m) = kept-here (caller_of m) in
+      let now : WasAnswered after.trace c.node (caller_of m) call.number call.body = subst (λ o. Kept c.node o (caller_of m)) found at_old in
+      subst (λ p. WasAnswered after.trace c.node p m.number answer) (caller-at m ask asks)
+      (subst (λ a. WasAnswered after.trace c.node (caller_of m) m.number a) body (subst (λ k. WasAnswered after.trace c.node (caller_of m) k call.body) number now))
+  answer-decided m ask answer asks (newly asked note served_now) = inl (refl, subst (IsAnswerOf (proc_at m.from m.proc) m.number answer) (sym note) (caller-at m ask asks, refl, refl))
 
   with-frame : (f : Option Message) → step.frame ≡ f → ((from to : ℕ) → EachOf (IsReplyOf after.trace from to) (frames_after old c.node f from to)) → (from to : ℕ) → EachOf (IsReplyOf after.trace from to) (after.frames from to)
   with-frame f frame all from to = subst (λ x. EachOf (IsReplyOf after.trace from to) (frames_after old c.node x from to)) (sym frame) (all from to)
@@ -175,8 +177,8 @@ module _ (old : World) (replies : AreReplies old) (c : Choice) (step : Stepped) 
     frames = with-frame (Some m) frame (frames-one old c.node m (IsReplyOf after.trace) (λ none. absurd (let e : Some ask ≡ None = sym asks ∙ none in cc)) lift-frames);
   }
   step-replies (answers m ask answer asks frame how) = record {
-    kept = kept-all (answer-kept m how);
-    frames = with-frame (Some (reply_to m n.tick answer)) frame (frames-one old c.node (reply_to m n.tick answer) (IsReplyOf after.trace) (λ none. answer-decided m ask asks how) lift-frames);
+    kept = kept-all (answer-kept m answer how);
+    frames = with-frame (Some (reply_to m n.tick answer)) frame (frames-one old c.node (reply_to m n.tick answer) (IsReplyOf after.trace) (λ none. (answer, refl, answer-decided m ask answer asks how)) lift-frames);
   }
 
 module _ (s : Setup) where
@@ -190,3 +192,16 @@ module _ (s : Setup) where
   -- in every run
   pub replies-are : (cs : List Choice) (w : World) → world_after s cs ≡ Some w → AreReplies w
   replies-are = every-run s AreReplies (record { kept = λ n p. tt; frames = λ from to. tt }) replies-later
+
+answer-decides : (home : ℕ) (p : ProcName) (number : ℕ) (answer : Answer) (note : Note) → IsAnswerOf p number answer note → IsDecisionOf p number note
+answer-decides home p number answer Note.Nothing is = absurd is
+answer-decides home p number answer (Note.Began q op) is = absurd is
+answer-decides home p number answer (Note.Did q phase op reply) is = absurd is
+answer-decides home p number answer (Note.Ended t) is = absurd is
+answer-decides home p number answer (Note.Decided q k ask given) is = (is.0, is.1)
+
+-- a call that was answered was decided
+pub answered-decided : (home : ℕ) (p : ProcName) (number : ℕ) (answer : Answer) (notes : List Noted) → WasAnswered notes home p number answer → WasDecided notes p number
+answered-decided home p number answer [] some = absurd some
+answered-decided home p number answer (m ∷ older) (inl is) = inl (answer-decides home p number answer m.note is.1)
+answered-decided home p number answer (m ∷ older) (inr some) = inr (answered-decided home p number answer older some)

@@ -18,8 +18,8 @@ ghost use Rattle.run_calls.specs.Entries.{AreRepliesHeard, AreAskedHeard, entrie
 ghost use Rattle.node_runs.specs.FirstRun as one;
 ghost use Rattle.node_runs.specs.SecondRun as two;
 
-/// In every run, whatever becomes of frames: each reply on a link, and each answer that a home keeps, is of a call that was
-/// decided.
+/// In every run, whatever becomes of frames: each reply on a link carries the answer that its sender decided, of a call of a
+/// process of the node that it is sent to, and each answer that a home keeps is the one that it decided.
 pub fn each_reply_was_decided()
     ensures { (s : Setup) (cs : List Choice) (w : World) → world_after s cs ≡ Some w → AreReplies w }
 {}
