@@ -33,7 +33,7 @@ use Rattle.node_runs.proofs.Sides.{next-side}
 use Rattle.node_runs.proofs.Worlds.{IsNext, place_at, every-run}
 use Rattle.node_runs.proofs.Receiving.{EachOf-more}
 use Rattle.node_runs.proofs.Calls.{put-same, put-other, frames-one}
-use Rattle.run_calls.specs.DecidedReplies.{proc_at, IsDecisionOf, WasDecided, IsAnswerOf, IsAnswerAt, WasAnswered, IsReplyOf, AreReplies}
+use Rattle.run_calls.specs.DecidedReplies.{proc_at, IsDecisionOf, WasDecided, IsAnswerOf, WasAnswered, IsReplyOf, AreReplies}
 
 -- a body that asks something is a request
 asks-request : (ask : Ask) → is_request (body_of_ask ask) ≡ true

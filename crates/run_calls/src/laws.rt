@@ -47,14 +47,14 @@ pub fn the_sample_entries()
     ensures none { entries_after two.setup 2 two.events ≡ Some [] }
 {}
 
-/// So it is note by note: an open operation began behind all that its process was told of, its open call is the last one and
+/// What this stands on, note by note: an open operation began behind all that its process was told of, its open call is the last one and
 /// was not decided before it began, and since then no entry of its process was noted.
 pub fn open_operations_stand_last()
     ensures { (s : Setup) → IsSetup s → (cs : List Choice) (w : World) → world_after s cs ≡ Some w → IsTimely w → AreHeard s w }
 {}
 
 /// In every run in which no tick is above 2^40: an operation that an answer or a link fault ended began before, and where no
-/// link fault ended it, the home that its last call asked decided that call between the Begin and the end. No decision on
+/// link fault ended it, its last call was decided between the Begin and the end. No decision on
 /// that call stands before the Begin. So the place of its entry lies between the Begin of its operation and its end.
 pub fn entries_stand_within_their_operations()
     ensures ends { (s : Setup) → IsSetup s → (cs : List Choice) (w : World) → world_after s cs ≡ Some w → IsTimely w → AreEndsPlaced w.trace }
