@@ -1,0 +1,7 @@
+use Rattle.std.proofs.Common.{◌≡◌, drop}
+use Rattle.naming_tree.specs.Directories.{slots_of, in_front}
+use Rattle.naming_tree.proofs.directory.slots.Given as goal
+
+-- the records so far, and those to come
+abbrev pub invariant-loop-record : goal.invariant-loop-record
+invariant-loop-record l = slots_of l.records ≡ in_front l.slots.items (slots_of (drop l.record-index l.records))

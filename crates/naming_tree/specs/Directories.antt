@@ -1,0 +1,59 @@
+-- A directory as the list of its records.
+use Rattle.std.specs.Prelude.{ℕ, zero, suc, ◌+◌, ◌*◌, ◌/◌, ◌%◌, ◌==◌, nat_le, nat_lt, Bool, true, false, not, ◌&&◌, ◌||◌, cond, Option, Some, None, List, [], ◌∷◌, ◌++◌, length, take, drop, bytes_eq}
+use Rattle.std.specs.List.{list_any, flat_map}
+use Rattle.std.specs.Simd.{first_chunks}
+use Rattle.naming_tree.specs.declared.row.DirRow.{DirRow}
+use Rattle.naming_tree.specs.Records.{Slot, slot_of, slot_bytes}
+
+-- a record before those behind it
+abbrev pub before : Option Slot → Option (List Slot) → Option (List Slot)
+before None rest = None
+before (Some slot) None = None
+before (Some slot) (Some rest) = Some (slot ∷ rest)
+
+-- the records of these bytes, 64 for each; None where one is of neither form
+abbrev pub slots_of : List (List ℕ) → Option (List Slot)
+slots_of [] = Some []
+slots_of (bytes ∷ rest) = before (slot_of bytes) (slots_of rest)
+
+-- records in front of those behind them
+abbrev pub in_front : List Slot → Option (List Slot) → Option (List Slot)
+in_front front None = None
+in_front front (Some rest) = Some (front ++ rest)
+
+-- the record has this name
+abbrev pub has_name : List ℕ → Slot → Bool
+has_name name None = false
+has_name name (Some row) = bytes_eq row.name name
+
+-- the name of a record does not stand in these
+abbrev pub is_new : Slot → List Slot → Bool
+is_new None slots = true
+is_new (Some row) slots = not (list_any (has_name row.name) slots)
+
+-- no two records have one name
+abbrev pub are_apart : List Slot → Bool
+are_apart [] = true
+are_apart (slot ∷ slots) = is_new slot slots && are_apart slots
+
+-- the records, where their names are apart
+abbrev pub if_apart : Option (List Slot) → Option (List Slot)
+if_apart None = None
+if_apart (Some slots) = cond (are_apart slots) (Some slots) None
+
+-- at most 128 records, and no part of one
+abbrev pub is_long : ℕ → Bool
+is_long n = (n % 64 == 0) && nat_le n 8192
+
+-- the records of a directory of these bytes; None where it is bad
+abbrev pub directory_of : List ℕ → Option (List Slot)
+directory_of bytes = cond (is_long (length bytes)) (if_apart (slots_of (first_chunks 64 (length bytes / 64) bytes))) None
+
+-- the records that are not free
+abbrev pub put_row : Slot → List DirRow → List DirRow
+put_row None rows = rows
+put_row (Some row) rows = row ∷ rows
+
+abbrev pub rows_of : List Slot → List DirRow
+rows_of [] = []
+rows_of (slot ∷ slots) = put_row slot (rows_of slots)

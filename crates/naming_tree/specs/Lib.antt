@@ -1,0 +1,5 @@
+pub mod Dialogues
+pub mod Components
+pub mod Padding
+pub mod Records
+pub mod Directories

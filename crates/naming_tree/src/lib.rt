@@ -1,0 +1,11 @@
+//! Names: directories, paths, and the machines that walk and change them.
+#![tactic(auto)]
+
+mod component;
+mod directory;
+mod row;
+mod slot;
+
+pub use component::Component;
+pub use directory::{DirFault, DirRows};
+pub use row::{DirRow, write_row};
