@@ -1,6 +1,6 @@
 -- A directory as the list of its records.
-use Rattle.std.specs.Prelude.{ℕ, zero, suc, ◌+◌, ◌*◌, ◌/◌, ◌%◌, ◌==◌, nat_le, nat_lt, Bool, true, false, not, ◌&&◌, ◌||◌, cond, Option, Some, None, List, [], ◌∷◌, ◌++◌, length, take, drop, bytes_eq}
-use Rattle.std.specs.List.{list_any, flat_map}
+use Rattle.std.specs.Prelude.{ℕ, zero, suc, ◌+◌, ◌*◌, ◌/◌, ◌%◌, ◌==◌, nat_le, nat_lt, Bool, true, false, not, ◌&&◌, ◌||◌, cond, Option, Some, None, List, [], ◌∷◌, ◌++◌, length, bytes_eq, option_map, is_some, ◌≡◌, ◌≤◌}
+use Rattle.std.specs.List.{list_any, position_from, prefix_len}
 use Rattle.std.specs.Simd.{first_chunks}
 use Rattle.naming_tree.specs.declared.row.DirRow.{DirRow}
 use Rattle.naming_tree.specs.Records.{Slot, slot_of, slot_bytes}
@@ -57,3 +57,25 @@ put_row (Some row) rows = row ∷ rows
 abbrev pub rows_of : List Slot → List DirRow
 rows_of [] = []
 rows_of (slot ∷ slots) = put_row slot (rows_of slots)
+
+-- the rows of a directory of these bytes; None where it is bad
+abbrev pub rows_in : List ℕ → Option (List DirRow)
+rows_in bytes = option_map rows_of (directory_of bytes)
+
+-- what each directory keeps
+pub record IsDirectory (slots : List Slot) : Type 0 where
+  pub few : length slots ≤ 128
+  pub apart : are_apart slots ≡ true
+
+-- the row of a name
+abbrev pub row_named : List ℕ → List Slot → Option DirRow
+row_named name [] = None
+row_named name (slot ∷ slots) = cond (has_name name slot) slot (row_named name slots)
+
+-- how many records stand before that of a name
+abbrev pub place_named : List ℕ → List Slot → Option ℕ
+place_named name slots = position_from (has_name name) 0 slots
+
+-- how many stand before the first free one, where a new name goes: behind all of them where none is free
+abbrev pub first_free : List Slot → ℕ
+first_free slots = prefix_len is_some slots

@@ -7,5 +7,5 @@ mod row;
 mod slot;
 
 pub use component::Component;
-pub use directory::{DirFault, DirRows};
+pub use directory::{DirFault, DirRows, Directory, read_dir};
 pub use row::{DirRow, write_row};
