@@ -1,25 +1,15 @@
 -- A directory as the list of its records.
-use Rattle.std.specs.Prelude.{ℕ, zero, suc, ◌+◌, ◌*◌, ◌/◌, ◌%◌, ◌==◌, nat_le, nat_lt, Bool, true, false, not, ◌&&◌, ◌||◌, cond, Option, Some, None, List, [], ◌∷◌, ◌++◌, length, bytes_eq, option_map, is_some, ◌≡◌, ◌≤◌}
+use Rattle.std.specs.Prelude.{ℕ, zero, suc, ◌+◌, ◌*◌, ◌/◌, ◌%◌, ◌==◌, nat_le, nat_lt, Bool, true, false, not, ◌&&◌, ◌||◌, cond, Option, Some, None, List, [], ◌∷◌, length, bytes_eq, option_map, is_some, ◌≡◌, ◌≤◌}
 use Rattle.std.specs.List.{list_any, position_from, prefix_len}
 use Rattle.std.specs.Simd.{first_chunks}
 use Rattle.naming_tree.specs.declared.row.DirRow.{DirRow}
+use Rattle.naming_tree.specs.Wholes.{before}
 use Rattle.naming_tree.specs.Records.{Slot, slot_of, slot_bytes}
-
--- a record before those behind it
-abbrev pub before : Option Slot → Option (List Slot) → Option (List Slot)
-before None rest = None
-before (Some slot) None = None
-before (Some slot) (Some rest) = Some (slot ∷ rest)
 
 -- the records of these bytes, 64 for each; None where one is of neither form
 abbrev pub slots_of : List (List ℕ) → Option (List Slot)
 slots_of [] = Some []
 slots_of (bytes ∷ rest) = before (slot_of bytes) (slots_of rest)
-
--- records in front of those behind them
-abbrev pub in_front : List Slot → Option (List Slot) → Option (List Slot)
-in_front front None = None
-in_front front (Some rest) = Some (front ++ rest)
 
 -- the record has this name
 abbrev pub has_name : List ℕ → Slot → Bool

@@ -5,7 +5,7 @@ use Rattle.uid_names.specs.Names.{ObjectName, number_of}
 use Rattle.uid_names.specs.Modes.{object_code, object_of_code}
 use Rattle.uid_names.specs.declared.mode.ObjKind.{ObjKind}
 use Rattle.naming_tree.specs.declared.row.DirRow.{DirRow}
-use Rattle.naming_tree.specs.Components.{is_component, filled}
+use Rattle.naming_tree.specs.Components.{component_of, filled}
 
 -- a record that names an object: its kind, the length of the name, the name, two zeros, the object, 20 zeros
 abbrev pub row_bytes : DirRow → List ℕ
@@ -29,10 +29,6 @@ is_number n = nat_le 1 (n / 2 ^ 20) && (nat_le 1 (n % 2 ^ 20) && nat_le (n % 2 ^
 
 abbrev pub object_of_number : ℕ → Option ObjectName
 object_of_number n = cond (is_number n) (Some (record { counter = n / 2 ^ 20; home = n % 2 ^ 20 })) None
-
--- a name, if it is one
-abbrev pub component_of : List ℕ → Option (List ℕ)
-component_of name = cond (is_component name) (Some name) None
 
 -- what stands in the fields of a record
 abbrev pub kind_in : List ℕ → Option ObjKind

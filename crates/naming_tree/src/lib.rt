@@ -3,6 +3,8 @@
 
 mod component;
 mod directory;
+mod names;
+mod path;
 mod row;
 mod slot;
 

@@ -1,5 +1,6 @@
 use Rattle.std.proofs.Common.{◌≡◌, drop, length}
-use Rattle.naming_tree.specs.Directories.{slots_of, in_front}
+use Rattle.naming_tree.specs.Wholes.{in_front}
+use Rattle.naming_tree.specs.Directories.{slots_of}
 use Rattle.naming_tree.proofs.directory.slots.Given as goal
 
 abbrev pub invariant-loop-record : goal.invariant-loop-record

@@ -1,0 +1,72 @@
+//! Names that are looked up one after the other.
+ghost use Rattle.std.specs.Prelude.{◌≡◌, ◌++◌, ◌∷◌, [], List, ℕ, Some, None, MatchOption, IfOk, OnOk};
+
+use crate::component::Component;
+use std::alloc::Global;
+use std::marker::Model;
+use uid_names::NoMemory;
+
+/// The names of a path that are not looked up yet.
+#[derive(Drop)]
+pub struct Names {
+    items: Vec<Component>,
+    passed: usize,
+}
+
+impl Model for Names {
+    ghost use Rattle.std.specs.Prelude.{ℕ, ◌≤◌, List, length, drop};
+
+    ghost Value = { List (List ℕ) };
+
+    ghost view = { λ n. drop n.passed n.items.items };
+
+    ghost invariant = { λ n. n.passed ≤ length n.items.items };
+}
+
+impl Names {
+    /// No name. Takes no memory.
+    pub fn new(alloc: Global) -> Names
+        ensures { result ≡ [] }
+    {
+        Names {
+            items: Vec::new(alloc),
+            passed: 0,
+        }
+    }
+
+    /// Puts a name last.
+    pub fn push(&mut self, name: Component) -> Result<(), NoMemory>
+        ensures { OnOk result (self.new ≡ self.old ++ name ∷ []) }
+    {
+        self.items.push(name)?;
+        Ok(())
+    }
+
+    /// Takes the first name away. Takes no memory.
+    pub fn pop(&mut self) -> Option<Component>
+        ensures { MatchOption result ((self.old ≡ []) × (self.new ≡ [])) (λ name. self.old ≡ name ∷ self.new) }
+    {
+        if self.passed < self.items.len() {
+            let name = self.items[self.passed];
+            self.passed += 1;
+            Some(name)
+        } else {
+            None
+        }
+    }
+
+    /// The names, in order. Takes no memory.
+    pub fn items(&self) -> &[Component]
+        ensures { result.now ≡ self.now }
+    {
+        &self.items[self.passed..]
+    }
+
+    /// Puts names last.
+    pub fn extend(&mut self, more: &Names) -> Result<(), NoMemory>
+        ensures { OnOk result (self.new ≡ self.old ++ more.now) }
+    {
+        self.items.extend_from_slice(more.items())?;
+        Ok(())
+    }
+}
