@@ -1,26 +1,27 @@
--- What is asked of the store, one operation after another.
+-- What is asked of the store, one operation after another, and what comes of it.
 use Rattle.std.specs.Prelude.{List, [], ◌∷◌}
 use Rattle.dom_history.specs.declared.op.Op.{Op}
 use Rattle.dom_history.specs.declared.op.Reply.{Reply}
+use Rattle.naming_tree.specs.declared.step.NameResult.{NameResult}
+use Rattle.naming_tree.specs.declared.step.NameStep.{NameStep}
+use Rattle.naming_tree.specs.declared.step.NameStep.TheVariants.{Do, Over}
 
 -- an operation is asked, and what follows depends on its reply; in the end there is a result
-pub data Dialogue (R : Type 0) : Type 0 where
-  Ends : (result : R) → Dialogue R
-  Asks : (op : Op) → (further : Reply → Dialogue R) → Dialogue R
+pub data Dialogue : Type 0 where
+  Ends : (result : NameResult) → Dialogue
+  Asks : (op : Op) → (further : Reply → Dialogue) → Dialogue
 
-module _ {R : Type 0} where
-  -- what is left of it once it was told a reply
-  abbrev pub told : Dialogue R → Reply → Dialogue R
-  told (Ends result) reply = Ends result
-  told (Asks op further) reply = further reply
+-- what is left of it once it was told a reply
+abbrev pub told : Dialogue → Reply → Dialogue
+told (Ends result) reply = Ends result
+told (Asks op further) reply = further reply
 
-  -- what is left of it behind replies, of which the newest stands first
-  abbrev pub after : Dialogue R → List Reply → Dialogue R
-  after d [] = d
-  after d (reply ∷ heard) = told (after d heard) reply
+-- what is left of it behind replies, of which the newest stands first
+abbrev pub after : Dialogue → List Reply → Dialogue
+after d [] = d
+after d (reply ∷ heard) = told (after d heard) reply
 
--- one after another
-infixl 10 ◌>>=◌
-abbrev pub ◌>>=◌ : {A B : Type 0} → Dialogue A → (A → Dialogue B) → Dialogue B
-Ends a >>= f = f a
-Asks op further >>= f = Asks op (λ reply. further reply >>= f)
+-- what it says: the operation that is asked next, or the result
+abbrev pub says : Dialogue → NameStep
+says (Ends result) = Over result
+says (Asks op further) = Do op

@@ -5,3 +5,5 @@ pub mod Padding
 pub mod Records
 pub mod Directories
 pub mod Paths
+pub mod Entering
+pub mod Sessions

@@ -6,8 +6,11 @@ mod directory;
 mod names;
 mod path;
 mod row;
+mod session;
 mod slot;
+mod step;
 
 pub use component::Component;
 pub use directory::{DirFault, DirRows, Directory, read_dir};
+pub use step::{NameResult, NameStep, Walked, Within};
 pub use row::{DirRow, write_row};
