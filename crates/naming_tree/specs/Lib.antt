@@ -7,3 +7,4 @@ pub mod Directories
 pub mod Paths
 pub mod Entering
 pub mod Sessions
+pub mod Readings

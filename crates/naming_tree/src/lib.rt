@@ -5,6 +5,7 @@ mod component;
 mod directory;
 mod names;
 mod path;
+mod reading;
 mod row;
 mod session;
 mod slot;

@@ -1,11 +1,13 @@
 //! Objects that are opened, loaded whole and closed. No function but `Closing::hear` takes memory.
 ghost use Rattle.std.specs.Prelude.{◌≡◌, ◌≢◌, ◌≤◌, ◌<◌, ◌+◌, ◌*◌, ◌-◌, ◌^◌, ◌%◌, ℕ, None, Some, Ok, IfOk, OnOk, IfSome, true, false};
-ghost use Rattle.naming_tree.specs.Entering.{pages as pages_of, page_load, enter_op, entry_of, entry_at, on_lock as lock_entry, on_length as length_entry, on_map as map_entry, on_load as load_entry, locked as locked_only, held_of, IsEntering, held_op, held_after, closing_after, is_fine as is_fine_reply};
+ghost use Rattle.naming_tree.specs.Entering.{pages as pages_of, page_load, enter_op, entry_of, entry_at, on_lock as lock_entry, on_length as length_entry, on_map as map_entry, on_load as load_entry, locked as locked_only, held_of, IsEntering, IsOpened, bytes_after, held_op, held_after, closing_after, is_fine as is_fine_reply};
+ghost use Rattle.naming_tree.specs.Readings.{nothing_held, stage_of, closing_of};
+ghost use Rattle.naming_tree.specs.declared.session.Entering.TheVariants.{Load as LoadStage};
 ghost use Rattle.dom_history.specs.Ranges.{IsOp};
 
 use dom_history::{Op, Reply, Spot};
 use std::alloc::Global;
-use uid_names::{Mode, NoMemory, PAGE_BYTES, Uid};
+use uid_names::{ByteList, Mode, NoMemory, PAGE_BYTES, Uid};
 
 /// An object that is open: how long it is, and where it is mapped. `fresh` where this opening mapped it.
 #[derive(Clone, Copy)]
@@ -64,10 +66,15 @@ impl Held {
 
     /// The first operation that closes it.
     pub fn op(self) -> Op
-        ensures { result ≡ held_op self }
+        ensures value { result ≡ held_op self }
+        ensures range { IsOp result }
     {
+        let _number = self.uid.number();
         match self.other {
-            Some(uid) => Op::Unlock { uid },
+            Some(uid) => {
+                let _number = uid.number();
+                Op::Unlock { uid }
+            }
             None if self.mapped => Op::Unmap { uid: self.uid },
             None => Op::Unlock { uid: self.uid },
         }
@@ -94,6 +101,20 @@ impl Opened {
         ensures { result ≡ pages_of self.now.length }
     {
         self.length.div_ceil(PAGE_BYTES as u32)
+    }
+
+    /// The load of a page, as far as the object is long.
+    fn load(&self, page: u32) -> Op
+        requires opened { IsOpened self.now }
+        requires page { page < pages_of self.now.length }
+        ensures value { result ≡ page_load self.now page }
+        ensures range { IsOp result }
+    {
+        let bytes = PAGE_BYTES as u32;
+        Op::Load {
+            spot: Spot::Addr(self.address + page * bytes),
+            count: bytes.min(self.length - page * bytes),
+        }
     }
 
     /// What is to be closed of it.
@@ -123,16 +144,43 @@ impl Opened {
 }
 
 impl Entering {
+    /// The operation of the opening of an object.
+    pub fn op(&self, uid: Uid, mode: Mode) -> Op
+        requires { IsEntering self.now }
+        ensures value { result ≡ enter_op uid mode self.now }
+        ensures range { IsOp result }
+    {
+        let _number = uid.number();
+        match self {
+            Entering::Lock => Op::Lock { uid, mode },
+            Entering::Length => Op::Length { uid },
+            Entering::Map { length: _ } => Op::Map { uid },
+            Entering::Load { opened, page } => opened.load(*page),
+        }
+    }
+
+    /// Puts the bytes of a reply to its operation behind those before.
+    pub fn take_bytes(&self, bytes: &mut ByteList, reply: &Reply) -> Result<(), NoMemory>
+        ensures { OnOk result (bytes.new ≡ bytes_after self.now bytes.old reply.now) }
+    {
+        if let Entering::Load { opened: _, page: _ } = self {
+            if let Reply::Bytes(more) = reply {
+                return bytes.extend(more.bytes());
+            }
+        }
+        Ok(())
+    }
+
     /// What a reply to its operation makes of the opening of an object.
-    pub fn hear(self, uid: Uid, reply: &Reply) -> Entry
-        requires { IsEntering self }
-        ensures { result ≡ entry_of uid self reply.now }
+    pub fn hear(&self, uid: Uid, reply: &Reply) -> Entry
+        requires { IsEntering self.now }
+        ensures { result ≡ entry_of uid self.now reply.now }
     {
         match self {
             Entering::Lock => on_lock(reply),
             Entering::Length => on_length(uid, reply),
-            Entering::Map { length } => on_map(uid, length, reply),
-            Entering::Load { opened, page } => on_load(opened, page, reply),
+            Entering::Map { length } => on_map(uid, *length, reply),
+            Entering::Load { opened, page } => on_load(opened, *page, reply),
         }
     }
 }
@@ -172,9 +220,9 @@ fn on_map(uid: Uid, length: u32, reply: &Reply) -> Entry
     }
 }
 
-fn on_load(opened: Opened, page: u32, reply: &Reply) -> Entry
-    requires { page < pages_of opened.length }
-    ensures { result ≡ load_entry opened page reply.now }
+fn on_load(opened: &Opened, page: u32, reply: &Reply) -> Entry
+    requires { IsEntering (LoadStage opened.now page) }
+    ensures { result ≡ load_entry opened.now page reply.now }
 {
     match reply {
         Reply::Bytes(_) => opened.at_page(page + 1),
@@ -192,7 +240,49 @@ pub fn is_fine(reply: &Reply) -> bool
     }
 }
 
+impl Entry {
+    /// How far an opening has come, where it goes on.
+    pub fn stage(&self) -> Option<Entering>
+        ensures { result ≡ stage_of self.now }
+    {
+        match self {
+            Entry::On(stage) => Some(*stage),
+            _ => None,
+        }
+    }
+
+    /// What is closed behind a reply.
+    pub fn closing(&self, alloc: Global, reply: &Reply) -> Result<Closing, NoMemory>
+        ensures { IfOk result (λ closing. closing ≡ closing_of reply.now self.now) }
+    {
+        match self {
+            Entry::On(_) => Ok(Closing::none()),
+            Entry::In(opened) => Ok(Closing {
+                held: Some(opened.held()),
+                counts: true,
+                refused: None,
+            }),
+            Entry::Out(held) => Ok(Closing {
+                held: *held,
+                counts: false,
+                refused: Some(reply.copy(alloc)?),
+            }),
+        }
+    }
+}
+
 impl Closing {
+    /// Nothing is to be closed.
+    pub fn none() -> Closing
+        ensures { result ≡ nothing_held }
+    {
+        Closing {
+            held: None,
+            counts: false,
+            refused: None,
+        }
+    }
+
     /// Takes in the reply to its operation.
     pub fn hear(&mut self, alloc: Global, reply: &Reply) -> Result<(), NoMemory>
         ensures { OnOk result (self.new ≡ closing_after self.old reply.now) }
