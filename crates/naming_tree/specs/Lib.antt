@@ -8,3 +8,4 @@ pub mod Paths
 pub mod Entering
 pub mod Sessions
 pub mod Readings
+pub mod Walks

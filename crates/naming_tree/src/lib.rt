@@ -8,10 +8,12 @@ mod path;
 mod reading;
 mod row;
 mod session;
+mod site;
 mod slot;
 mod step;
 
 pub use component::Component;
 pub use directory::{DirFault, DirRows, Directory, read_dir};
+pub use site::Site;
 pub use step::{NameResult, NameStep, Walked, Within};
 pub use row::{DirRow, write_row};
