@@ -1,3 +1,5 @@
 pub mod Filling
 pub mod Pieces
 pub mod NodeNames
+pub mod NodesNamed
+pub mod Dropping

@@ -9,3 +9,5 @@ pub mod Entering
 pub mod Sessions
 pub mod Readings
 pub mod Walks
+pub mod Turns
+pub mod Walking

@@ -65,15 +65,15 @@ abbrev pub look_up : ObjectName → List ℕ → (Walked → Dialogue) → Dialo
 look_up dir name next = reading dir (λ bytes. on_directory (directory_of bytes) name dir next)
 
 -- at the end of a path: a link may be followed there
-abbrev pub at_end : ObjKind → Bool → Dialogue → Dialogue → Dialogue
+abbrev pub at_end : {X : Type 0} → ObjKind → Bool → X → X → X
 at_end Link true follow found = follow
 at_end _ _ follow found = found
 
--- at an object with names behind it: these are looked up in a directory, and a link is followed
-abbrev pub at_middle : ObjKind → Dialogue → Dialogue → Dialogue
-at_middle Directory look follow = look
-at_middle Link look follow = follow
-at_middle _ look follow = Ends NotDir
+-- at an object with names behind it: these are looked up in a directory, a link is followed, and there is no other way
+abbrev pub at_middle : {X : Type 0} → ObjKind → X → X → X → X
+at_middle Directory look follow no_way = look
+at_middle Link look follow no_way = follow
+at_middle _ look follow no_way = no_way
 
 -- on from where a path starts
 abbrev pub on_start : Option Walked → (Walked → Dialogue) → Dialogue
@@ -91,7 +91,7 @@ module _ (site : Site) (last : Bool) (found : Walked → Dialogue) where
   along follow Root [] = found Root
   along follow Root (name ∷ names) = Ends NotDir
   along follow (At u kind within) [] = at_end kind last (follow u (holder u within) []) (found (At u kind within))
-  along follow (At u kind within) (name ∷ names) = at_middle kind (look_up u name (λ w. along follow w names)) (follow u (holder u within) (name ∷ names))
+  along follow (At u kind within) (name ∷ names) = at_middle kind (look_up u name (λ w. along follow w names)) (follow u (holder u within) (name ∷ names)) (Ends NotDir)
 
   -- a link is read and its path gone along, and then the names behind it, where so many may be followed
   abbrev pub follow : ℕ → ObjectName → ObjectName → List (List ℕ) → Dialogue

@@ -11,6 +11,7 @@ mod session;
 mod site;
 mod slot;
 mod step;
+mod walking;
 
 pub use component::Component;
 pub use directory::{DirFault, DirRows, Directory, read_dir};

@@ -1,5 +1,5 @@
 //! Names that are looked up one after the other.
-ghost use Rattle.std.specs.Prelude.{◌≡◌, ◌++◌, ◌∷◌, [], List, ℕ, Some, None, MatchOption, IfOk, OnOk};
+ghost use Rattle.std.specs.Prelude.{◌≡◌, ◌++◌, ◌∷◌, [], drop, List, ℕ, Some, None, MatchOption, IfOk, OnOk};
 
 use crate::component::Component;
 use std::alloc::Global;
@@ -42,16 +42,24 @@ impl Names {
         Ok(())
     }
 
-    /// Takes the first name away. Takes no memory.
-    pub fn pop(&mut self) -> Option<Component>
-        ensures { MatchOption result ((self.old ≡ []) × (self.new ≡ [])) (λ name. self.old ≡ name ∷ self.new) }
+    /// The first name. Takes no memory.
+    pub fn first(&self) -> Option<Component>
+        ensures { MatchOption result (self.now ≡ []) (λ name. self.now ≡ name ∷ drop 1 self.now) }
     {
         if self.passed < self.items.len() {
-            let name = self.items[self.passed];
-            self.passed += 1;
-            Some(name)
+            Some(self.items[self.passed])
         } else {
             None
+        }
+    }
+
+    /// Goes past the first name. Takes no memory.
+    #[tactic(auto, using(crate::proofs::Dropping::passed_one))]
+    pub fn pass(&mut self)
+        ensures { self.new ≡ drop 1 self.old }
+    {
+        if self.passed < self.items.len() {
+            self.passed += 1;
         }
     }
 

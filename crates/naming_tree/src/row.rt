@@ -1,8 +1,10 @@
 //! The records of directories.
 ghost use Rattle.std.specs.Prelude.{◌≡◌};
+ghost use Rattle.naming_tree.specs.Walks.{at_row};
 ghost use Rattle.naming_tree.specs.Records.{row_bytes};
 
 use crate::component::Component;
+use crate::step::{Walked, Within};
 use uid_names::{ObjKind, Uid};
 
 /// The bytes of a record.
@@ -14,6 +16,22 @@ pub struct DirRow {
     pub kind: ObjKind,
     pub name: Component,
     pub uid: Uid,
+}
+
+impl DirRow {
+    /// The object of a row of a directory. Takes no memory.
+    pub fn at(&self, dir: Uid) -> Walked
+        ensures { result ≡ at_row dir self.now }
+    {
+        Walked::At {
+            uid: self.uid,
+            kind: self.kind,
+            within: Some(Within {
+                dir,
+                name: self.name,
+            }),
+        }
+    }
 }
 
 /// The 64 bytes of a row. Takes no memory.
