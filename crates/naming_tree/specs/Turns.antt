@@ -1,8 +1,9 @@
 -- What a reply makes of a machine.
-use Rattle.std.specs.Prelude.{Option, Some, None, option_map}
+use Rattle.std.specs.Prelude.{Bool, true, false, Option, Some, None, option_map}
 use Rattle.dom_history.specs.declared.op.Op.{Op}
 use Rattle.dom_history.specs.declared.op.Reply.{Reply}
 use Rattle.dom_history.specs.Fitting.{Fits}
+use Rattle.dom_history.specs.Ranges.{IsOp}
 use Rattle.naming_tree.specs.declared.step.NameResult.{NameResult}
 use Rattle.naming_tree.specs.declared.step.NameStep.{NameStep}
 use Rattle.naming_tree.specs.declared.step.NameStep.TheVariants.{Do, Over}
@@ -34,3 +35,33 @@ FitsAsked None None = Unit {0}
 FitsAsked None (Some reply) = ⊥
 FitsAsked (Some op) None = ⊥
 FitsAsked (Some op) (Some reply) = Fits op reply
+
+-- Where a machine stands is None once it is over or found no memory. What may be told to one:
+abbrev pub FitsStood : {S : Type 0} → (S → Option Op) → Option S → Option Reply → Type 0
+FitsStood asks None last = ⊥
+FitsStood asks (Some state) last = FitsAsked (asks state) last
+
+-- where it stands once it is told this
+abbrev pub stood_after : {S : Type 0} → (S → Option Reply → Turn S) → Option S → Option Reply → Option S
+stood_after after None last = None
+stood_after after (Some state) last = state_of (after state last)
+
+-- and what it says then
+abbrev pub stood_says : {S : Type 0} → (S → Option Op) → (S → Option Reply → Turn S) → Option S → Option Reply → Option NameStep
+stood_says asks after None last = None
+stood_says asks after (Some state) last = step_of asks (after state last)
+
+-- a state, unless it is over
+abbrev pub unless : {S : Type 0} → Bool → S → Option S
+unless true state = None
+unless false state = Some state
+
+-- what holds while it is not over
+abbrev pub IfStill : Bool → Type 0 → Type 0
+IfStill true P = Unit {0}
+IfStill false P = P
+
+-- an operation in its ranges
+abbrev pub IsStep : NameStep → Type 0
+IsStep (Do op) = IsOp op
+IsStep (Over result) = Unit {0}

@@ -1,5 +1,5 @@
 -- How a walk goes on, reply by reply.
-use Rattle.std.specs.Prelude.{ℕ, zero, suc, Bool, true, false, Option, Some, None, List, [], ◌∷◌, ◌++◌}
+use Rattle.std.specs.Prelude.{◌≡◌, ℕ, zero, suc, Bool, true, false, Option, Some, None, List, [], ◌∷◌, ◌++◌}
 use Rattle.uid_names.specs.Names.{ObjectName}
 use Rattle.dom_history.specs.declared.op.Op.{Op}
 use Rattle.dom_history.specs.declared.op.Reply.{Reply}
@@ -98,6 +98,16 @@ walking_of site last route working = record {
   reading = reading_of working;
 }
 
--- what each walk keeps
+-- it has begun, and its reading is at a stage that can be reached
+pub record IsOn (w : Walking) : Type 0 where
+  pub asks : walking_asks w ≡ Some (reading_op w.reading)
+  pub reading : IsReading w.reading
+
+-- what each walk keeps, whether it has begun or not
 abbrev pub IsWalking : Walking → Type 0
 IsWalking w = IsReading w.reading
+
+-- a walk along a path, if it is one, before it begins
+abbrev pub walk_of : Site → Bool → Option Route → ObjectName → Option Walking
+walk_of site last None working = None
+walk_of site last (Some route) working = Some (walking_of site last route working)

@@ -11,10 +11,12 @@ mod session;
 mod site;
 mod slot;
 mod step;
+mod walk;
 mod walking;
 
 pub use component::Component;
 pub use directory::{DirFault, DirRows, Directory, read_dir};
 pub use site::Site;
 pub use step::{NameResult, NameStep, Walked, Within};
+pub use walk::Walk;
 pub use row::{DirRow, write_row};

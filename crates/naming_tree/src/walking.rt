@@ -1,5 +1,5 @@
 //! How far walks have come.
-ghost use Rattle.std.specs.Prelude.{◌≡◌, ◌≢◌, ◌++◌, None, Some, IfOk, OnOk, IfSome, is_none, true};
+ghost use Rattle.std.specs.Prelude.{◌≡◌, ◌≢◌, ◌++◌, None, Some, IfOk, OnOk, IfSome, IfNone, is_none, true};
 ghost use Rattle.dom_history.specs.Ranges.{IsOp};
 ghost use Rattle.dom_history.specs.Fitting.{Fits};
 ghost use Rattle.naming_tree.specs.declared.step.Walked.TheVariants.{At};
@@ -9,7 +9,7 @@ ghost use Rattle.naming_tree.specs.Paths.{route_of};
 ghost use Rattle.naming_tree.specs.Turns.{turn_of, Goes, Comes};
 ghost use Rattle.naming_tree.specs.Readings.{reading_op, IsReading};
 ghost use Rattle.naming_tree.specs.Walks.{holder as holder_of, at_end, at_middle};
-ghost use Rattle.naming_tree.specs.Walking.{looks, follows, stands, settled, at_found, at_slots, at_route, moved, walking_after, walking_asks, walking_of, IsWalking};
+ghost use Rattle.naming_tree.specs.Walking.{looks, follows, stands, settled, at_found, at_slots, at_route, moved, walking_after, walking_asks, walking_of, IsWalking, IsOn};
 
 use crate::component::Component;
 use crate::directory::{DirFault, Directory};
@@ -77,7 +77,8 @@ impl Walking {
 
     /// Looks a name up in a directory.
     fn look(&mut self, alloc: Global, dir: Uid, name: &Component)
-        ensures { self.new ≡ looks dir name.now self.old.rest self.old }
+        ensures state { self.new ≡ looks dir name.now self.old.rest self.old }
+        ensures on { IsOn self.new }
     {
         self.aim = Aim::Name(Within { dir, name: *name });
         self.reading = Reading::new(alloc, dir);
@@ -85,7 +86,8 @@ impl Walking {
 
     /// Follows a link, if it may.
     fn follow(&mut self, alloc: Global, link: Uid, dir: Uid) -> Option<NameResult>
-        ensures { turn_of result self.new ≡ follows self.old.links link dir self.old }
+        ensures turn { turn_of result self.new ≡ follows self.old.links link dir self.old }
+        ensures on { IfNone result (IsOn self.new) }
     {
         if self.links == 0 {
             return Some(NameResult::LinkLoop);
@@ -104,7 +106,8 @@ impl Walking {
         kind: ObjKind,
         within: &Option<Within>,
     ) -> Option<NameResult>
-        ensures { turn_of result self.new ≡ at_end kind self.old.last (follows self.old.links uid (holder_of uid within.now) self.old) (Comes (Found (At uid kind within.now))) }
+        ensures turn { turn_of result self.new ≡ at_end kind self.old.last (follows self.old.links uid (holder_of uid within.now) self.old) (Comes (Found (At uid kind within.now))) }
+        ensures on { IfNone result (IsOn self.new) }
     {
         match kind {
             ObjKind::Link if self.last => self.follow(alloc, uid, holder(uid, within)),
@@ -124,7 +127,8 @@ impl Walking {
         kind: ObjKind,
         within: &Option<Within>,
     ) -> Option<NameResult>
-        ensures { turn_of result self.new ≡ stands (At uid kind within.now) self.old.rest self.old }
+        ensures turn { turn_of result self.new ≡ stands (At uid kind within.now) self.old.rest self.old }
+        ensures on { IfNone result (IsOn self.new) }
     {
         let Some(name) = self.rest.first() else {
             return self.end(alloc, uid, kind, within);
@@ -142,7 +146,8 @@ impl Walking {
 
     /// Goes on from a place, if there is such a place.
     fn settle(&mut self, alloc: Global, here: &Option<Walked>) -> Option<NameResult>
-        ensures { turn_of result self.new ≡ settled here.now self.old }
+        ensures turn { turn_of result self.new ≡ settled here.now self.old }
+        ensures on { IfNone result (IsOn self.new) }
     {
         match here {
             Some(Walked::At { uid, kind, within }) => self.stand(alloc, *uid, *kind, within),
@@ -161,7 +166,8 @@ impl Walking {
         directory: &Directory,
         within: &Within,
     ) -> Option<NameResult>
-        ensures { turn_of result self.new ≡ at_slots (Some directory.now) within.now self.old }
+        ensures turn { turn_of result self.new ≡ at_slots (Some directory.now) within.now self.old }
+        ensures on { IfNone result (IsOn self.new) }
     {
         match directory.find(&within.name) {
             Some(row) => self.settle(alloc, &Some(row.at(within.dir))),
@@ -176,7 +182,8 @@ impl Walking {
         route: Route,
         dir: Uid,
     ) -> Result<Option<NameResult>, NoMemory>
-        ensures { IfOk result (λ r. turn_of r self.new ≡ at_route (Some route) dir self.old) }
+        ensures turn { IfOk result (λ r. turn_of r self.new ≡ at_route (Some route) dir self.old) }
+        ensures on { IfOk result (λ r. IfNone r (IsOn self.new)) }
     {
         let here = self.site.start(&route.start, dir);
         let mut names = route.names;
@@ -191,7 +198,8 @@ impl Walking {
         alloc: Global,
         within: &Within,
     ) -> Result<Option<NameResult>, NoMemory>
-        ensures { IfOk result (λ r. turn_of r self.new ≡ at_slots (directory_of self.old.reading.bytes) within.now self.old) }
+        ensures turn { IfOk result (λ r. turn_of r self.new ≡ at_slots (directory_of self.old.reading.bytes) within.now self.old) }
+        ensures on { IfOk result (λ r. IfNone r (IsOn self.new)) }
     {
         match Directory::read(alloc, self.reading.bytes.bytes()) {
             Ok(directory) => Ok(self.look_up(alloc, &directory, within)),
@@ -202,7 +210,8 @@ impl Walking {
 
     /// Goes on with a link that was read, unless it is bad.
     fn leave_link(&mut self, alloc: Global, dir: Uid) -> Result<Option<NameResult>, NoMemory>
-        ensures { IfOk result (λ r. turn_of r self.new ≡ at_route (route_of self.old.reading.bytes) dir self.old) }
+        ensures turn { IfOk result (λ r. turn_of r self.new ≡ at_route (route_of self.old.reading.bytes) dir self.old) }
+        ensures on { IfOk result (λ r. IfNone r (IsOn self.new)) }
     {
         match Route::read(alloc, self.reading.bytes.bytes())? {
             Some(route) => self.go_along(alloc, route, dir),
@@ -211,8 +220,9 @@ impl Walking {
     }
 
     /// Goes on with what was read.
-    fn move_on(&mut self, alloc: Global) -> Result<Option<NameResult>, NoMemory>
-        ensures { IfOk result (λ r. turn_of r self.new ≡ moved self.old) }
+    pub fn move_on(&mut self, alloc: Global) -> Result<Option<NameResult>, NoMemory>
+        ensures turn { IfOk result (λ r. turn_of r self.new ≡ moved self.old) }
+        ensures on { IfOk result (λ r. IfNone r (IsOn self.new)) }
     {
         let aim = self.aim;
         match &aim {
@@ -223,10 +233,11 @@ impl Walking {
     }
 
     /// Takes in the reply to its operation.
-    fn hear(&mut self, alloc: Global, reply: &Reply) -> Result<Option<NameResult>, NoMemory>
-        requires range { IsReading self.old.reading }
+    pub fn hear(&mut self, alloc: Global, reply: &Reply) -> Result<Option<NameResult>, NoMemory>
+        requires on { IsOn self.old }
         requires fits { Fits (reading_op self.old.reading) reply.now }
-        ensures { IfOk result (λ r. turn_of r self.new ≡ walking_after self.old (Some reply.now)) }
+        ensures turn { IfOk result (λ r. turn_of r self.new ≡ walking_after self.old (Some reply.now)) }
+        ensures on { IfOk result (λ r. IfNone r (IsOn self.new)) }
     {
         self.reading.hear(alloc, reply)?;
         if !self.reading.is_done() {
@@ -236,5 +247,14 @@ impl Walking {
             Some(reply) => Ok(Some(NameResult::Store(reply))),
             None => self.move_on(alloc),
         }
+    }
+
+    /// Its operation.
+    pub fn op(&self) -> Op
+        requires { IsOn self.now }
+        ensures value { walking_asks self.now ≡ Some result }
+        ensures range { IsOp result }
+    {
+        self.reading.op()
     }
 }
