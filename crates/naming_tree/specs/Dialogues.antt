@@ -2,6 +2,7 @@
 use Rattle.std.specs.Prelude.{List, [], ◌∷◌}
 use Rattle.dom_history.specs.declared.op.Op.{Op}
 use Rattle.dom_history.specs.declared.op.Reply.{Reply}
+use Rattle.dom_history.specs.Fitting.{Fits}
 use Rattle.naming_tree.specs.declared.step.NameResult.{NameResult}
 use Rattle.naming_tree.specs.declared.step.NameStep.{NameStep}
 use Rattle.naming_tree.specs.declared.step.NameStep.TheVariants.{Do, Over}
@@ -25,3 +26,13 @@ after d (reply ∷ heard) = told (after d heard) reply
 abbrev pub says : Dialogue → NameStep
 says (Ends result) = Over result
 says (Asks op further) = Do op
+
+-- a reply fits what was said before it
+abbrev pub FitsSaid : NameStep → Reply → Type 0
+FitsSaid (Do op) reply = Fits op reply
+FitsSaid (Over result) reply = ⊥
+
+-- so do all of these, of which the newest stands first
+abbrev pub FitsHeard : Dialogue → List Reply → Type 0
+FitsHeard d [] = Unit {0}
+FitsHeard d (reply ∷ heard) = FitsHeard d heard × FitsSaid (says (after d heard)) reply

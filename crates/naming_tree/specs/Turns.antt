@@ -1,5 +1,5 @@
 -- What a reply makes of a machine.
-use Rattle.std.specs.Prelude.{Bool, true, false, Option, Some, None, option_map}
+use Rattle.std.specs.Prelude.{Bool, true, false, Option, Some, None, List, [], ◌∷◌, option_map}
 use Rattle.dom_history.specs.declared.op.Op.{Op}
 use Rattle.dom_history.specs.declared.op.Reply.{Reply}
 use Rattle.dom_history.specs.Fitting.{Fits}
@@ -65,3 +65,13 @@ IfStill false P = P
 abbrev pub IsStep : NameStep → Type 0
 IsStep (Do op) = IsOp op
 IsStep (Over result) = Unit {0}
+
+-- where a machine that was made so stands once it was told these replies, the newest first; its first call told nothing
+abbrev pub machine_after : {S : Type 0} → (S → Option Reply → Turn S) → Option S → List Reply → Option S
+machine_after after made [] = stood_after after made None
+machine_after after made (reply ∷ heard) = stood_after after (machine_after after made heard) (Some reply)
+
+-- and what it said to the newest
+abbrev pub machine_says : {S : Type 0} → (S → Option Op) → (S → Option Reply → Turn S) → Option S → List Reply → Option NameStep
+machine_says asks after made [] = stood_says asks after made None
+machine_says asks after made (reply ∷ heard) = stood_says asks after (machine_after after made heard) (Some reply)
