@@ -6,3 +6,5 @@ pub mod Dropping
 pub mod ReadingsLeft
 pub mod ReadingsOn
 pub mod WalksLeft
+pub mod Machines
+pub mod ReadingsSay

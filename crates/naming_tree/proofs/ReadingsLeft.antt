@@ -33,7 +33,7 @@ ops_held None = []
 ops_held (Some h) = ops_at h.other h.mapped h.uid
 
 -- the first of them, and the others
-ops_first : (other : Option ObjectName) (mapped : Bool) (u : ObjectName) → ops_at other mapped u ≡ close_op other mapped u ∷ ops_held (rest_held other mapped u)
+pub ops_first : (other : Option ObjectName) (mapped : Bool) (u : ObjectName) → ops_at other mapped u ≡ close_op other mapped u ∷ ops_held (rest_held other mapped u)
 ops_first (Some other) mapped u = refl
 ops_first None true u = refl
 ops_first None false u = refl
@@ -114,7 +114,7 @@ module _ (u : ObjectName) (mode : Mode) (further : Opened → List ℕ → Dialo
   at_page o page so_far reply true e = refl
   at_page o page so_far reply false e = ap (λ (l : List Op). loading (closers o) l so_far (further o)) (no_page o page e)
 
-  loads_first : (o : Opened) (page : ℕ) → page < pages o.length → loads_from o page ≡ page_load o page ∷ loads_from o (page + 1)
+  pub loads_first : (o : Opened) (page : ℕ) → page < pages o.length → loads_from o page ≡ page_load o page ∷ loads_from o (page + 1)
   loads_first o page h = ap (λ (n : ℕ). map (page_load o) (range_with_len page n)) (one_more page (pages o.length) h)
     where
       one_more : (page n : ℕ) → page < n → n - page ≡ suc (n - (page + 1))

@@ -101,3 +101,26 @@ module _ (found : Walked → Dialogue) where
   moved_left (Begin here) bytes w = settled_left here w
   moved_left (Name within) bytes w = slots_left (directory_of bytes) within w
   moved_left (Link dir) bytes w = route_left (route_of bytes) dir w
+
+  done_left : (w : Walking) (enter : Option Entering) (held : Option Held) (refused : Option Reply) → w.reading.enter ≡ enter → w.reading.closing.held ≡ held → w.reading.closing.refused ≡ refused → turn_left (on_reading (is_done_at enter held) refused w) ≡ walk_left w
+  done_left w (Some stage) held refused e h r = refl
+  done_left w None (Some held) refused e h r = refl
+  done_left w None None (Some reply) e h r = rw (e, h, r) refl
+  done_left w None None None e h r = moved_left w.aim w.reading.bytes w ∙ rw (e, h, r) refl
+
+  -- a reply was taken in by the reading
+  read_left : (w : Walking) → turn_left (read_on w) ≡ walk_left w
+  read_left w = done_left w w.reading.enter w.reading.closing.held w.reading.closing.refused refl refl refl
+
+  same_behind : (aim : Aim) (w : Walking) (r : Reading) → behind aim (record w { reading = r }) ≡ behind aim w
+  same_behind (Begin here) w r = refl
+  same_behind (Name within) w r = refl
+  same_behind (Link dir) w r = refl
+
+  -- a reply leads on
+  pub walk_on : (w : Walking) (reply : Reply) → IsSound w.reading → is_done w.reading ≡ false → turn_left (walking_after w (Some reply)) ≡ told (walk_left w) reply
+  walk_on w reply h going =
+      let r = reading_after w.reading reply in
+      read_left (record w { reading = r })
+      ∙ ap (reading_left r) (same_behind w.aim w r)
+      ∙ sym (reading_on w.reading reply (behind w.aim w) h going)
