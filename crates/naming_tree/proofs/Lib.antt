@@ -8,3 +8,4 @@ pub mod ReadingsOn
 pub mod WalksLeft
 pub mod Machines
 pub mod ReadingsSay
+pub mod WalksLive

@@ -3,6 +3,7 @@
 
 mod component;
 mod directory;
+pub mod laws;
 mod names;
 mod path;
 mod reading;
