@@ -1,6 +1,6 @@
 -- A directory as the list of its records.
 use Rattle.std.specs.Prelude.{ℕ, zero, suc, ◌+◌, ◌*◌, ◌/◌, ◌%◌, ◌==◌, nat_le, nat_lt, Bool, true, false, not, ◌&&◌, ◌||◌, cond, Option, Some, None, List, [], ◌∷◌, length, bytes_eq, option_map, is_some, ◌≡◌, ◌≤◌}
-use Rattle.std.specs.List.{list_any, position_from, prefix_len}
+use Rattle.std.specs.List.{list_any, prefix_len}
 use Rattle.std.specs.Simd.{first_chunks}
 use Rattle.naming_tree.specs.declared.row.DirRow.{DirRow}
 use Rattle.naming_tree.specs.Wholes.{before}
@@ -62,9 +62,14 @@ abbrev pub row_named : List ℕ → List Slot → Option DirRow
 row_named name [] = None
 row_named name (slot ∷ slots) = cond (has_name name slot) slot (row_named name slots)
 
--- how many records stand before that of a name
-abbrev pub place_named : List ℕ → List Slot → Option ℕ
-place_named name slots = position_from (has_name name) 0 slots
+-- the row of a name, and how many records stand before it
+abbrev pub placed_from : ℕ → List ℕ → List Slot → Option (ℕ × DirRow)
+placed_from i name [] = None
+placed_from i name (None ∷ slots) = placed_from (i + 1) name slots
+placed_from i name (Some row ∷ slots) = cond (bytes_eq row.name name) (Some (i, row)) (placed_from (i + 1) name slots)
+
+abbrev pub placed_row : List ℕ → List Slot → Option (ℕ × DirRow)
+placed_row name slots = placed_from 0 name slots
 
 -- how many stand before the first free one, where a new name goes: behind all of them where none is free
 abbrev pub first_free : List Slot → ℕ

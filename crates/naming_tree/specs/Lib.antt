@@ -9,5 +9,6 @@ pub mod Entering
 pub mod Sessions
 pub mod Readings
 pub mod Walks
+pub mod Additions
 pub mod Turns
 pub mod Walking

@@ -3,7 +3,7 @@ ghost use Rattle.std.specs.Prelude.{◌≡◌, ◌≢◌, ◌≤◌, ◌<◌, �
 ghost use Rattle.std.specs.List.{list_any};
 ghost use Rattle.naming_tree.specs.declared.directory.DirFault.TheVariants as faults;
 ghost use Rattle.naming_tree.specs.declared.directory.TheConstants.{MOST_RECORDS};
-ghost use Rattle.naming_tree.specs.Directories.{slots_of, has_name as has_this_name, is_new as is_new_among, are_apart as names_are_apart, directory_of, rows_of, rows_in, row_named, place_named, first_free};
+ghost use Rattle.naming_tree.specs.Directories.{slots_of, has_name as has_this_name, is_new as is_new_among, are_apart as names_are_apart, directory_of, rows_of, rows_in, row_named, placed_row, first_free};
 
 use crate::component::Component;
 use crate::row::{DirRow, RECORD_BYTES};
@@ -143,14 +143,16 @@ fn find(slots: &[Slot], name: &Component) -> Option<DirRow>
     None
 }
 
-/// How many records stand before that of a name.
-fn place(slots: &[Slot], name: &Component) -> Option<usize>
-    ensures value { result ≡ place_named name.now slots.now }
-    ensures within { IfSome result (λ place. place < length slots.now) }
+/// The row of a name, and how many records stand before it.
+fn placed(slots: &[Slot], name: &Component) -> Option<(usize, DirRow)>
+    ensures value { result ≡ placed_row name.now slots.now }
+    ensures within { IfSome result (λ placed. placed.0 < length slots.now) }
 {
     for i in 0..slots.len() {
-        if has_name(&slots[i], name) {
-            return Some(i);
+        if let Some(row) = slots[i] {
+            if row.name.bytes() == name.bytes() {
+                return Some((i, row));
+            }
         }
     }
     None
@@ -211,12 +213,12 @@ impl Directory {
         find(&self.slots, name)
     }
 
-    /// How many records stand before that of a name. Takes no memory.
-    pub fn place(&self, name: &Component) -> Option<usize>
-        ensures value { result ≡ place_named name.now self.now }
-        ensures few { IfSome result (λ place. place < MOST_RECORDS) }
+    /// The row of a name, and how many records stand before it. Takes no memory.
+    pub fn placed(&self, name: &Component) -> Option<(usize, DirRow)>
+        ensures value { result ≡ placed_row name.now self.now }
+        ensures few { IfSome result (λ placed. placed.0 < MOST_RECORDS) }
     {
-        place(&self.slots, name)
+        placed(&self.slots, name)
     }
 
     /// How many records stand before the first free one; all where none is free. Takes no memory.

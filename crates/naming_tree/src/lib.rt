@@ -1,6 +1,7 @@
 //! Names: directories, paths, and the machines that walk and change them.
 #![tactic(auto)]
 
+mod addition;
 mod component;
 mod directory;
 pub mod laws;
