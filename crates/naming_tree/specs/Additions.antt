@@ -4,6 +4,7 @@ use Rattle.uid_names.specs.Names.{ObjectName}
 use Rattle.uid_names.specs.Rooms.{IsRoom}
 use Rattle.uid_names.specs.declared.mode.Mode.TheVariants.{Write}
 use Rattle.uid_names.specs.declared.mode.ObjKind.{ObjKind}
+use Rattle.uid_names.specs.declared.mode.ObjKind.TheVariants.{Link}
 use Rattle.dom_history.specs.declared.op.Op.{Op}
 use Rattle.dom_history.specs.declared.op.Op.TheVariants.{New, Lock, Unlock, Store}
 use Rattle.dom_history.specs.declared.op.Spot.TheVariants.{Of, Addr}
@@ -60,12 +61,14 @@ on_slots (Some slots) a o = on_name (row_named a.name slots) a o (first_free slo
 abbrev pub add_at : ObjectName → Addition → Dialogue
 add_at parent a = entering parent Write (λ o all. on_slots (directory_of all) a o)
 
--- a text such as a link has
+-- a text is there for a link alone, and is a path
 abbrev pub IsText : ObjKind → Option (List ℕ) → Type 0
-IsText kind None = Unit {0}
-IsText kind (Some text) = IsSome (route_of text)
+IsText Link None = ⊥
+IsText Link (Some text) = IsSome (route_of text)
+IsText _ None = Unit {0}
+IsText _ (Some text) = ⊥
 
--- what can be added: its room is one of objects, and its text is a path
+-- what can be added
 pub record IsAddition (a : Addition) : Type 0 where
   pub room : IsRoom a.room
   pub text : IsText a.kind a.text

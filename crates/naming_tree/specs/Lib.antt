@@ -9,6 +9,8 @@ pub mod Entering
 pub mod Sessions
 pub mod Readings
 pub mod Walks
+pub mod Endings
 pub mod Additions
+pub mod Adding
 pub mod Turns
 pub mod Walking

@@ -1,9 +1,11 @@
 //! Names: directories, paths, and the machines that walk and change them.
 #![tactic(auto)]
 
+mod adding;
 mod addition;
 mod component;
 mod directory;
+mod ending;
 pub mod laws;
 mod names;
 mod path;
