@@ -9,3 +9,5 @@ pub mod WalksLeft
 pub mod Machines
 pub mod ReadingsSay
 pub mod WalksLive
+pub mod EntriesOn
+pub mod AddingsOn

@@ -1,5 +1,5 @@
 -- How a name is added, reply by reply.
-use Rattle.std.specs.Prelude.{◌≡◌, ◌<◌, ℕ, nat_lt, Bool, true, false, Option, Some, None, List, []}
+use Rattle.std.specs.Prelude.{◌≡◌, ◌<◌, ℕ, nat_lt, Bool, true, false, Option, Some, None, List, [], IsSome}
 use Rattle.uid_names.specs.Names.{ObjectName}
 use Rattle.uid_names.specs.declared.mode.Mode.TheVariants.{Write}
 use Rattle.dom_history.specs.declared.op.Op.{Op}
@@ -76,17 +76,10 @@ on_made o place reply a = ends (refused_with (Some (held_of o)) reply) a
 abbrev pub held_with : MadeAt → Held
 held_with m = record { other = Some m.uid; mapped = m.opened.fresh; uid = m.opened.uid }
 
-abbrev pub on_locked : MadeAt → Reply → Adding → Adding
-on_locked m Fine a = at_stage (StoreText m) a
-on_locked m reply a = ends (refused_with (Some (held_of m.opened)) reply) a
-
-abbrev pub on_stored : MadeAt → Reply → Adding → Adding
-on_stored m Fine a = at_stage (UnlockText m) a
-on_stored m reply a = ends (refused_with (Some (held_with m)) reply) a
-
-abbrev pub on_unlocked : MadeAt → Reply → Adding → Adding
-on_unlocked m Fine a = at_stage (StoreName m) a
-on_unlocked m reply a = ends (refused_with (Some (held_of m.opened)) reply) a
+-- an operation that tells nothing: on in this stage, or giving up what is held
+abbrev pub went_on : AddStage → Held → Reply → Adding → Adding
+went_on stage held Fine a = at_stage stage a
+went_on stage held reply a = ends (refused_with (Some held) reply) a
 
 abbrev pub on_named : MadeAt → Reply → Adding → Adding
 on_named m Fine a = ends (completed m.opened (Added m.uid)) a
@@ -96,9 +89,9 @@ abbrev pub heard_in : AddStage → Reply → Adding → Adding
 heard_in Begin reply a = at_stage (Enter entering.Lock) a
 heard_in (Enter stage) reply a = entered stage reply a
 heard_in (Make o place) reply a = on_made o place reply a
-heard_in (LockText m) reply a = on_locked m reply a
-heard_in (StoreText m) reply a = on_stored m reply a
-heard_in (UnlockText m) reply a = on_unlocked m reply a
+heard_in (LockText m) reply a = went_on (StoreText m) (held_of m.opened) reply a
+heard_in (StoreText m) reply a = went_on (UnlockText m) (held_with m) reply a
+heard_in (UnlockText m) reply a = went_on (StoreName m) (held_of m.opened) reply a
 heard_in (StoreName m) reply a = on_named m reply a
 
 abbrev pub heard_at : Option AddStage → Reply → Adding → Adding
@@ -172,3 +165,8 @@ IsStageAt a (Some stage) = IsStage a stage
 pub record IsAdding (a : Adding) : Type 0 where
   pub what : IsAddition a.what
   pub stage : IsStageAt a a.stage
+
+-- it has begun
+pub record IsOn (a : Adding) : Type 0 where
+  pub adding : IsAdding a
+  pub asks : IsSome (adding_asks a)

@@ -1,20 +1,22 @@
 //! How far additions have come.
 ghost use Rattle.std.specs.Prelude.{◌≡◌, ◌<◌, None, Some, IfOk, OnOk, IfNone, IsSome};
 ghost use Rattle.dom_history.specs.Ranges.{IsOp};
+ghost use Rattle.uid_names.specs.declared.mode.Mode.TheVariants.{Write};
+ghost use Rattle.dom_history.specs.declared.op.Op.TheVariants.{Lock, Unlock, Store};
+ghost use Rattle.dom_history.specs.declared.op.Spot.TheVariants.{Of};
 ghost use Rattle.naming_tree.specs.Turns.{turn_of, FitsAsked};
 ghost use Rattle.naming_tree.specs.Entering.{IsEntering, IsOpened};
 ghost use Rattle.naming_tree.specs.Records.{row_bytes};
 ghost use Rattle.naming_tree.specs.declared.directory.TheConstants.{MOST_RECORDS as MostRecords};
 ghost use Rattle.naming_tree.specs.Additions.{store_record, added_row, IsAddition};
 ghost use Rattle.naming_tree.specs.Endings.{refused_with};
-ghost use Rattle.naming_tree.specs.Adding.{ends, on_slots, entered, judged as judged_by, on_made, on_locked, on_stored, on_unlocked, on_named, heard_in, held_with, adding_after, adding_asks, adding_of, text_of, IsAdding, IsStage, IsStageAt, IsPlaced, IsMade};
+ghost use Rattle.naming_tree.specs.Adding.{ends, on_slots, entered, judged as judged_by, on_made, on_named, heard_in, heard_at, finish, held_with, adding_after, adding_asks, adding_of, text_of, went_on, stage_op as stage_asks, IsTexted, IsOn, IsAdding, IsStage, IsStageAt, IsPlaced, IsMade};
 
 use crate::addition::Addition;
-use crate::component::Component;
 use crate::directory::{DirFault, Directory, MOST_RECORDS};
 use crate::ending::Ending;
 use crate::row::{DirRow, RECORD_BYTES, write_row};
-use crate::session::{Entering, Entry, Held, Opened};
+use crate::session::{Entering, Entry, Held, Opened, is_fine};
 use crate::step::NameResult;
 use dom_history::{Op, Reply, Spot};
 use std::alloc::Global;
@@ -168,4 +170,219 @@ impl Adding {
             Entry::Out(held) => self.give_up(alloc, *held, reply),
         }
     }
+
+    /// Goes on with the object that was made for the name.
+    fn made(
+        &mut self,
+        alloc: Global,
+        opened: &Opened,
+        place: u32,
+        reply: &Reply,
+    ) -> Result<(), NoMemory>
+        ensures { OnOk result (self.new ≡ on_made opened.now place reply.now self.old) }
+    {
+        let Reply::Made(uid) = reply else {
+            return self.give_up(alloc, Some(opened.held()), reply);
+        };
+        let made = Made {
+            opened: *opened,
+            place,
+            uid: *uid,
+        };
+        self.stage = Some(match self.what.text {
+            Some(_) => AddStage::LockText(made),
+            None => AddStage::StoreName(made),
+        });
+        Ok(())
+    }
+
+    /// Goes on in a stage, or gives up what is held.
+    fn go_on(
+        &mut self,
+        alloc: Global,
+        stage: &AddStage,
+        held: Held,
+        reply: &Reply,
+    ) -> Result<(), NoMemory>
+        ensures { OnOk result (self.new ≡ went_on stage.now held reply.now self.old) }
+    {
+        if is_fine(reply) {
+            self.stage = Some(*stage);
+            return Ok(());
+        }
+        self.give_up(alloc, Some(held), reply)
+    }
+
+    /// Comes to its end once the record is stored.
+    fn named(&mut self, alloc: Global, made: &Made, reply: &Reply) -> Result<(), NoMemory>
+        ensures { OnOk result (self.new ≡ on_named made.now reply.now self.old) }
+    {
+        if is_fine(reply) {
+            self.end(Ending::completed(
+                &made.opened,
+                NameResult::Added(made.uid),
+            ));
+            return Ok(());
+        }
+        self.give_up(alloc, Some(made.opened.held()), reply)
+    }
+
+    /// Takes in the reply to the operation of a stage.
+    fn hear_in(
+        &mut self,
+        alloc: Global,
+        stage: &AddStage,
+        reply: &Reply,
+    ) -> Result<(), NoMemory>
+        requires { IsStage self.old stage.now }
+        ensures { OnOk result (self.new ≡ heard_in stage.now reply.now self.old) }
+    {
+        match stage {
+            AddStage::Begin => {
+                self.stage = Some(AddStage::Enter(Entering::Lock));
+                Ok(())
+            }
+            AddStage::Enter(stage) => self.enter(alloc, stage, reply),
+            AddStage::Make { opened, place } => self.made(alloc, opened, *place, reply),
+            AddStage::LockText(made) => {
+                self.go_on(alloc, &AddStage::StoreText(*made), made.opened.held(), reply)
+            }
+            AddStage::StoreText(made) => {
+                self.go_on(alloc, &AddStage::UnlockText(*made), held_with(made), reply)
+            }
+            AddStage::UnlockText(made) => {
+                self.go_on(alloc, &AddStage::StoreName(*made), made.opened.held(), reply)
+            }
+            AddStage::StoreName(made) => self.named(alloc, made, reply),
+        }
+    }
+
+    /// Begins: the directory is opened. Takes no memory.
+    pub fn begin(&mut self)
+        requires { IsAdding self.old }
+        ensures turn { turn_of None self.new ≡ adding_after self.old None }
+        ensures on { IsOn self.new }
+    {
+        self.stage = Some(AddStage::Enter(Entering::Lock));
+    }
+
+    /// Takes in the reply to its operation, as far as it goes.
+    fn take_in(&mut self, alloc: Global, reply: &Reply) -> Result<(), NoMemory>
+        requires { IsStageAt self.old self.old.stage }
+        ensures { OnOk result (self.new ≡ heard_at self.old.stage reply.now self.old) }
+    {
+        let stage = self.stage;
+        match &stage {
+            Some(stage) => self.hear_in(alloc, stage, reply),
+            None => self.ending.hear(alloc, reply),
+        }
+    }
+
+    /// What it has come to, once all is closed.
+    fn finish(&mut self) -> Option<NameResult>
+        ensures { turn_of result self.new ≡ finish self.old }
+    {
+        if self.stage.is_some() {
+            return None;
+        }
+        self.ending.take_result()
+    }
+
+    /// Takes in the reply to its operation.
+    #[tactic(auto, using(crate::proofs::AddingsOn::on_after))]
+    pub fn hear(&mut self, alloc: Global, reply: &Reply) -> Result<Option<NameResult>, NoMemory>
+        requires on { IsOn self.old }
+        requires fits { FitsAsked (adding_asks self.old) (Some reply.now) }
+        ensures turn { IfOk result (λ r. turn_of r self.new ≡ adding_after self.old (Some reply.now)) }
+        ensures on { IfOk result (λ r. IfNone r (IsOn self.new)) }
+    {
+        self.take_in(alloc, reply)?;
+        Ok(self.finish())
+    }
+
+    /// The store of the text of a link that was made.
+    fn store_text(&self, alloc: Global, uid: Uid) -> Result<Op, NoMemory>
+        requires what { IsAddition self.now.what }
+        requires text { IsTexted self.now.what.text }
+        ensures value { IfOk result (λ op. op ≡ Store (Of uid 0) (text_of self.now.what.text)) }
+        ensures range { IfOk result IsOp }
+    {
+        let _number = uid.number();
+        match &self.what.text {
+            Some(text) => Ok(Op::Store {
+                spot: Spot::Of(uid, 0),
+                bytes: text.copy(alloc)?,
+            }),
+            None => unreachable!(),
+        }
+    }
+
+    /// The store of the record of an object that was made.
+    fn store_name(&self, alloc: Global, made: &Made) -> Result<Op, NoMemory>
+        requires { IsMade made.now }
+        ensures value { IfOk result (λ op. op ≡ store_record made.now.opened made.now.place (row_bytes (added_row self.now.what made.now.uid))) }
+        ensures range { IfOk result IsOp }
+    {
+        let row = DirRow {
+            kind: self.what.kind,
+            name: self.what.name,
+            uid: made.uid,
+        };
+        store_record(alloc, &made.opened, made.place, &write_row(&row))
+    }
+
+    /// The operation of a stage.
+    fn stage_op(&self, alloc: Global, stage: &AddStage) -> Result<Op, NoMemory>
+        requires begun { IsSome (stage_asks self.now stage.now) }
+        requires what { IsAddition self.now.what }
+        requires stage { IsStage self.now stage.now }
+        ensures value { IfOk result (λ op. stage_asks self.now stage.now ≡ Some op) }
+        ensures range { IfOk result IsOp }
+    {
+        match stage {
+            AddStage::Begin => unreachable!(),
+            AddStage::Enter(stage) => Ok(stage.op(self.parent, Mode::Write)),
+            AddStage::Make { opened, place: _ } => Ok(Op::New {
+                home: opened.uid.home(),
+                kind: self.what.kind,
+                room: self.what.room,
+            }),
+            AddStage::LockText(made) => Ok(lock(made.uid)),
+            AddStage::StoreText(made) => self.store_text(alloc, made.uid),
+            AddStage::UnlockText(made) => Ok(unlock(made.uid)),
+            AddStage::StoreName(made) => self.store_name(alloc, made),
+        }
+    }
+
+    /// Its operation.
+    pub fn op(&self, alloc: Global) -> Result<Op, NoMemory>
+        requires { IsOn self.now }
+        ensures value { IfOk result (λ op. adding_asks self.now ≡ Some op) }
+        ensures range { IfOk result IsOp }
+    {
+        match (&self.stage, &self.ending.closing.held) {
+            (Some(stage), _) => self.stage_op(alloc, stage),
+            (None, Some(held)) => Ok(held.op()),
+            (None, None) => unreachable!(),
+        }
+    }
+}
+
+/// A lock in writing.
+pub fn lock(uid: Uid) -> Op
+    ensures value { result ≡ Lock uid Write }
+    ensures range { IsOp result }
+{
+    let _number = uid.number();
+    let mode = Mode::Write;
+    Op::Lock { uid, mode }
+}
+
+/// The end of a lock.
+pub fn unlock(uid: Uid) -> Op
+    ensures value { result ≡ Unlock uid }
+    ensures range { IsOp result }
+{
+    let _number = uid.number();
+    Op::Unlock { uid }
 }

@@ -1,6 +1,7 @@
 //! Names: directories, paths, and the machines that walk and change them.
 #![tactic(auto)]
 
+mod add_at;
 mod adding;
 mod addition;
 mod component;
@@ -18,6 +19,8 @@ mod step;
 mod walk;
 mod walking;
 
+pub use add_at::AddAt;
+pub use addition::Addition;
 pub use component::Component;
 pub use directory::{DirFault, DirRows, Directory, read_dir};
 pub use site::Site;
