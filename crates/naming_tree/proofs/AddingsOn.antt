@@ -19,14 +19,15 @@ use Rattle.naming_tree.specs.declared.step.NameResult.{NameResult}
 use Rattle.naming_tree.specs.declared.adding.AddStage.{AddStage}
 use Rattle.naming_tree.specs.declared.adding.AddStage.TheVariants.{Begin, Enter, Make, LockText, StoreText, UnlockText, StoreName}
 use Rattle.naming_tree.specs.declared.adding.Adding.{Adding}
-use Rattle.naming_tree.specs.declared.adding.Made.{Made as MadeAt}
+use Rattle.naming_tree.specs.declared.placed.Placed.{Placed}
 use Rattle.naming_tree.specs.Records.{Slot}
 use Rattle.naming_tree.specs.Directories.{directory_of, row_named, first_free}
 use Rattle.naming_tree.specs.Entering.{entry_of, bytes_after, held_of, held_op_of, refusal, is_fine, IsEntering, IsOpened}
 use Rattle.naming_tree.specs.Endings.{result_of, result_at, ending_after, IsEnding, IsResulting}
 use Rattle.naming_tree.specs.Additions.{IsAddition}
+use Rattle.naming_tree.specs.Placing.{held_with, IsPlaced, IsThere}
 use Rattle.naming_tree.specs.Turns.{Turn, Goes, Comes, turn_of, FitsAsked}
-use Rattle.naming_tree.specs.Adding.{at_stage, ends, on_place, on_name, on_slots, judged, on_entry, entered, text_or_name, on_made, held_with, went_on, on_named, heard_in, heard_at, finish, finish_at, adding_after, stage_op, adding_asks, op_at, IsStage, IsStageAt, IsTexted, IsMade, IsPlaced, IsAdding, IsOn}
+use Rattle.naming_tree.specs.Adding.{at_stage, ends, on_place, on_name, on_slots, judged, on_entry, entered, text_or_name, on_made, went_on, on_named, heard_in, heard_at, finish, finish_at, adding_after, stage_op, adding_asks, op_at, IsStage, IsStageAt, IsTexted, IsAdding, IsOn}
 use Rattle.naming_tree.proofs.EntriesOn.{IsEntry, entry_on}
 
 abbrev pub Began : Option AddStage → Type 0
@@ -56,17 +57,17 @@ entry_sound (On stage) reply a w h = record { what = w; began = tt; stage = h }
 entry_sound (In o) reply a w h = slots_sound (directory_of a.bytes) o a w h
 entry_sound (Out held) reply a w h = record { what = w; began = tt; stage = tt }
 
-text_began : (text : Option (List ℕ)) (m : MadeAt) → Began (Some (text_or_name text m))
+text_began : (text : Option (List ℕ)) (m : Placed) → Began (Some (text_or_name text m))
 text_began (Some text) m = tt
 text_began None m = tt
 
-text_sound : (text : Option (List ℕ)) (m : MadeAt) (a : Adding) → a.what.text ≡ text → IsMade m → IsStage a (text_or_name text m)
+text_sound : (text : Option (List ℕ)) (m : Placed) (a : Adding) → a.what.text ≡ text → IsThere m → IsStage a (text_or_name text m)
 text_sound (Some text) m a e h = (h, subst IsTexted (sym e) tt)
 text_sound None m a e h = h
 
 made_sound : (o : Opened) (place : ℕ) (reply : Reply) (a : Adding) → IsAddition a.what → IsPlaced o place → Sound (on_made o place reply a)
 made_sound o place (Made u) a w h =
-    let m : MadeAt = record { opened = o; place = place; uid = u } in
+    let m : Placed = record { opened = o; place = place; uid = u } in
     record { what = w; began = text_began a.what.text m; stage = text_sound a.what.text m (at_stage (text_or_name a.what.text m) a) refl h }
 made_sound o place reply a w h = record { what = w; began = tt; stage = tt }
 
@@ -74,7 +75,7 @@ on_sound : (stage : AddStage) (held : Held) (reply : Reply) (a : Adding) → IsA
 on_sound stage held Fine a w b h k = record { what = w; began = b; stage = k (at_stage stage a) refl }
 on_sound stage held reply a w b h k = record { what = w; began = tt; stage = tt }
 
-named_sound : (m : MadeAt) (reply : Reply) (a : Adding) → IsAddition a.what → Sound (on_named m reply a)
+named_sound : (m : Placed) (reply : Reply) (a : Adding) → IsAddition a.what → Sound (on_named m reply a)
 named_sound m Fine a w = record { what = w; began = tt; stage = tt }
 named_sound m reply a w = record { what = w; began = tt; stage = tt }
 

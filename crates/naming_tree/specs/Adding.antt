@@ -22,12 +22,13 @@ use Rattle.naming_tree.specs.declared.ending.Ending.{Ending}
 use Rattle.naming_tree.specs.declared.adding.AddStage.{AddStage}
 use Rattle.naming_tree.specs.declared.adding.AddStage.TheVariants.{Begin, Enter, Make, LockText, StoreText, UnlockText, StoreName}
 use Rattle.naming_tree.specs.declared.adding.Adding.{Adding}
-use Rattle.naming_tree.specs.declared.adding.Made.{Made as MadeAt}
+use Rattle.naming_tree.specs.declared.placed.Placed.{Placed}
 use Rattle.naming_tree.specs.Records.{Slot, row_bytes}
 use Rattle.naming_tree.specs.Directories.{directory_of, row_named, first_free}
 use Rattle.naming_tree.specs.Entering.{enter_op, entry_of, bytes_after, held_of, op_of_closing, IsEntering, IsOpened}
 use Rattle.naming_tree.specs.Endings.{no_ending, refused_with, decided, completed, ending_after, result_of, IsEnding}
-use Rattle.naming_tree.specs.Additions.{store_record, added_row, IsAddition}
+use Rattle.naming_tree.specs.Additions.{added_row, IsAddition}
+use Rattle.naming_tree.specs.Placing.{store_record, held_with, IsPlaced, IsThere}
 use Rattle.naming_tree.specs.Turns.{Turn, turn_of}
 
 -- it goes on in a stage
@@ -64,7 +65,7 @@ abbrev pub entered : Entering → Reply → Adding → Adding
 entered stage reply a = on_entry (entry_of a.parent stage reply) reply (record a { bytes = bytes_after stage a.bytes reply })
 
 -- the object was made: a text is stored into a link, and then its name into the directory
-abbrev pub text_or_name : Option (List ℕ) → MadeAt → AddStage
+abbrev pub text_or_name : Option (List ℕ) → Placed → AddStage
 text_or_name (Some text) m = LockText m
 text_or_name None m = StoreName m
 
@@ -72,16 +73,12 @@ abbrev pub on_made : Opened → ℕ → Reply → Adding → Adding
 on_made o place (Made u) a = at_stage (text_or_name a.what.text (record { opened = o; place = place; uid = u })) a
 on_made o place reply a = ends (refused_with (Some (held_of o)) reply) a
 
--- what is held, with the link's own lock
-abbrev pub held_with : MadeAt → Held
-held_with m = record { other = Some m.uid; mapped = m.opened.fresh; uid = m.opened.uid }
-
 -- an operation that tells nothing: on in this stage, or giving up what is held
 abbrev pub went_on : AddStage → Held → Reply → Adding → Adding
 went_on stage held Fine a = at_stage stage a
 went_on stage held reply a = ends (refused_with (Some held) reply) a
 
-abbrev pub on_named : MadeAt → Reply → Adding → Adding
+abbrev pub on_named : Placed → Reply → Adding → Adding
 on_named m Fine a = ends (completed m.opened (Added m.uid)) a
 on_named m reply a = ends (refused_with (Some (held_of m.opened)) reply) a
 
@@ -137,25 +134,20 @@ adding_asks a = op_at a a.stage
 abbrev pub adding_of : ObjectName → Addition → Adding
 adding_of parent what = record { parent = parent; what = what; stage = Some Begin; bytes = []; ending = no_ending }
 
--- a stage that can be reached
-abbrev pub IsPlaced : Opened → ℕ → Type 0
-IsPlaced o place = IsOpened o × (place < MOST_RECORDS)
-
-abbrev pub IsMade : MadeAt → Type 0
-IsMade m = IsPlaced m.opened m.place
-
+-- a text is there
 abbrev pub IsTexted : Option (List ℕ) → Type 0
 IsTexted None = ⊥
 IsTexted (Some text) = Unit {0}
 
+-- a stage that can be reached
 abbrev pub IsStage : Adding → AddStage → Type 0
 IsStage a Begin = Unit {0}
 IsStage a (Enter stage) = IsEntering stage
 IsStage a (Make o place) = IsPlaced o place
-IsStage a (LockText m) = IsMade m × IsTexted a.what.text
-IsStage a (StoreText m) = IsMade m × IsTexted a.what.text
-IsStage a (UnlockText m) = IsMade m
-IsStage a (StoreName m) = IsMade m
+IsStage a (LockText m) = IsThere m × IsTexted a.what.text
+IsStage a (StoreText m) = IsThere m × IsTexted a.what.text
+IsStage a (UnlockText m) = IsThere m
+IsStage a (StoreName m) = IsThere m
 
 abbrev pub IsStageAt : Adding → Option AddStage → Type 0
 IsStageAt a None = IsEnding a.ending

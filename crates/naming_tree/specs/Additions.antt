@@ -1,5 +1,5 @@
 -- A name that is added to a directory, and what that asks.
-use Rattle.std.specs.Prelude.{◌≡◌, ◌≤◌, ℕ, ◌+◌, ◌*◌, nat_lt, Bool, true, false, cond, Option, Some, None, List, [], ◌∷◌, length, IsSome}
+use Rattle.std.specs.Prelude.{◌≡◌, ◌≤◌, ℕ, nat_lt, Bool, true, false, cond, Option, Some, None, List, [], ◌∷◌, length, IsSome}
 use Rattle.uid_names.specs.Names.{ObjectName}
 use Rattle.uid_names.specs.Rooms.{IsRoom}
 use Rattle.uid_names.specs.declared.mode.Mode.TheVariants.{Write}
@@ -7,9 +7,8 @@ use Rattle.uid_names.specs.declared.mode.ObjKind.{ObjKind}
 use Rattle.uid_names.specs.declared.mode.ObjKind.TheVariants.{Link}
 use Rattle.dom_history.specs.declared.op.Op.{Op}
 use Rattle.dom_history.specs.declared.op.Op.TheVariants.{New, Lock, Unlock, Store}
-use Rattle.dom_history.specs.declared.op.Spot.TheVariants.{Of, Addr}
+use Rattle.dom_history.specs.declared.op.Spot.TheVariants.{Of}
 use Rattle.naming_tree.specs.declared.row.DirRow.{DirRow}
-use Rattle.naming_tree.specs.declared.row.TheConstants.{RECORD_BYTES}
 use Rattle.naming_tree.specs.declared.directory.TheConstants.{MOST_RECORDS}
 use Rattle.naming_tree.specs.declared.session.Opened.{Opened}
 use Rattle.naming_tree.specs.declared.step.NameResult.TheVariants.{Added, NameExists, DirFull, BadDir}
@@ -17,12 +16,9 @@ use Rattle.naming_tree.specs.declared.addition.Addition.{Addition}
 use Rattle.naming_tree.specs.Records.{Slot, row_bytes}
 use Rattle.naming_tree.specs.Directories.{directory_of, row_named, first_free}
 use Rattle.naming_tree.specs.Paths.{route_of}
+use Rattle.naming_tree.specs.Placing.{store_record}
 use Rattle.naming_tree.specs.Dialogues.{Dialogue, Ends}
 use Rattle.naming_tree.specs.Sessions.{fine, made, closing, ask, closers, shutting, entering}
-
--- a record is stored at its place in a directory that is open
-abbrev pub store_record : Opened → ℕ → List ℕ → Op
-store_record o place record_bytes = Store (Addr (o.address + place * RECORD_BYTES)) record_bytes
 
 -- the row of an addition
 abbrev pub added_row : Addition → ObjectName → DirRow

@@ -10,6 +10,7 @@ pub mod Sessions
 pub mod Readings
 pub mod Walks
 pub mod Endings
+pub mod Placing
 pub mod Additions
 pub mod Adding
 pub mod Turns

@@ -8,27 +8,21 @@ ghost use Rattle.naming_tree.specs.Turns.{turn_of, FitsAsked};
 ghost use Rattle.naming_tree.specs.Entering.{IsEntering, IsOpened};
 ghost use Rattle.naming_tree.specs.Records.{row_bytes};
 ghost use Rattle.naming_tree.specs.declared.directory.TheConstants.{MOST_RECORDS as MostRecords};
-ghost use Rattle.naming_tree.specs.Additions.{store_record, added_row, IsAddition};
+ghost use Rattle.naming_tree.specs.Additions.{added_row, IsAddition};
+ghost use Rattle.naming_tree.specs.Placing.{store_record, IsPlaced, IsThere};
 ghost use Rattle.naming_tree.specs.Endings.{refused_with};
-ghost use Rattle.naming_tree.specs.Adding.{ends, on_slots, entered, judged as judged_by, on_made, on_named, heard_in, heard_at, finish, held_with, adding_after, adding_asks, adding_of, text_of, went_on, stage_op as stage_asks, IsTexted, IsOn, IsAdding, IsStage, IsStageAt, IsPlaced, IsMade};
+ghost use Rattle.naming_tree.specs.Adding.{ends, on_slots, entered, judged as judged_by, on_made, on_named, heard_in, heard_at, finish, adding_after, adding_asks, adding_of, text_of, went_on, stage_op as stage_asks, IsTexted, IsOn, IsAdding, IsStage, IsStageAt};
 
 use crate::addition::Addition;
 use crate::directory::{DirFault, Directory, MOST_RECORDS};
 use crate::ending::Ending;
-use crate::row::{DirRow, RECORD_BYTES, write_row};
+use crate::placed::{Placed, lock, store_record, unlock};
+use crate::row::{DirRow, write_row};
 use crate::session::{Entering, Entry, Held, Opened, is_fine};
 use crate::step::NameResult;
 use dom_history::{Op, Reply, Spot};
 use std::alloc::Global;
 use uid_names::{ByteList, Mode, NoMemory, Uid};
-
-/// An object that was made for a name, and the place of its record in the directory that is open.
-#[derive(Clone, Copy)]
-pub struct Made {
-    pub opened: Opened,
-    pub place: u32,
-    pub uid: Uid,
-}
 
 /// What is asked for an addition: the directory is opened and loaded, the object made, the text of a link stored
 /// into it, and the record stored.
@@ -41,10 +35,10 @@ pub enum AddStage {
         opened: Opened,
         place: u32,
     },
-    LockText(Made),
-    StoreText(Made),
-    UnlockText(Made),
-    StoreName(Made),
+    LockText(Placed),
+    StoreText(Placed),
+    UnlockText(Placed),
+    StoreName(Placed),
 }
 
 /// How far an addition to a directory has come; without a stage it comes to its end.
@@ -55,34 +49,6 @@ pub struct Adding {
     pub stage: Option<AddStage>,
     pub bytes: ByteList,
     pub ending: Ending,
-}
-
-/// The store of a record at its place in a directory that is open.
-pub fn store_record(
-    alloc: Global,
-    opened: &Opened,
-    place: u32,
-    record: &[u8; RECORD_BYTES],
-) -> Result<Op, NoMemory>
-    requires { IsPlaced opened.now place }
-    ensures value { IfOk result (λ op. op ≡ store_record opened.now place record.now) }
-    ensures range { IfOk result IsOp }
-{
-    let bytes = ByteList::from_slice(alloc, record)?;
-    Ok(Op::Store {
-        spot: Spot::Addr(opened.address + place * RECORD_BYTES as u32),
-        bytes,
-    })
-}
-
-/// What is held, with the lock of an object that was made.
-fn held_with(made: &Made) -> Held
-    ensures { result ≡ held_with made.now }
-{
-    Held {
-        other: Some(made.uid),
-        ..made.opened.held()
-    }
 }
 
 impl Adding {
@@ -184,7 +150,7 @@ impl Adding {
         let Reply::Made(uid) = reply else {
             return self.give_up(alloc, Some(opened.held()), reply);
         };
-        let made = Made {
+        let made = Placed {
             opened: *opened,
             place,
             uid: *uid,
@@ -214,7 +180,7 @@ impl Adding {
     }
 
     /// Comes to its end once the record is stored.
-    fn named(&mut self, alloc: Global, made: &Made, reply: &Reply) -> Result<(), NoMemory>
+    fn named(&mut self, alloc: Global, made: &Placed, reply: &Reply) -> Result<(), NoMemory>
         ensures { OnOk result (self.new ≡ on_named made.now reply.now self.old) }
     {
         if is_fine(reply) {
@@ -248,7 +214,7 @@ impl Adding {
                 self.go_on(alloc, &AddStage::StoreText(*made), made.opened.held(), reply)
             }
             AddStage::StoreText(made) => {
-                self.go_on(alloc, &AddStage::UnlockText(*made), held_with(made), reply)
+                self.go_on(alloc, &AddStage::UnlockText(*made), made.held(), reply)
             }
             AddStage::UnlockText(made) => {
                 self.go_on(alloc, &AddStage::StoreName(*made), made.opened.held(), reply)
@@ -318,8 +284,8 @@ impl Adding {
     }
 
     /// The store of the record of an object that was made.
-    fn store_name(&self, alloc: Global, made: &Made) -> Result<Op, NoMemory>
-        requires { IsMade made.now }
+    fn store_name(&self, alloc: Global, made: &Placed) -> Result<Op, NoMemory>
+        requires { IsThere made.now }
         ensures value { IfOk result (λ op. op ≡ store_record made.now.opened made.now.place (row_bytes (added_row self.now.what made.now.uid))) }
         ensures range { IfOk result IsOp }
     {
@@ -366,23 +332,4 @@ impl Adding {
             (None, None) => unreachable!(),
         }
     }
-}
-
-/// A lock in writing.
-pub fn lock(uid: Uid) -> Op
-    ensures value { result ≡ Lock uid Write }
-    ensures range { IsOp result }
-{
-    let _number = uid.number();
-    let mode = Mode::Write;
-    Op::Lock { uid, mode }
-}
-
-/// The end of a lock.
-pub fn unlock(uid: Uid) -> Op
-    ensures value { result ≡ Unlock uid }
-    ensures range { IsOp result }
-{
-    let _number = uid.number();
-    Op::Unlock { uid }
 }

@@ -10,6 +10,7 @@ mod ending;
 pub mod laws;
 mod names;
 mod path;
+mod placed;
 mod reading;
 mod row;
 mod session;
