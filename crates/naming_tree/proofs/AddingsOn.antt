@@ -88,7 +88,7 @@ in_sound (StoreText m) reply a w h fits = on_sound (UnlockText m) (held_with m) 
 in_sound (UnlockText m) reply a w h fits = on_sound (StoreName m) (held_of m.opened) reply a w tt h (λ b e. h)
 in_sound (StoreName m) reply a w h fits = named_sound m reply a w
 
-still_ends : (counts fine : Bool) (refused : Option Reply) (reply : Reply) (result : Option NameResult) → IsResulting refused result → IsResulting (refusal (counts && not fine) reply refused) result
+pub still_ends : (counts fine : Bool) (refused : Option Reply) (reply : Reply) (result : Option NameResult) → IsResulting refused result → IsResulting (refusal (counts && not fine) reply refused) result
 still_ends true true refused reply result h = h
 still_ends true false refused reply result h = tt
 still_ends false fine refused reply result h = h

@@ -11,3 +11,5 @@ pub mod ReadingsSay
 pub mod WalksLive
 pub mod EntriesOn
 pub mod AddingsOn
+pub mod DirectoriesRead
+pub mod RemovingsOn

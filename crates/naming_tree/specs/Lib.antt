@@ -13,5 +13,7 @@ pub mod Endings
 pub mod Placing
 pub mod Additions
 pub mod Adding
+pub mod Removals
+pub mod Removing
 pub mod Turns
 pub mod Walking

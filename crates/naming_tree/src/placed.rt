@@ -1,7 +1,7 @@
 //! Objects with the places of their records in a directory that is open.
 ghost use Rattle.std.specs.Prelude.{◌≡◌, IfOk};
 ghost use Rattle.uid_names.specs.declared.mode.Mode.TheVariants.{Write};
-ghost use Rattle.dom_history.specs.declared.op.Op.TheVariants.{Lock, Unlock};
+ghost use Rattle.dom_history.specs.declared.op.Op.TheVariants.{Lock, Unlock, Delete};
 ghost use Rattle.dom_history.specs.Ranges.{IsOp};
 ghost use Rattle.naming_tree.specs.Placing.{store_record, held_with, IsPlaced};
 
@@ -23,12 +23,22 @@ impl Placed {
     /// What is held, with the lock of the object.
     pub fn held(&self) -> Held
         ensures { result ≡ held_with self.now }
-{
-    Held {
-        other: Some(self.uid),
-        ..self.opened.held()
+    {
+        Held {
+            other: Some(self.uid),
+            ..self.opened.held()
+        }
     }
-}
+
+    /// The deleting of the object.
+    pub fn delete(&self) -> Op
+        ensures value { result ≡ Delete self.now.uid }
+        ensures range { IsOp result }
+    {
+        let uid = self.uid;
+        let _number = uid.number();
+        Op::Delete { uid }
+    }
 }
 
 /// The store of a record at its place in a directory that is open.
