@@ -13,3 +13,5 @@ pub mod EntriesOn
 pub mod AddingsOn
 pub mod DirectoriesRead
 pub mod RemovingsOn
+pub mod RowPlaces
+pub mod LastNames

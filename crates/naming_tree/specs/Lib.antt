@@ -15,5 +15,8 @@ pub mod Additions
 pub mod Adding
 pub mod Removals
 pub mod Removing
+pub mod NamePaths
+pub mod Tasks
+pub mod ByPaths
 pub mod Turns
 pub mod Walking

@@ -4,11 +4,13 @@
 mod add_at;
 mod adding;
 mod addition;
+mod by_path;
 mod component;
 mod directory;
 mod drop_at;
 mod ending;
 pub mod laws;
+mod listing;
 mod names;
 mod path;
 mod placed;
@@ -19,6 +21,7 @@ mod session;
 mod site;
 mod slot;
 mod step;
+mod task;
 mod walk;
 mod walking;
 

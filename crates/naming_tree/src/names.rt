@@ -1,6 +1,8 @@
 //! Names that are looked up one after the other.
 ghost use Rattle.std.specs.Prelude.{◌≡◌, ◌++◌, ◌∷◌, [], drop, List, ℕ, Some, None, MatchOption, IfOk, OnOk};
 
+ghost use Rattle.naming_tree.specs.NamePaths.{last_of};
+
 use crate::component::Component;
 use std::alloc::Global;
 use std::marker::Model;
@@ -61,6 +63,20 @@ impl Names {
         if self.passed < self.items.len() {
             self.passed += 1;
         }
+    }
+
+    /// Takes the last name away. Takes no memory.
+    #[tactic(auto, using(crate::proofs::LastNames::popped, crate::proofs::LastNames::none_left))]
+    pub fn pop(&mut self) -> Option<Component>
+        ensures { MatchOption result (last_of self.old ≡ None) (λ name. last_of self.old ≡ Some (self.new, name)) }
+    {
+        if self.passed == self.items.len() {
+            return None;
+        }
+        let Some(name) = self.items.pop() else {
+            unreachable!()
+        };
+        Some(name)
     }
 
     /// The names, in order. Takes no memory.

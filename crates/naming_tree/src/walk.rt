@@ -68,11 +68,7 @@ impl Walk {
         ensures memory { OnErr result (self.new ≡ None) }
     {
         self.over = true;
-        let come = match last {
-            Some(reply) => self.walking.hear(alloc, reply)?,
-            None => self.walking.move_on(alloc)?,
-        };
-        match come {
+        match self.walking.turn(alloc, last)? {
             Some(result) => Ok(NameStep::Over(result)),
             None => {
                 let op = self.walking.op();

@@ -1,12 +1,13 @@
 //! How far walks have come.
 ghost use Rattle.std.specs.Prelude.{◌≡◌, ◌≢◌, ◌++◌, None, Some, IfOk, OnOk, IfSome, IfNone, is_none, true};
+ghost use Rattle.std.specs.Option.{option_copied};
 ghost use Rattle.dom_history.specs.Ranges.{IsOp};
 ghost use Rattle.dom_history.specs.Fitting.{Fits};
 ghost use Rattle.naming_tree.specs.declared.step.Walked.TheVariants.{At};
 ghost use Rattle.naming_tree.specs.declared.step.NameResult.TheVariants.{Found, NotDir as NotDirResult};
 ghost use Rattle.naming_tree.specs.Directories.{directory_of};
 ghost use Rattle.naming_tree.specs.Paths.{route_of};
-ghost use Rattle.naming_tree.specs.Turns.{turn_of, Goes, Comes};
+ghost use Rattle.naming_tree.specs.Turns.{turn_of, Goes, Comes, FitsAsked};
 ghost use Rattle.naming_tree.specs.Readings.{reading_op, IsReading};
 ghost use Rattle.naming_tree.specs.Walks.{holder as holder_of, at_end, at_middle};
 ghost use Rattle.naming_tree.specs.Walking.{looks, follows, stands, settled, at_found, at_slots, at_route, moved, walking_after, walking_asks, walking_of, IsWalking, IsOn};
@@ -220,7 +221,7 @@ impl Walking {
     }
 
     /// Goes on with what was read.
-    pub fn move_on(&mut self, alloc: Global) -> Result<Option<NameResult>, NoMemory>
+    fn move_on(&mut self, alloc: Global) -> Result<Option<NameResult>, NoMemory>
         ensures turn { IfOk result (λ r. turn_of r self.new ≡ moved self.old) }
         ensures on { IfOk result (λ r. IfNone r (IsOn self.new)) }
     {
@@ -233,7 +234,7 @@ impl Walking {
     }
 
     /// Takes in the reply to its operation.
-    pub fn hear(&mut self, alloc: Global, reply: &Reply) -> Result<Option<NameResult>, NoMemory>
+    fn hear(&mut self, alloc: Global, reply: &Reply) -> Result<Option<NameResult>, NoMemory>
         requires on { IsOn self.old }
         requires fits { Fits (reading_op self.old.reading) reply.now }
         ensures turn { IfOk result (λ r. turn_of r self.new ≡ walking_after self.old (Some reply.now)) }
@@ -245,6 +246,23 @@ impl Walking {
         }
         match self.reading.closing.refused.take() {
             Some(reply) => Ok(Some(NameResult::Store(reply))),
+            None => self.move_on(alloc),
+        }
+    }
+
+    /// Takes in the reply to its operation; at first it is told nothing.
+    pub fn turn(
+        &mut self,
+        alloc: Global,
+        last: Option<&Reply>,
+    ) -> Result<Option<NameResult>, NoMemory>
+        requires walking { IsWalking self.old }
+        requires fits { FitsAsked (walking_asks self.old) (option_copied last) }
+        ensures turn { IfOk result (λ r. turn_of r self.new ≡ walking_after self.old (option_copied last.entry)) }
+        ensures on { IfOk result (λ r. IfNone r (IsOn self.new)) }
+    {
+        match last {
+            Some(reply) => self.hear(alloc, reply),
             None => self.move_on(alloc),
         }
     }
