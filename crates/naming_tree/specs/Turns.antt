@@ -51,6 +51,16 @@ abbrev pub stood_says : {S : Type 0} → (S → Option Op) → (S → Option Rep
 stood_says asks after None last = None
 stood_says asks after (Some state) last = step_of asks (after state last)
 
+-- a state, unless what was said is a result
+abbrev pub still : {S : Type 0} → NameStep → S → Option S
+still (Do op) state = Some state
+still (Over result) state = None
+
+-- what holds where an operation was said
+abbrev pub IfAsked : NameStep → Type 0 → Type 0
+IfAsked (Do op) P = P
+IfAsked (Over result) P = Unit {0}
+
 -- a state, unless it is over
 abbrev pub unless : {S : Type 0} → Bool → S → Option S
 unless true state = None
