@@ -23,12 +23,13 @@ use Rattle.naming_tree.specs.declared.placed.Placed.{Placed}
 use Rattle.naming_tree.specs.Records.{Slot}
 use Rattle.naming_tree.specs.Directories.{directory_of, row_named, first_free}
 use Rattle.naming_tree.specs.Entering.{entry_of, bytes_after, held_of, held_op_of, refusal, is_fine, IsEntering, IsOpened}
-use Rattle.naming_tree.specs.Endings.{result_of, result_at, ending_after, IsEnding, IsResulting}
+use Rattle.naming_tree.specs.Endings.{result_of, result_at, ending_after, IsEnding, IsEndingBy}
 use Rattle.naming_tree.specs.Additions.{IsAddition}
 use Rattle.naming_tree.specs.Placing.{held_with, IsPlaced, IsThere}
 use Rattle.naming_tree.specs.Turns.{Turn, Goes, Comes, turn_of, FitsAsked}
 use Rattle.naming_tree.specs.Adding.{at_stage, ends, on_place, on_name, on_slots, judged, on_entry, entered, text_or_name, on_made, went_on, on_named, heard_in, heard_at, finish, finish_at, adding_after, stage_op, adding_asks, op_at, IsStage, IsStageAt, IsTexted, IsAdding, IsOn}
 use Rattle.naming_tree.proofs.EntriesOn.{IsEntry, entry_on}
+use Rattle.naming_tree.proofs.EndingsLeft.{ending_well}
 
 abbrev pub Began : Option AddStage → Type 0
 Began (Some Begin) = ⊥
@@ -88,16 +89,11 @@ in_sound (StoreText m) reply a w h fits = on_sound (UnlockText m) (held_with m) 
 in_sound (UnlockText m) reply a w h fits = on_sound (StoreName m) (held_of m.opened) reply a w tt h (λ b e. h)
 in_sound (StoreName m) reply a w h fits = named_sound m reply a w
 
-pub still_ends : (counts fine : Bool) (refused : Option Reply) (reply : Reply) (result : Option NameResult) → IsResulting refused result → IsResulting (refusal (counts && not fine) reply refused) result
-still_ends true true refused reply result h = h
-still_ends true false refused reply result h = tt
-still_ends false fine refused reply result h = h
-
-at_sound : (a : Adding) (stage : Option AddStage) (reply : Reply) → a.stage ≡ stage → IsAddition a.what → IsStageAt a stage → FitsAsked (op_at a stage) (Some reply) → Sound (heard_at stage reply a)
+pub at_sound : (a : Adding) (stage : Option AddStage) (reply : Reply) → a.stage ≡ stage → IsAddition a.what → IsStageAt a stage → FitsAsked (op_at a stage) (Some reply) → Sound (heard_at stage reply a)
 at_sound a None reply e w h fits = record {
   what = w;
   began = subst Began (sym e) tt;
-  stage = subst (λ s. IsStageAt (record a { ending = ending_after a.ending reply }) s) (sym e) (still_ends a.ending.closing.counts (is_fine reply) a.ending.closing.refused reply a.ending.result h);
+  stage = subst (λ s. IsStageAt (record a { ending = ending_after a.ending reply }) s) (sym e) (ending_well a.ending reply h);
 }
 at_sound a (Some stage) reply e w h fits = in_sound stage reply a w h fits
 
@@ -115,11 +111,12 @@ stage_asked a (StoreText m) b = refl
 stage_asked a (UnlockText m) b = refl
 stage_asked a (StoreName m) b = refl
 
-ended_on : (a : Adding) (held : Option Held) (refused : Option Reply) (result : Option NameResult) → IsAdding a → (is_some_op : IsSome (held_op_of held) → IsSome (adding_asks a)) → IsResulting refused result → OnTurn (turn_of (result_at held refused result) a)
-ended_on a (Some held) refused result h asks k = record { adding = h; asks = asks refl }
-ended_on a None (Some reply) result h asks k = tt
-ended_on a None None (Some result) h asks k = tt
-ended_on a None None None h asks k = absurd k
+ended_on : (a : Adding) (held : Option Held) (refused : Option Reply) (result : Option NameResult) → IsAdding a → (IsSome (held_op_of held) → IsSome (adding_asks a)) → (counts : Bool) → IsEndingBy counts refused result → OnTurn (turn_of (result_at held refused result) a)
+ended_on a (Some held) refused result h asks counts k = record { adding = h; asks = asks refl }
+ended_on a None (Some reply) result h asks counts k = tt
+ended_on a None None (Some result) h asks counts k = tt
+ended_on a None None None h asks true k = absurd k
+ended_on a None None None h asks false k = absurd k
 
 finish_on : (a : Adding) (stage : Option AddStage) → a.stage ≡ stage → Sound a → OnTurn (finish_at stage a)
 finish_on a (Some stage) e h = record {
@@ -128,7 +125,7 @@ finish_on a (Some stage) e h = record {
 }
 finish_on a None e h =
     ended_on a a.ending.closing.held a.ending.closing.refused a.ending.result (record { what = h.what; stage = h.stage })
-      (λ some. subst (λ s. IsSome (op_at a s)) (sym e) some) (subst (λ s. IsStageAt a s) e h.stage)
+      (λ some. subst (λ s. IsSome (op_at a s)) (sym e) some) a.ending.closing.counts (subst (λ s. IsStageAt a s) e h.stage)
 
 -- a reply that fits leaves it so
 pub adding_on : (a : Adding) (reply : Reply) → IsOn a → FitsAsked (adding_asks a) (Some reply) → OnTurn (adding_after a (Some reply))

@@ -15,3 +15,6 @@ pub mod DirectoriesRead
 pub mod RemovingsOn
 pub mod RowPlaces
 pub mod LastNames
+pub mod EndingsLeft
+pub mod AddingsLeft
+pub mod RemovingsLeft

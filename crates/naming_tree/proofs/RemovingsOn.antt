@@ -21,12 +21,12 @@ use Rattle.naming_tree.specs.declared.removing.Removing.{Removing}
 use Rattle.naming_tree.specs.Records.{Slot}
 use Rattle.naming_tree.specs.Directories.{directory_of, placed_row, IsDirectory}
 use Rattle.naming_tree.specs.Entering.{entry_of, bytes_after, held_of, held_op_of, is_fine, IsOpened}
-use Rattle.naming_tree.specs.Endings.{result_of, result_at, ending_after, IsResulting}
+use Rattle.naming_tree.specs.Endings.{result_of, result_at, ending_after, IsEndingBy}
 use Rattle.naming_tree.specs.Placing.{IsPlaced, IsThere}
 use Rattle.naming_tree.specs.Turns.{Turn, Goes, Comes, turn_of, FitsAsked}
 use Rattle.naming_tree.specs.Removing.{at_stage, on_kind, on_name, on_slots, on_entry, on_locked, on_deleted, on_cleared, heard_in, heard_at, finish_at, removing_after, stage_op, removing_asks, op_at, IsStage, IsStageAt, IsRemoving, IsOn}
 use Rattle.naming_tree.proofs.EntriesOn.{IsEntry, entry_on}
-use Rattle.naming_tree.proofs.AddingsOn.{still_ends}
+use Rattle.naming_tree.proofs.EndingsLeft.{ending_well}
 use Rattle.naming_tree.proofs.DirectoriesRead.{directory_read, placed_within}
 
 abbrev pub Began : Option RemoveStage → Type 0
@@ -77,10 +77,10 @@ in_sound (Lock p) reply r h fits = locked_sound p reply r h
 in_sound (Delete p) reply r h fits = deleted_sound p reply r h
 in_sound (Clear p) reply r h fits = cleared_sound p reply r
 
-at_sound : (r : Removing) (stage : Option RemoveStage) (reply : Reply) → r.stage ≡ stage → IsStageAt r stage → FitsAsked (op_at r stage) (Some reply) → Sound (heard_at stage reply r)
+pub at_sound : (r : Removing) (stage : Option RemoveStage) (reply : Reply) → r.stage ≡ stage → IsStageAt r stage → FitsAsked (op_at r stage) (Some reply) → Sound (heard_at stage reply r)
 at_sound r None reply e h fits = record {
   began = subst Began (sym e) tt;
-  stage = subst (λ s. IsStageAt (record r { ending = ending_after r.ending reply }) s) (sym e) (still_ends r.ending.closing.counts (is_fine reply) r.ending.closing.refused reply r.ending.result h);
+  stage = subst (λ s. IsStageAt (record r { ending = ending_after r.ending reply }) s) (sym e) (ending_well r.ending reply h);
 }
 at_sound r (Some stage) reply e h fits = in_sound stage reply r h fits
 
@@ -96,11 +96,12 @@ stage_asked r (Lock p) b = refl
 stage_asked r (Delete p) b = refl
 stage_asked r (Clear p) b = refl
 
-ended_on : (r : Removing) (held : Option Held) (refused : Option Reply) (result : Option NameResult) → IsRemoving r → (IsSome (held_op_of held) → IsSome (removing_asks r)) → IsResulting refused result → OnTurn (turn_of (result_at held refused result) r)
-ended_on r (Some held) refused result h asks k = record { removing = h; asks = asks refl }
-ended_on r None (Some reply) result h asks k = tt
-ended_on r None None (Some result) h asks k = tt
-ended_on r None None None h asks k = absurd k
+ended_on : (r : Removing) (held : Option Held) (refused : Option Reply) (result : Option NameResult) → IsRemoving r → (IsSome (held_op_of held) → IsSome (removing_asks r)) → (counts : Bool) → IsEndingBy counts refused result → OnTurn (turn_of (result_at held refused result) r)
+ended_on r (Some held) refused result h asks counts k = record { removing = h; asks = asks refl }
+ended_on r None (Some reply) result h asks counts k = tt
+ended_on r None None (Some result) h asks counts k = tt
+ended_on r None None None h asks true k = absurd k
+ended_on r None None None h asks false k = absurd k
 
 finish_on : (r : Removing) (stage : Option RemoveStage) → r.stage ≡ stage → Sound r → OnTurn (finish_at stage r)
 finish_on r (Some stage) e h = record {
@@ -109,7 +110,7 @@ finish_on r (Some stage) e h = record {
 }
 finish_on r None e h =
     ended_on r r.ending.closing.held r.ending.closing.refused r.ending.result h.stage
-      (λ some. subst (λ s. IsSome (op_at r s)) (sym e) some) (subst (λ s. IsStageAt r s) e h.stage)
+      (λ some. subst (λ s. IsSome (op_at r s)) (sym e) some) r.ending.closing.counts (subst (λ s. IsStageAt r s) e h.stage)
 
 -- a reply that fits leaves it so
 pub removing_on : (r : Removing) (reply : Reply) → IsOn r → FitsAsked (removing_asks r) (Some reply) → OnTurn (removing_after r (Some reply))

@@ -39,11 +39,12 @@ result_at None None result = result
 abbrev pub result_of : Ending → Option NameResult
 result_of e = result_at e.closing.held e.closing.refused e.result
 
--- it closes what is held, and will have a result
-abbrev pub IsResulting : Option Reply → Option NameResult → Type 0
-IsResulting (Some reply) result = Unit {0}
-IsResulting None (Some result) = Unit {0}
-IsResulting None None = ⊥
+-- it will have a result, and counts refusals only up to the first
+abbrev pub IsEndingBy : Bool → Option Reply → Option NameResult → Type 0
+IsEndingBy true (Some reply) result = ⊥
+IsEndingBy false (Some reply) result = Unit {0}
+IsEndingBy counts None (Some result) = Unit {0}
+IsEndingBy counts None None = ⊥
 
 abbrev pub IsEnding : Ending → Type 0
-IsEnding e = IsResulting e.closing.refused e.result
+IsEnding e = IsEndingBy e.closing.counts e.closing.refused e.result
