@@ -180,10 +180,10 @@ pub record Live (a : Adding) : Type 0 where
   pub sound : Sound a
   pub on : IsOn a
 
-asked_live : (a : Adding) → Live a → option_map Do (adding_asks a) ≡ Some (says (adding_left a))
+pub asked_live : (a : Adding) → Live a → option_map Do (adding_asks a) ≡ Some (says (adding_left a))
 asked_live a h = says_at a a.stage h.sound.stage h.sound.began h.on.asks
 
-fits_said : (a : Adding) (asks : Option Op) (reply : Reply) → option_map Do asks ≡ Some (says (adding_left a)) → FitsSaid (says (adding_left a)) reply → FitsAsked asks (Some reply)
+pub fits_said : (a : Adding) (asks : Option Op) (reply : Reply) → option_map Do asks ≡ Some (says (adding_left a)) → FitsSaid (says (adding_left a)) reply → FitsAsked asks (Some reply)
 fits_said a None reply e fits = absurd (grind (arith, e))
 fits_said a (Some op) reply e fits =
     let same : says (adding_left a) ≡ Do op = grind (arith, e) in

@@ -18,3 +18,4 @@ pub mod LastNames
 pub mod EndingsLeft
 pub mod AddingsLeft
 pub mod RemovingsLeft
+pub mod ByPathsLeft

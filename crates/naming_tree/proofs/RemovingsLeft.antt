@@ -147,10 +147,10 @@ pub record Live (a : Removing) : Type 0 where
   pub sound : Sound a
   pub on : IsOn a
 
-asked_live : (a : Removing) → Live a → option_map Do (removing_asks a) ≡ Some (says (removing_left a))
+pub asked_live : (a : Removing) → Live a → option_map Do (removing_asks a) ≡ Some (says (removing_left a))
 asked_live a h = says_at a a.stage h.sound.stage h.sound.began h.on.asks
 
-fits_said : (a : Removing) (asks : Option Op) (reply : Reply) → option_map Do asks ≡ Some (says (removing_left a)) → FitsSaid (says (removing_left a)) reply → FitsAsked asks (Some reply)
+pub fits_said : (a : Removing) (asks : Option Op) (reply : Reply) → option_map Do asks ≡ Some (says (removing_left a)) → FitsSaid (says (removing_left a)) reply → FitsAsked asks (Some reply)
 fits_said a None reply e fits = absurd (grind (arith, e))
 fits_said a (Some op) reply e fits =
     let same : says (removing_left a) ≡ Do op = grind (arith, e) in
