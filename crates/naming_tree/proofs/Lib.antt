@@ -19,3 +19,4 @@ pub mod EndingsLeft
 pub mod AddingsLeft
 pub mod RemovingsLeft
 pub mod ByPathsLeft
+pub mod Ready

@@ -1,5 +1,5 @@
 -- What a reply makes of a machine.
-use Rattle.std.specs.Prelude.{Bool, true, false, Option, Some, None, List, [], ◌∷◌, option_map}
+use Rattle.std.specs.Prelude.{Bool, true, false, Option, Some, None, List, [], ◌∷◌, option_map, IsSome}
 use Rattle.dom_history.specs.declared.op.Op.{Op}
 use Rattle.dom_history.specs.declared.op.Reply.{Reply}
 use Rattle.dom_history.specs.Fitting.{Fits}
@@ -85,3 +85,8 @@ machine_after after made (reply ∷ heard) = stood_after after (machine_after af
 abbrev pub machine_says : {S : Type 0} → (S → Option Op) → (S → Option Reply → Turn S) → Option S → List Reply → Option NameStep
 machine_says asks after made [] = stood_says asks after made None
 machine_says asks after made (reply ∷ heard) = stood_says asks after (machine_after after made heard) (Some reply)
+
+-- a machine that may be told this
+pub record IsReady {S : Type 0} (asks : S → Option Op) (m : Option S) (last : Option Reply) : Type 0 where
+  pub still : IsSome m
+  pub fits : FitsStood asks m last

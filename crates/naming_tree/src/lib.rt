@@ -25,6 +25,8 @@ mod site;
 mod slot;
 mod step;
 mod task;
+#[cfg(test)]
+mod tests;
 mod walk;
 mod walking;
 
