@@ -125,7 +125,7 @@ finish_on a (Some stage) e h = record {
 }
 finish_on a None e h =
     ended_on a a.ending.closing.held a.ending.closing.refused a.ending.result (record { what = h.what; stage = h.stage })
-      (λ some. subst (λ s. IsSome (op_at a s)) (sym e) some) a.ending.closing.counts (subst (λ s. IsStageAt a s) e h.stage)
+    (λ some. subst (λ s. IsSome (op_at a s)) (sym e) some) a.ending.closing.counts (subst (λ s. IsStageAt a s) e h.stage)
 
 -- a reply that fits leaves it so
 pub adding_on : (a : Adding) (reply : Reply) → IsOn a → FitsAsked (adding_asks a) (Some reply) → OnTurn (adding_after a (Some reply))

@@ -250,10 +250,10 @@ on_at b None task reply g e h fits =
 live_at : (b : ByPath) (walking : Option Walking) (task : Task) (reply : Reply) → b.alone ≡ None → b.task ≡ task → LiveAt walking task → FitsSaid (says (left_at walking task)) reply → LiveTurn (told_at walking (Some reply) b)
 live_at b (Some w) task reply g e h fits =
     walk_turn_live (walking_after w (Some reply)) b g (subst IsFresh (sym e) h.1)
-      (walk_live w reply h.0 (subst (λ step. FitsSaid step reply) (reading_says w.reading (behind (found task) w.aim w) h.0.sound h.0.going) fits))
+    (walk_live w reply h.0 (subst (λ step. FitsSaid step reply) (reading_says w.reading (behind (found task) w.aim w) h.0.sound h.0.going) fits))
 live_at b None task reply g e h fits =
     task_live (task_after b.task reply) b g
-      (subst (λ (t : Task). GoingTurn (task_after t reply)) (sym e) (task_on_live task reply h (said (task_left task) (task_asks task) reply (task_asked task h) fits)))
+    (subst (λ (t : Task). GoingTurn (task_after t reply)) (sym e) (task_on_live task reply h (said (task_left task) (task_asks task) reply (task_asked task h) fits)))
 
 at_turn : (turn : Turn ByPath) (d : Dialogue) → LiveTurn turn → turn_left turn ≡ d → IsAt by_path_asks by_path_after path_left Live turn d
 at_turn (Goes b) d h e = (h, e)
@@ -263,7 +263,7 @@ on : (b : ByPath) (reply : Reply) → Live b → FitsSaid (says (path_left b)) r
 on b reply h fits =
     let same = ap (λ alone. unless_alone alone (Some reply) b) h.going in
     subst (λ turn. IsAt by_path_asks by_path_after path_left Live turn (told (path_left b) reply)) (sym same)
-      (at_turn (told_at b.walking (Some reply) b) (told (path_left b) reply) (live_at b b.walking b.task reply h.going refl h.at fits) (on_at b b.walking b.task reply h.going refl h.at fits))
+    (at_turn (told_at b.walking (Some reply) b) (told (path_left b) reply) (live_at b b.walking b.task reply h.going refl h.at fits) (on_at b b.walking b.task reply h.going refl h.at fits))
 
 paths_tell : Tells by_path_asks by_path_after path_left Live
 paths_tell = record { asked = asked; on = on }
@@ -274,15 +274,15 @@ walk_begins site route working task h =
     let b = walked_to site route working task in
     let w = walking_of site true route working in
     at_turn (on_walk (moved w) b) (on_start (start_at site working route.start) (λ here. along site true (found task) (follow site true (found task) most_links) here route.names))
-      (walk_turn_live (moved w) b refl h (moved_live w.aim w.reading.bytes w))
-      (walk_turn (moved w) b h ∙ moved_left (found task) (Begin (start_at site working route.start)) [] w)
+    (walk_turn_live (moved w) b refl h (moved_live w.aim w.reading.bytes w))
+    (walk_turn (moved w) b h ∙ moved_left (found task) (Begin (start_at site working route.start)) [] w)
 
 -- a directory is listed
 list_along : (site : Site) (route : Route) (working : ObjectName) (heard : List Reply) → FitsHeard (on_route site (Some route) working [] (along site true listing (follow site true listing most_links))) heard → machine_says by_path_asks by_path_after (list_dir_of site (Some route) working) heard ≡ Some (says (after (on_route site (Some route) working [] (along site true listing (follow site true listing most_links))) heard))
 list_along site route working heard fits =
     let begins : IsAt by_path_asks by_path_after path_left Live (by_path_after (walked_to site route working (ListRows (reading_of working))) None) (on_route site (Some route) working [] (along site true listing (follow site true listing most_links))) =
-        subst (λ (names : List (List ℕ)). IsAt by_path_asks by_path_after path_left Live (by_path_after (walked_to site route working (ListRows (reading_of working))) None) (on_start (start_at site working route.start) (λ here. along site true listing (follow site true listing most_links) here names)))
-          (sym (append-nil route.names)) (walk_begins site route working (ListRows (reading_of working)) tt)
+    subst (λ (names : List (List ℕ)). IsAt by_path_asks by_path_after path_left Live (by_path_after (walked_to site route working (ListRows (reading_of working))) None) (on_start (start_at site working route.start) (λ here. along site true listing (follow site true listing most_links) here names)))
+    (sym (append-nil route.names)) (walk_begins site route working (ListRows (reading_of working)) tt)
     in
     says_all by_path_asks by_path_after path_left Live paths_tell (walked_to site route working (ListRows (reading_of working))) (on_route site (Some route) working [] (along site true listing (follow site true listing most_links))) heard begins fits
 
@@ -305,8 +305,8 @@ last_says site start working alone task next (Some (front, name)) heard fresh sa
     let route : Route = record { start = start; names = front } in
     let d = on_last site (Some (front, name)) (start_at site working start) alone next in
     let begins : IsAt by_path_asks by_path_after path_left Live (by_path_after (walked_to site route working (task name)) None) d =
-        subst (λ (f : Walked → Dialogue). IsAt by_path_asks by_path_after path_left Live (by_path_after (walked_to site route working (task name)) None) (on_start (start_at site working start) (λ here. along site true f (follow site true f most_links) here front)))
-          (same name) (walk_begins site route working (task name) (fresh name))
+    subst (λ (f : Walked → Dialogue). IsAt by_path_asks by_path_after path_left Live (by_path_after (walked_to site route working (task name)) None) (on_start (start_at site working start) (λ here. along site true f (follow site true f most_links) here front)))
+    (same name) (walk_begins site route working (task name) (fresh name))
     in
     says_all by_path_asks by_path_after path_left Live paths_tell (walked_to site route working (task name)) d heard begins fits
 
@@ -314,15 +314,15 @@ pub add_says : (site : Site) (path : List ℕ) (working : ObjectName) (kind : Ob
 add_says site path working kind room text heard None e some in_room is_text fits = absurd (none_some some)
 add_says site path working kind room text heard (Some route) e some in_room is_text fits =
     rw e (last_says site route.start working added_alone (λ name. Add (adding_of working (addition kind room text name))) (λ name parent. add_at parent (addition kind room text name)) (last_of route.names) heard
-      (λ name. (record { room = in_room; text = is_text }, refl)) (λ name. refl)
-      (subst (λ r. FitsHeard (by_parent site r working added_alone (λ name parent. add_at parent (addition kind room text name))) heard) e fits))
+    (λ name. (record { room = in_room; text = is_text }, refl)) (λ name. refl)
+    (subst (λ r. FitsHeard (by_parent site r working added_alone (λ name parent. add_at parent (addition kind room text name))) heard) e fits))
 
 pub drop_says : (site : Site) (path : List ℕ) (working : ObjectName) (heard : List Reply) (route : Option Route) → route_of path ≡ route → IsSome route → FitsHeard (drop_name site path working) heard → machine_says by_path_asks by_path_after (drop_name_of site (route_of path) working) heard ≡ Some (says (after (drop_name site path working) heard))
 drop_says site path working heard None e some fits = absurd (none_some some)
 drop_says site path working heard (Some route) e some fits =
     rw e (last_says site route.start working removed_alone (λ name. Remove (removing_of working name)) (λ name parent. drop_at parent name) (last_of route.names) heard
-      (λ name. refl) (λ name. refl)
-      (subst (λ r. FitsHeard (by_parent site r working removed_alone (λ name parent. drop_at parent name)) heard) e fits))
+    (λ name. refl) (λ name. refl)
+    (subst (λ r. FitsHeard (by_parent site r working removed_alone (λ name parent. drop_at parent name)) heard) e fits))
 
 pub list_heard : (site : Site) (path : List ℕ) (working : ObjectName) (heard : List Reply) → IsSome (route_of path) → FitsHeard (list_dir site path working) heard → machine_says by_path_asks by_path_after (list_dir_of site (route_of path) working) heard ≡ Some (says (after (list_dir site path working) heard))
 list_heard site path working heard some fits = list_says site path working heard (route_of path) refl some fits

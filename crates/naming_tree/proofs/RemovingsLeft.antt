@@ -190,4 +190,4 @@ removals_tell = record {
 pub removal_says : (parent : ObjectName) (name : List ℕ) (heard : List Reply) → FitsHeard (drop_at parent name) heard → machine_says removing_asks removing_after (Some (removing_of parent name)) heard ≡ Some (says (after (drop_at parent name) heard))
 removal_says parent name heard fits =
     says_all removing_asks removing_after removing_left Live removals_tell (removing_of parent name) (drop_at parent name) heard
-      (record { sound = record { began = tt; stage = tt }; on = record { removing = tt; asks = refl } }, refl) fits
+    (record { sound = record { began = tt; stage = tt }; on = record { removing = tt; asks = refl } }, refl) fits

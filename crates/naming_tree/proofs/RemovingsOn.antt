@@ -110,7 +110,7 @@ finish_on r (Some stage) e h = record {
 }
 finish_on r None e h =
     ended_on r r.ending.closing.held r.ending.closing.refused r.ending.result h.stage
-      (λ some. subst (λ s. IsSome (op_at r s)) (sym e) some) r.ending.closing.counts (subst (λ s. IsStageAt r s) e h.stage)
+    (λ some. subst (λ s. IsSome (op_at r s)) (sym e) some) r.ending.closing.counts (subst (λ s. IsStageAt r s) e h.stage)
 
 -- a reply that fits leaves it so
 pub removing_on : (r : Removing) (reply : Reply) → IsOn r → FitsAsked (removing_asks r) (Some reply) → OnTurn (removing_after r (Some reply))

@@ -140,7 +140,7 @@ module _ (site : Site) (working : ObjectName) (last : Bool) where
   says_along route heard fits =
       let w = walking_of site last route working in
       says_all walking_asks walking_after (walk_left value) Live walks_tell w (walk_along (Some route)) heard
-        (at_turn (moved w) (walk_along (Some route)) (moved_live w.aim w.reading.bytes w) (begins route)) fits
+      (at_turn (moved w) (walk_along (Some route)) (moved_live w.aim w.reading.bytes w) (begins route)) fits
 
   -- a walk says what its dialogue says after all that it heard
   pub walk_says : (path : List ℕ) (heard : List Reply) → IsSome (route_of path) → FitsHeard (walk site path working last) heard → machine_says walking_asks walking_after (walk_of site last (route_of path) working) heard ≡ Some (says (after (walk site path working last) heard))

@@ -31,10 +31,7 @@ pub enum AddStage {
     /// Nothing yet.
     Begin,
     Enter(Entering),
-    Make {
-        opened: Opened,
-        place: u32,
-    },
+    Make { opened: Opened, place: u32 },
     LockText(Placed),
     StoreText(Placed),
     UnlockText(Placed),
@@ -76,12 +73,7 @@ impl Adding {
     }
 
     /// Gives up behind a refusal.
-    fn give_up(
-        &mut self,
-        alloc: Global,
-        held: Option<Held>,
-        reply: &Reply,
-    ) -> Result<(), NoMemory>
+    fn give_up(&mut self, alloc: Global, held: Option<Held>, reply: &Reply) -> Result<(), NoMemory>
         ensures { OnOk result (self.new ≡ ends (refused_with held reply.now) self.old) }
     {
         let ending = Ending::refused(alloc, held, reply)?;
@@ -184,22 +176,14 @@ impl Adding {
         ensures { OnOk result (self.new ≡ on_named made.now reply.now self.old) }
     {
         if is_fine(reply) {
-            self.end(Ending::completed(
-                &made.opened,
-                NameResult::Added(made.uid),
-            ));
+            self.end(Ending::completed(&made.opened, NameResult::Added(made.uid)));
             return Ok(());
         }
         self.give_up(alloc, Some(made.opened.held()), reply)
     }
 
     /// Takes in the reply to the operation of a stage.
-    fn hear_in(
-        &mut self,
-        alloc: Global,
-        stage: &AddStage,
-        reply: &Reply,
-    ) -> Result<(), NoMemory>
+    fn hear_in(&mut self, alloc: Global, stage: &AddStage, reply: &Reply) -> Result<(), NoMemory>
         requires { IsStage self.old stage.now }
         ensures { OnOk result (self.new ≡ heard_in stage.now reply.now self.old) }
     {
@@ -211,13 +195,23 @@ impl Adding {
             AddStage::Enter(stage) => self.enter(alloc, stage, reply),
             AddStage::Make { opened, place } => self.made(alloc, opened, *place, reply),
             AddStage::LockText(made) => {
-                self.go_on(alloc, &AddStage::StoreText(*made), made.opened.held(), reply)
+                self.go_on(
+                    alloc,
+                    &AddStage::StoreText(*made),
+                    made.opened.held(),
+                    reply,
+                )
             }
             AddStage::StoreText(made) => {
                 self.go_on(alloc, &AddStage::UnlockText(*made), made.held(), reply)
             }
             AddStage::UnlockText(made) => {
-                self.go_on(alloc, &AddStage::StoreName(*made), made.opened.held(), reply)
+                self.go_on(
+                    alloc,
+                    &AddStage::StoreName(*made),
+                    made.opened.held(),
+                    reply,
+                )
             }
             AddStage::StoreName(made) => self.named(alloc, made, reply),
         }

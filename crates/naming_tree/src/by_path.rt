@@ -84,11 +84,7 @@ impl ByPath {
     }
 
     /// What comes of the walk, where it is under way.
-    fn walk(
-        &mut self,
-        alloc: Global,
-        last: Option<&Reply>,
-    ) -> Result<Option<NameResult>, NoMemory>
+    fn walk(&mut self, alloc: Global, last: Option<&Reply>) -> Result<Option<NameResult>, NoMemory>
         requires kept { IsByPath self.old }
         requires going { self.old.alone ≡ None }
         requires walks { IsSome self.old.walking }

@@ -30,7 +30,6 @@ impl Model for Component {
     ghost inverse = { λ name. record { bytes = filled name; size = length name } };
 
     ghost inverse_ok = { λ c h i. record { bytes = same_bytes c.bytes c.size h i; size = name_length c.bytes c.size h i } };
-
 }
 
 /// Whether this byte may stand in a name.

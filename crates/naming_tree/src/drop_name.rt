@@ -39,12 +39,7 @@ impl DropName {
     ghost use Rattle.naming_tree.specs.ByPaths.{drop_name_of, by_path_after, by_path_asks};
 
     /// The removal of a path's last name, from a working directory.
-    pub fn new(
-        alloc: Global,
-        site: Site,
-        path: &[u8],
-        working: Uid,
-    ) -> Result<DropName, NoMemory>
+    pub fn new(alloc: Global, site: Site, path: &[u8], working: Uid) -> Result<DropName, NoMemory>
         requires path { IsSome (route_of path.now) }
         ensures { IfOk result (λ m. m ≡ drop_name_of site (route_of path.now) working) }
     {

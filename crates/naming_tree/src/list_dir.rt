@@ -39,12 +39,7 @@ impl ListDir {
     ghost use Rattle.naming_tree.specs.ByPaths.{list_dir_of, by_path_after, by_path_asks};
 
     /// The list of a path's directory, from a working directory.
-    pub fn new(
-        alloc: Global,
-        site: Site,
-        path: &[u8],
-        working: Uid,
-    ) -> Result<ListDir, NoMemory>
+    pub fn new(alloc: Global, site: Site, path: &[u8], working: Uid) -> Result<ListDir, NoMemory>
         requires path { IsSome (route_of path.now) }
         ensures { IfOk result (λ m. m ≡ list_dir_of site (route_of path.now) working) }
     {

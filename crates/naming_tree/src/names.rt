@@ -1,6 +1,5 @@
 //! Names that are looked up one after the other.
 ghost use Rattle.std.specs.Prelude.{◌≡◌, ◌++◌, ◌∷◌, [], drop, List, ℕ, Some, None, MatchOption, IfOk, OnOk};
-
 ghost use Rattle.naming_tree.specs.NamePaths.{last_of};
 
 use crate::component::Component;

@@ -63,12 +63,7 @@ impl Removing {
     }
 
     /// Gives up behind a refusal.
-    fn give_up(
-        &mut self,
-        alloc: Global,
-        held: Option<Held>,
-        reply: &Reply,
-    ) -> Result<(), NoMemory>
+    fn give_up(&mut self, alloc: Global, held: Option<Held>, reply: &Reply) -> Result<(), NoMemory>
         ensures { OnOk result (self.new ≡ ends (refused_with held reply.now) self.old) }
     {
         let ending = Ending::refused(alloc, held, reply)?;
@@ -163,12 +158,7 @@ impl Removing {
     }
 
     /// Takes in the reply to the operation of a stage.
-    fn hear_in(
-        &mut self,
-        alloc: Global,
-        stage: &RemoveStage,
-        reply: &Reply,
-    ) -> Result<(), NoMemory>
+    fn hear_in(&mut self, alloc: Global, stage: &RemoveStage, reply: &Reply) -> Result<(), NoMemory>
         requires { IsStage stage.now }
         ensures { OnOk result (self.new ≡ heard_in stage.now reply.now self.old) }
     {

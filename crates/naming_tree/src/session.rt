@@ -85,7 +85,10 @@ impl Held {
         ensures { result ≡ held_after self }
     {
         match self.other {
-            Some(_) => Some(Held { other: None, ..self }),
+            Some(_) => Some(Held {
+                other: None,
+                ..self
+            }),
             None if self.mapped => Some(Held {
                 mapped: false,
                 ..self
