@@ -20,3 +20,5 @@ pub mod AddingsLeft
 pub mod RemovingsLeft
 pub mod ByPathsLeft
 pub mod Ready
+pub mod RecordsRead
+pub mod SlotsPut

@@ -74,3 +74,9 @@ placed_row name slots = placed_from 0 name slots
 -- how many stand before the first free one, where a new name goes: behind all of them where none is free
 abbrev pub first_free : List Slot → ℕ
 first_free slots = prefix_len is_some slots
+
+-- the records with one at a place, in the stead of that which stood there, or behind all of them
+abbrev pub with_slot : ℕ → Slot → List Slot → List Slot
+with_slot n slot [] = slot ∷ []
+with_slot zero slot (old ∷ slots) = slot ∷ slots
+with_slot (suc n) slot (old ∷ slots) = old ∷ with_slot n slot slots

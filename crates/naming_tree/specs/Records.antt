@@ -1,11 +1,11 @@
 -- The 64 bytes of a directory's record.
-use Rattle.std.specs.Prelude.{ℕ, ◌/◌, ◌%◌, ◌^◌, nat_le, Bool, true, false, ◌&&◌, cond, Option, Some, None, List, [], ◌∷◌, ◌++◌, replicate, length, take, drop, slice_index, option_map, bytes_eq}
+use Rattle.std.specs.Prelude.{◌≡◌, ℕ, ◌/◌, ◌%◌, ◌^◌, nat_le, Bool, true, false, ◌&&◌, cond, Option, Some, None, List, [], ◌∷◌, ◌++◌, replicate, length, take, drop, slice_index, option_map, bytes_eq}
 use Rattle.std.specs.Int.{w64, to_be_bytes, from_be_bytes}
-use Rattle.uid_names.specs.Names.{ObjectName, number_of}
+use Rattle.uid_names.specs.Names.{ObjectName, IsName, number_of}
 use Rattle.uid_names.specs.Modes.{object_code, object_of_code}
 use Rattle.uid_names.specs.declared.mode.ObjKind.{ObjKind}
 use Rattle.naming_tree.specs.declared.row.DirRow.{DirRow}
-use Rattle.naming_tree.specs.Components.{component_of, filled}
+use Rattle.naming_tree.specs.Components.{is_component, component_of, filled}
 
 -- a record that names an object: its kind, the length of the name, the name, two zeros, the object, 20 zeros
 abbrev pub row_bytes : DirRow → List ℕ
@@ -62,3 +62,8 @@ slot_if false bytes = option_map Some (spelled bytes (row_in bytes))
 
 abbrev pub slot_of : List ℕ → Option Slot
 slot_of bytes = slot_if (bytes_eq bytes free_bytes) bytes
+
+-- a row that has a record: its name is one of directories, and it names an object
+pub record IsRow (row : DirRow) : Type 0 where
+  pub name : is_component row.name ≡ true
+  pub uid : IsName row.uid

@@ -38,6 +38,7 @@ pub use directory::{DirFault, DirRows, Directory, read_dir};
 pub use drop_at::DropAt;
 pub use drop_name::DropName;
 pub use list_dir::ListDir;
+pub use path::is_path;
 pub use row::{DirRow, write_row};
 pub use site::Site;
 pub use step::{NameResult, NameStep, Walked, Within};

@@ -1,5 +1,5 @@
 //! Paths.
-ghost use Rattle.std.specs.Prelude.{◌≡◌, ◌++◌, List, ℕ, None, Some, true, false, MatchOption, IfOk, OnOk, IfSome};
+ghost use Rattle.std.specs.Prelude.{◌≡◌, is_some, ◌++◌, List, ℕ, None, Some, true, false, MatchOption, IfOk, OnOk, IfSome};
 ghost use Rattle.std.specs.List.{list_all};
 ghost use Rattle.naming_tree.specs.Paths.{pieces, is_node_name, names_of, from_node as route_from_node, from_slash as route_from_slash, along as route_along, route_of};
 ghost use Rattle.uid_names.specs.NameTexts.{is_name_byte as may_stand_in_name};
@@ -147,4 +147,11 @@ impl Route {
             along(alloc, Start::Working, text)
         }
     }
+}
+
+/// Whether a text is a path.
+pub fn is_path(alloc: Global, text: &[u8]) -> Result<bool, NoMemory>
+    ensures { IfOk result (λ yes. yes ≡ is_some (route_of text.now)) }
+{
+    Ok(Route::read(alloc, text)?.is_some())
 }

@@ -116,7 +116,7 @@ fn act_on(alloc: Global, world: &mut World, act: Act, uid: Uid) -> Result<(), Fa
 }
 
 /// What comes of an act at a path, in words.
-fn act(alloc: Global, world: &mut World, path: &[u8], act: Act) -> Result<ByteList, Fail> {
+fn come_of(alloc: Global, world: &mut World, path: &[u8], act: Act) -> Result<ByteList, Fail> {
     let result = match act {
         Act::List => list(alloc, world, path)?,
         Act::Look => walk(alloc, world, path, true)?,
@@ -139,7 +139,7 @@ fn play(alloc: Global, rows: &[(&[u8], Act, &[u8])]) -> Result<usize, Fail> {
     let mut world = World::new(alloc)?;
     let mut played = 0;
     for (path, what, expected) in rows {
-        let text = act(alloc, &mut world, path, *what)?;
+        let text = come_of(alloc, &mut world, path, *what)?;
         if text.bytes() != *expected {
             return Ok(played);
         }
@@ -312,23 +312,23 @@ fn filled(alloc: Global, world: &mut World, n: u8) -> Result<(), Fail> {
 fn a_directory_has_at_most_128_names(rt: HostRuntime) -> Result<(), Fail> {
     let alloc = rt.alloc();
     let mut world = World::new(alloc)?;
-    act(alloc, &mut world, b"d", Act::Directory(8))?;
+    come_of(alloc, &mut world, b"d", Act::Directory(8))?;
     filled(alloc, &mut world, 128)?;
     assert_eq!(rt;
-        act(alloc, &mut world, b"d/g", Act::File(1))?.bytes(),
+        come_of(alloc, &mut world, b"d/g", Act::File(1))?.bytes(),
         b"directory full".as_slice()
     );
     // The one free record, in the middle, is taken again.
     assert_eq!(rt;
-        act(alloc, &mut world, b"d/f60", Act::Remove)?.bytes(),
+        come_of(alloc, &mut world, b"d/f60", Act::Remove)?.bytes(),
         b"removed".as_slice()
     );
     assert_eq!(rt;
-        act(alloc, &mut world, b"d/g", Act::File(1))?.bytes(),
+        come_of(alloc, &mut world, b"d/g", Act::File(1))?.bytes(),
         b"added".as_slice()
     );
     assert_eq!(rt;
-        act(alloc, &mut world, b"d/h", Act::File(1))?.bytes(),
+        come_of(alloc, &mut world, b"d/h", Act::File(1))?.bytes(),
         b"directory full".as_slice()
     );
     Ok(())
@@ -339,14 +339,14 @@ fn an_object_may_stay_without_a_name(rt: HostRuntime) -> Result<(), Fail> {
     let alloc = rt.alloc();
     let mut world = World::new(alloc)?;
     // A directory of one page has room for 16 names.
-    act(alloc, &mut world, b"d", Act::Directory(1))?;
+    come_of(alloc, &mut world, b"d", Act::Directory(1))?;
     filled(alloc, &mut world, 16)?;
     assert_eq!(rt;
-        act(alloc, &mut world, b"d/g", Act::File(1))?.bytes(),
+        come_of(alloc, &mut world, b"d/g", Act::File(1))?.bytes(),
         b"past room".as_slice()
     );
     assert_eq!(rt;
-        act(alloc, &mut world, b"d/g", Act::Look)?.bytes(),
+        come_of(alloc, &mut world, b"d/g", Act::Look)?.bytes(),
         b"no name".as_slice()
     );
     Ok(())
