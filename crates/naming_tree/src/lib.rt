@@ -25,8 +25,6 @@ mod site;
 mod slot;
 mod step;
 mod task;
-#[cfg(test)]
-mod tests;
 mod walk;
 mod walking;
 
