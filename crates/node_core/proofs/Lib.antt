@@ -1,0 +1,17 @@
+pub mod FirstPrograms
+pub mod Rising
+pub mod Seen
+pub mod Leading
+pub mod Turning
+pub mod Enabling
+pub mod Untold
+pub mod Phasing
+pub mod Serving
+pub mod Calling
+pub mod Opening
+pub mod Hearing
+pub mod Taking
+pub mod Noticing
+pub mod Keeping
+pub mod Stepping
+pub mod Beginning

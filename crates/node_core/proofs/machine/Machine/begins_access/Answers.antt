@@ -1,0 +1,39 @@
+use Rattle.std.proofs.Common.{◌≡◌, [], Some, Option, IsSome, sym, subst, refl, ap, ◌∙◌}
+use Rattle.std.proofs.lemmas.Result.{IfOk-weaker}
+use Rattle.uid_names.specs.Openings.{Start}
+use Rattle.dom_history.specs.Ranges.{IsOp}
+use Rattle.dom_history.specs.declared.op.Op.{Op}
+use Rattle.dom_history.specs.declared.op.Want.TheVariants.{Do}
+use Rattle.fault_handler.specs.Accesses.{Accessed, DeskOp, desk_op, access_of}
+use Rattle.fault_handler.proofs.Outcomes.{Holds}
+use Rattle.node_runs.proofs.Keeping.{IsMoved, begun-moved}
+use Rattle.node_core.specs.Processes.{IsWanted, want_at}
+use Rattle.node_core.specs.Outcomes.{Moves}
+use Rattle.node_core.proofs.Turning.{wanted-op, begun-desk, comes-seen, some-there, moves-accessed}
+use Rattle.node_core.proofs.machine.Machine.begins_access.Goals as goal
+
+pub accessed-requires-clause-there : goal.accessed-requires-clause-there
+accessed-requires-clause-there g c =
+    let m = c.args.self.now in
+    let p = c.args.proc.number in
+    let wanted = wanted-op (want_at m.procs p) c.requires.wanted in
+    let op = wanted.0 in
+    let some = some-there (desk_op op) (c.requires.access op wanted.1) in
+    let o = some.0 in
+    let opening : Start = record { nodes = m.desk.nodes; greatest = m.greatest; objects = [] } in
+    let holds = subst (λ (a : Accessed). Holds p (IsMoved m.desk p op) a) (begun-desk opening m.desk p op o some.1)
+    (begun-moved m.desk p c.requires.desk c.in_ok-access.ensures.process opening op refl c.requires.idle (subst IsWanted wanted.1 c.requires.wanted)) in
+    comes-seen m.desk p op c.access_wanted.new.desk (access_of m.desk p o) c.in_ok-access.access holds (c.in_ok-access.ensures.outcome op wanted.1 o some.1)
+
+pub returns : goal.returns
+returns g c =
+    let m = c.args.self.now in
+    let p = c.args.proc.number in
+    let opening : Start = record { nodes = m.desk.nodes; greatest = m.greatest; objects = [] } in
+    IfOk-weaker c.accessed.result _ _
+    (λ done turns op wanted.
+    let some = some-there (desk_op op) (c.requires.access op wanted) in
+    subst (λ (a : Accessed). Moves g.P.Program.spent g.P.Program.wants g.P.Program.becomes m c.accessed.new.self done p c.args.begun a) (sym (begun-desk opening m.desk p op some.0 some.1))
+    (moves-accessed g.P.Program.spent g.P.Program.wants g.P.Program.becomes m c.accessed.new.self done p c.args.begun
+    c.access_wanted.new.desk (access_of m.desk p some.0) c.in_ok-access.access (c.in_ok-access.ensures.outcome op wanted some.0 some.1) c.in_ok-access.ensures.node turns))
+    c.accessed.ensures

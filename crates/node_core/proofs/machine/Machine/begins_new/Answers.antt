@@ -1,0 +1,41 @@
+use Rattle.std.proofs.Common.{◌≡◌, sym, subst, refl, ap, ◌∙◌, true, false, Bool, List, [], ◌&&◌, nat_le, ℕ}
+use Rattle.std.proofs.lemmas.Result.{IfOk-weaker}
+use Rattle.uid_names.specs.Names.{ObjectName}
+use Rattle.dom_history.specs.Objects.{is_node}
+use Rattle.dom_history.specs.declared.op.Reply.TheVariants.{NoSpace, Locks}
+use Rattle.ring_messages.specs.Bodies.{Ask}
+use Rattle.fault_handler.specs.Outcomes.{Turn, ended}
+use Rattle.fault_handler.specs.Accesses.{Accessed}
+use Rattle.node_runs.specs.Operations.{new_by, list_by, asking_home}
+use Rattle.node_core.specs.Outcomes.{Turns, Moves}
+use Rattle.uid_names.specs.Openings.{Start}
+use Rattle.dom_history.specs.declared.op.Op.{Op}
+use Rattle.dom_history.specs.declared.op.Op.TheVariants as ops
+use Rattle.node_runs.specs.Operations.{begun as begun_as}
+use Rattle.node_core.specs.Processes.{want_at}
+use Rattle.node_core.proofs.Turning.{do-same, moves-settled}
+use Rattle.node_core.proofs.machine.Machine.begins_new.Goals as goal
+
+pub returns-then-may_make : goal.returns-then-may_make
+returns-then-may_make g c =
+    let m = c.args.self.now in
+    let p = c.args.proc.number in
+    let asks = subst (λ (ds : List (ObjectName × ℕ)). Turns g.P.Program.spent g.P.Program.wants g.P.Program.becomes m c.asks.new.self c.asks.result p c.args.begun (Turn.Asks c.args.home (Ask.Make c.args.kind c.args.room)) ds) c.new.ensures c.asks.ensures in
+    let opening : Start = record { nodes = m.desk.nodes; greatest = m.greatest; objects = [] } in
+    λ op wanted. subst (λ (o : Op). Moves g.P.Program.spent g.P.Program.wants g.P.Program.becomes m c.asks.new.self c.asks.result p c.args.begun (begun_as opening m.desk p o)) (do-same (want_at m.procs p) (ops.New c.args.home c.args.kind c.args.room) op c.requires.wanted wanted)
+    (subst (λ b. Moves g.P.Program.spent g.P.Program.wants g.P.Program.becomes m c.asks.new.self c.asks.result p c.args.begun (Accessed.Settled (new_by m.desk c.args.home c.args.kind c.args.room b)))
+    (sym c.if-may_make.true ∙ c.may_make.ensures)
+    (moves-settled g.P.Program.spent g.P.Program.wants g.P.Program.becomes m c.asks.new.self c.asks.result p c.args.begun m.desk (asking_home m.desk c.args.home (Ask.Make c.args.kind c.args.room)) refl refl asks))
+
+pub returns : goal.returns
+returns g c =
+    let m = c.args.self.now in
+    let p = c.args.proc.number in
+    let opening : Start = record { nodes = m.desk.nodes; greatest = m.greatest; objects = [] } in
+    IfOk-weaker c.ends.result _ _
+    (λ done turns op wanted. subst (λ (o : Op). Moves g.P.Program.spent g.P.Program.wants g.P.Program.becomes m c.ends.new.self done p c.args.begun (begun_as opening m.desk p o)) (do-same (want_at m.procs p) (ops.New c.args.home c.args.kind c.args.room) op c.requires.wanted wanted)
+    (subst (λ b. Moves g.P.Program.spent g.P.Program.wants g.P.Program.becomes m c.ends.new.self done p c.args.begun (Accessed.Settled (new_by m.desk c.args.home c.args.kind c.args.room b)))
+    (sym c.if-may_make.false ∙ c.may_make.ensures)
+    (moves-settled g.P.Program.spent g.P.Program.wants g.P.Program.becomes m c.ends.new.self done p c.args.begun m.desk (ended m.desk NoSpace) refl refl
+    (subst (λ (ds : List (ObjectName × ℕ)). Turns g.P.Program.spent g.P.Program.wants g.P.Program.becomes m c.ends.new.self done p c.args.begun (Turn.Ends NoSpace) ds) c.new-2.ensures (turns c.args.begun)))))
+    c.ends.ensures

@@ -1,0 +1,30 @@
+use Rattle.std.proofs.Common.{◌≡◌, ℕ, List, ◌≤◌, true, None, ap, sym, subst, refl, ◌∙◌}
+use Rattle.node_runs.specs.NodeStates.{NodeState, ProcState, first_proc}
+use Rattle.node_runs.specs.Alikes.{AreAlike}
+use Rattle.node_runs.specs.Doings.{after_marks}
+use Rattle.node_runs.proofs.Somes.{some-is}
+use Rattle.node_runs.proofs.Forgetting.{alike-itself}
+use Rattle.uid_names.specs.Names.{ObjectName}
+use Rattle.dom_history.specs.declared.event.Effects.{Effects}
+use Rattle.fault_handler.specs.Desks.{at}
+use Rattle.node_core.specs.Machines.{given_of, state_of}
+use Rattle.node_core.specs.Outcomes.{Led}
+use Rattle.node_core.proofs.Seen.{seen-silent}
+use Rattle.node_core.proofs.Untold.{led-untold}
+use Rattle.node_core.proofs.Phasing.{after-procs}
+use Rattle.node_core.proofs.machine.Machine.end_phase.Goals as goal
+
+pub returns : goal.returns
+returns g c s is =
+    let old = c.args.self.now in
+    let new = c.pass_phase.new.self in
+    let n = record (state_of old) { ready = true } in
+    let node = after_marks (given_of old) n in
+    let effects = λ (x : List (ObjectName × ℕ)). let e : Effects = record { dropped = x; sent = None; ended = None } in e in
+    subst (λ x. Led g.P.Program.spent g.P.Program.wants g.P.Program.becomes old new c.quiet.result x) (some-is _ s is)
+    (led-untold g.P.Program.spent g.P.Program.wants g.P.Program.becomes old new c.quiet.result _ c.requires.before.within
+    (ap (λ m. m.programs) c.pass_phase.ensures.same) (ap (λ m. m.procs) c.pass_phase.ensures.same) (ap (λ m. m.greatest) c.pass_phase.ensures.same) (ap (λ m. m.phases) c.pass_phase.ensures.same)
+    (subst (λ m. m.server.tick ≤ m.tick) (sym c.pass_phase.ensures.same) c.requires.before.within.earlier)
+    (subst (λ x. AreAlike x node) (sym c.pass_phase.ensures.state) (alike-itself node))
+    (λ p. ap (λ qs. (at qs p first_proc).heard) (after-procs (given_of old) n) ∙ seen-silent old.procs p)
+    (ap (λ d. d.frame) c.quiet.ensures) (ap (λ d. d.effects) c.quiet.ensures ∙ ap effects c.new.ensures))

@@ -1,0 +1,100 @@
+use Rattle.std.proofs.Common.{◌≡◌, Option, Some, is_some, ap, sym, subst, ◌∙◌}
+use Rattle.std.proofs.lemmas.Result.{IfOk-weaker}
+use Rattle.ring_messages.specs.Ranges.{IsBody}
+use Rattle.fault_handler.specs.Outcomes.{Outcome}
+use Rattle.fault_handler.specs.PageReplies.{page_came_of}
+use Rattle.lock_validate.specs.Answers.{answer_came_of}
+use Rattle.node_runs.specs.Operations.{Said, said_of}
+use Rattle.node_runs.proofs.Keeping.{answered-moved}
+use Rattle.node_core.specs.Processes.{want_at}
+use Rattle.node_core.proofs.Calling.{one-op, desk-op, call-open, unsaid, said-access, said-lock}
+use Rattle.node_core.proofs.Hearing.{heard-nothing, heard-moves}
+use Rattle.node_core.proofs.Turning.{wanted-op, comes-seen, step-seen, moves-accessed, moves-stepped}
+use Rattle.node_core.proofs.machine.Machine.hears_at_desk.Goals as goal
+
+pub returns-then-not-answers : goal.returns-then-not-answers
+returns-then-not-answers g c =
+    let old = c.args.self.now in
+    let p = c.args.proc.number in
+    let body = c.args.body.now in
+    heard-nothing g.P.Program.spent g.P.Program.wants g.P.Program.becomes old p body c.quiet.result c.new.result c.requires.at c.quiet.ensures c.new.ensures
+    (λ op want. unsaid old.desk p op (desk-op (want_at old.procs p) op c.requires.not_new c.requires.not_list want) body (sym c.answers.ensures ∙ c.if-not-answers.true)) c.args.begun
+
+pub accessed-requires-clause-there : goal.accessed-requires-clause-there
+accessed-requires-clause-there g c =
+    let d = c.args.self.now.desk in
+    let p = c.args.proc.number in
+    let body = c.args.body.now in
+    let w = want_at c.args.self.now.procs p in
+    let op = wanted-op w c.requires.wanted in
+    let desk = desk-op w op.0 c.requires.not_new c.requires.not_list op.1 in
+    let calls = c.requires.call op.0 op.1 in
+    let opened = sym c.open_call.ensures.value ∙ (c.in-Some.is ∙ ap Some c.in-Access.is) in
+    let says = said-access d p op.0 desk body (sym c.answers.ensures ∙ c.if-not-answers.false) opened in
+    let holds = answered-moved d p c.open_call.ensures.kept c.requires.process op.0 calls.0 body (Said.ToAccess says.1) calls.1 (subst (λ n. IsBody n body) c.requires.own c.requires.range) c.requires.named says.4 in
+    comes-seen d p op.0 c.page_came.new.self (page_came_of d p says.1) c.in_ok-access-in-Access.access holds (c.in_ok-access-in-Access.ensures.outcome says.0 says.2 says.1 says.3)
+
+pub accessed-requires-clause-fits : goal.accessed-requires-clause-fits
+accessed-requires-clause-fits g c op want o seen =
+    let d = c.args.self.now.desk in
+    let p = c.args.proc.number in
+    let calls = c.requires.call op want in
+    let desk = desk-op (want_at c.args.self.now.procs p) op c.requires.not_new c.requires.not_list want in
+    c.in_ok-access-in-Access.ensures.fits o seen op (call-open d p op calls.0 desk calls.1).opened
+
+pub stepped-requires : goal.stepped-requires
+stepped-requires g c =
+    let d = c.args.self.now.desk in
+    let p = c.args.proc.number in
+    let body = c.args.body.now in
+    let w = want_at c.args.self.now.procs p in
+    let op = wanted-op w c.requires.wanted in
+    let desk = desk-op w op.0 c.requires.not_new c.requires.not_list op.1 in
+    let opened = sym c.open_call.ensures.value ∙ c.in-Some.is in
+    let says = said-lock d p op.0 desk body c.in-Some.call (sym c.answers.ensures ∙ c.if-not-answers.false) opened c.in_default-call.not-Access in
+    record {
+      own = c.requires.own ∙ sym c.in_ok-step-in_default-call.ensures.node;
+      at = c.requires.at;
+      program = c.requires.program;
+      wanted = c.requires.wanted;
+      there = ap (λ (x : Option Outcome). is_some x) (step-seen c.answer_came.new.desk (answer_came_of d p says.0) c.in_ok-step-in_default-call.step (c.in_ok-step-in_default-call.ensures.outcome says.0 says.1));
+      fits = λ op want.
+          let calls = c.requires.call op want in
+          let desk = desk-op w op c.requires.not_new c.requires.not_list want in
+          c.in_ok-step-in_default-call.ensures.fits op (call-open d p op calls.0 desk calls.1).opened;
+      asks = c.in_ok-step-in_default-call.ensures.asks;
+    }
+
+pub returns-in_ok-access-in-Access : goal.returns-in_ok-access-in-Access
+returns-in_ok-access-in-Access g c =
+    let old = c.args.self.now in
+    let p = c.args.proc.number in
+    let body = c.args.body.now in
+    let w = want_at old.procs p in
+    let op = wanted-op w c.requires.wanted in
+    let desk = desk-op w op.0 c.requires.not_new c.requires.not_list op.1 in
+    let opened = sym c.open_call.ensures.value ∙ (c.in-Some.is ∙ ap Some c.in-Access.is) in
+    let says = said-access old.desk p op.0 desk body (sym c.answers.ensures ∙ c.if-not-answers.false) opened in
+    let said = Said.ToAccess says.1 in
+    IfOk-weaker c.accessed.result _ _ (λ done turns.
+    heard-moves g.P.Program.spent g.P.Program.wants g.P.Program.becomes old p body c.accessed.new.self done said c.args.begun
+    (moves-accessed g.P.Program.spent g.P.Program.wants g.P.Program.becomes old c.accessed.new.self done p c.args.begun c.page_came.new.self (page_came_of old.desk p says.1) c.in_ok-access-in-Access.access
+    (c.in_ok-access-in-Access.ensures.outcome says.0 says.2 says.1 says.3) c.in_ok-access-in-Access.ensures.node turns)
+    (λ op2 want. subst (λ x. said_of old.desk p x body ≡ Some said) (one-op w op.0 op2 op.1 want) says.4)) c.accessed.ensures
+
+pub returns-in_ok-step-in_default-call : goal.returns-in_ok-step-in_default-call
+returns-in_ok-step-in_default-call g c =
+    let old = c.args.self.now in
+    let p = c.args.proc.number in
+    let body = c.args.body.now in
+    let w = want_at old.procs p in
+    let op = wanted-op w c.requires.wanted in
+    let desk = desk-op w op.0 c.requires.not_new c.requires.not_list op.1 in
+    let opened = sym c.open_call.ensures.value ∙ c.in-Some.is in
+    let says = said-lock old.desk p op.0 desk body c.in-Some.call (sym c.answers.ensures ∙ c.if-not-answers.false) opened c.in_default-call.not-Access in
+    let said = Said.ToLock says.0 in
+    IfOk-weaker c.stepped.result _ _ (λ done turns.
+    heard-moves g.P.Program.spent g.P.Program.wants g.P.Program.becomes old p body c.stepped.new.self done said c.args.begun
+    (moves-stepped g.P.Program.spent g.P.Program.wants g.P.Program.becomes old c.stepped.new.self done p c.args.begun c.answer_came.new.desk (answer_came_of old.desk p says.0) c.in_ok-step-in_default-call.step
+    (c.in_ok-step-in_default-call.ensures.outcome says.0 says.1) c.in_ok-step-in_default-call.ensures.node turns)
+    (λ op2 want. subst (λ x. said_of old.desk p x body ≡ Some said) (one-op w op.0 op2 op.1 want) says.2)) c.stepped.ensures

@@ -1,0 +1,50 @@
+use Rattle.std.proofs.Common.{◌≡◌, ℕ, ◌≤◌, false, [], ◌∷◌, refl, sym, ap, subst, ◌∙◌}
+use Rattle.uid_names.specs.Beginnings.{at_home}
+use Rattle.uid_names.specs.declared.limits.TheConstants.{VOLUME_ROOM}
+use Rattle.dom_history.specs.declared.op.Want.TheVariants.{Phase}
+use Rattle.object_store.specs.HomeStates.{HomeState}
+use Rattle.page_server.proofs.Begun.{IsBegun-first_home}
+use Rattle.fault_handler.specs.Conditions.{empty_desk}
+use Rattle.node_runs.specs.Setups.{Given}
+use Rattle.node_core.specs.declared.machine.Machine.{Machine}
+use Rattle.node_core.specs.Programs.{program_in, numbers_in}
+use Rattle.node_core.proofs.Rising.{rising-program}
+use Rattle.node_core.proofs.Beginning.{four-want, four-seen, kept-first}
+use Rattle.node_core.proofs.machine.Machine.new.Goals as goal
+
+pub new-requires-2 : goal.new-requires-2
+new-requires-2 g c = IsBegun-first_home c.in_ok-home.home c.args.setup.node (at_home c.args.setup.node c.args.opening.now.objects) c.in_ok-home.ensures.first c.in_ok-home.ensures.few
+
+pub returns-clause-programs : goal.returns-clause-programs
+returns-clause-programs g c p =
+    let given : Given = record { number = 0; opening = c.args.opening.now; frames = 0; phases = 0; programs = numbers_in c.args.programs.items; asks = λ q heard. Phase } in
+    ap (λ es. program_in es p) c.in_ok-programs.ensures ∙ rising-program c.args.programs.items c.requires.numbers given refl p
+
+pub returns-clause-kept : goal.returns-clause-kept
+returns-clause-kept g c =
+    let a = c.in_ok-new.ensures in
+    let b = c.in_ok-new-2.ensures in
+    let d = c.in_ok-new-3.ensures in
+    let e = c.in_ok-new-4.ensures in
+    let m : Machine g.row.P.Denot g.row.G.Denot =
+    record {
+      greatest = c.greatest.result;
+      phases = c.args.setup.phases;
+      server = c.in_ok-server.server;
+      desk = c.in_ok-desk.desk;
+      programs = c.in_ok-programs.programs;
+      procs = c.in_ok-new.field-0 ∷ c.in_ok-new-2.field-0 ∷ c.in_ok-new-3.field-0 ∷ c.in_ok-new-4.field-0 ∷ [];
+      emitted = 0 ∷ 0 ∷ 0 ∷ 0 ∷ 0 ∷ 0 ∷ 0 ∷ 0 ∷ [];
+      tick = 0;
+      phase = 1;
+      ready = false;
+      marks = c.new-8.result;
+    } in
+    kept-first g.P.Program.spent g.P.Program.wants m c.args.opening.now c.nodes-nodes.ensures.start c.args.setup.node c.args.setup.frames c.requires.begins
+    (subst (λ (h : HomeState). h.greatest ≤ VOLUME_ROOM) c.in_ok-home.ensures.first c.in_ok-home.ensures.few) (record { few = c.requires.frames_low; many = c.requires.frames_high })
+    c.args.programs.items c.in_ok-programs.ensures (returns-clause-programs g c) c.requires.whole c.requires.fresh
+    (four-want c.in_ok-new.field-0 c.in_ok-new-2.field-0 c.in_ok-new-3.field-0 c.in_ok-new-4.field-0 a.want b.want d.want e.want)
+    c.greatest.ensures c.requires.phases c.in_ok-home.home c.in_ok-server.ensures c.in_ok-home.ensures.first
+    (c.in_ok-desk.ensures ∙ ap (λ k. empty_desk c.args.setup.node k c.args.setup.frames) (sym c.requires.nodes))
+    (four-seen c.in_ok-new.field-0 c.in_ok-new-2.field-0 c.in_ok-new-3.field-0 c.in_ok-new-4.field-0 a.state b.state d.state e.state)
+    refl refl refl refl c.new-8.ensures

@@ -1,0 +1,101 @@
+use Rattle.std.proofs.Common.{◌≡◌, [], set, get_or, refl, ap, sym, subst, ◌∙◌}
+use Rattle.std.proofs.lemmas.Result.{IfOk-weaker}
+use Rattle.std.specs.Option.{ForSome}
+use Rattle.dom_history.specs.declared.op.Op.{Op}
+use Rattle.dom_history.specs.declared.op.Want.TheVariants.{Do}
+use Rattle.uid_names.specs.declared.ids.Place.{Place}
+use Rattle.fault_handler.specs.Accesses.{Accessed}
+use Rattle.node_runs.specs.NodeStates.{Await, OpenOp, ProcState, proc_of}
+use Rattle.node_runs.specs.Operations.{failed}
+use Rattle.node_core.specs.Calls.{IsInCall}
+use Rattle.node_core.specs.Processes.{IsWanted, want_at}
+use Rattle.node_core.specs.Machines.{state_of, IsAtEvent}
+use Rattle.node_core.specs.Outcomes.{Moves}
+use Rattle.node_core.proofs.Opening.{seen-here, range-open, call-open}
+use Rattle.node_core.proofs.Noticing.{calling-there, set-same, again-least, again-range, resent-led, gave_up-led}
+use Rattle.node_core.proofs.machine.Machine.notice.Goals as goal
+
+pub resends-requires-clause-number : goal.resends-requires-clause-number
+resends-requires-clause-number g c =
+    let old = c.args.self.now in
+    let p = c.args.proc.number in
+    let i = c.index_of.result in
+    let d = c.index-self-index_of.result in
+    let found = calling-there (proc_of (state_of old) p).doing c.requires.called in
+    let here = ap (λ (x : ProcState). x.doing) (seen-here old.procs i p (get_or old.procs i d) d c.requires.before.within.four c.index_of.ensures.bound c.index_of.ensures.value refl) in
+    let again = c.in-Some.ensures.again found.0 found.1 (sym here ∙ found.2) in
+    again-least g.P.Program.spent g.P.Program.wants g.P.Program.becomes old c.requires.before p c.index_of.ensures.process found.0 found.1 found.2 c.in-Some.again again.0
+
+pub resends-requires-clause-range : goal.resends-requires-clause-range
+resends-requires-clause-range g c =
+    let old = c.args.self.now in
+    let p = c.args.proc.number in
+    let i = c.index_of.result in
+    let d = c.index-self-index_of.result in
+    let found = calling-there (proc_of (state_of old) p).doing c.requires.called in
+    let here = ap (λ (x : ProcState). x.doing) (seen-here old.procs i p (get_or old.procs i d) d c.requires.before.within.four c.index_of.ensures.bound c.index_of.ensures.value refl) in
+    let again = c.in-Some.ensures.again found.0 found.1 (sym here ∙ found.2) in
+    again-range g.P.Program.spent g.P.Program.wants g.P.Program.becomes old c.requires.before p c.index_of.ensures.process found.0 found.1 found.2 c.in-Some.again again.0
+
+pub returns-in-Some : goal.returns-in-Some
+returns-in-Some g c s comes =
+    let old = c.args.self.now in
+    let p = c.args.proc.number in
+    let i = c.index_of.result in
+    let d = c.index-self-index_of.result in
+    let found = calling-there (proc_of (state_of old) p).doing c.requires.called in
+    let here = ap (λ (x : ProcState). x.doing) (seen-here old.procs i p (get_or old.procs i d) d c.requires.before.within.four c.index_of.ensures.bound c.index_of.ensures.value refl) in
+    let again = c.in-Some.ensures.again found.0 found.1 (sym here ∙ found.2) in
+    resent-led g.P.Program.spent g.P.Program.wants g.P.Program.becomes old c.requires.before p c.index_of.ensures.process found.0 found.1 found.2 i d c.notice-again.new.self c.resends.new.self c.resends.result c.in-Some.again []
+    c.index_of.ensures.value c.index_of.ensures.bound c.notice-again.ensures.want again.2 again.0 again.1 c.resends.ensures s comes
+
+pub gives_up-requires-clause-at : goal.gives_up-requires-clause-at
+gives_up-requires-clause-at g c =
+    let old = c.args.self.now in
+    let p = c.args.proc.number in
+    let i = c.index_of.result in
+    let d = c.index-self-index_of.result in
+    let found = calling-there (proc_of (state_of old) p).doing c.requires.called in
+    let here = ap (λ (x : ProcState). x.doing) (seen-here old.procs i p (get_or old.procs i d) d c.requires.before.within.four c.index_of.ensures.bound c.index_of.ensures.value refl) in
+    let e : set old.procs i c.notice-again.new.self ≡ old.procs = ap (set old.procs i) (c.in-None.ensures.none found.0 found.1 (sym here ∙ found.2)).1 ∙ set-same old.procs i d in
+    subst (λ ps. IsAtEvent g.P.Program.spent g.P.Program.wants (record old { procs = ps })) (sym e) c.requires.before.within
+
+pub gives_up-requires-clause-wanted : goal.gives_up-requires-clause-wanted
+gives_up-requires-clause-wanted g c =
+    let old = c.args.self.now in
+    let p = c.args.proc.number in
+    let i = c.index_of.result in
+    let d = c.index-self-index_of.result in
+    let found = calling-there (proc_of (state_of old) p).doing c.requires.called in
+    let here = ap (λ (x : ProcState). x.doing) (seen-here old.procs i p (get_or old.procs i d) d c.requires.before.within.four c.index_of.ensures.bound c.index_of.ensures.value refl) in
+    let e : set old.procs i c.notice-again.new.self ≡ old.procs = ap (set old.procs i) (c.in-None.ensures.none found.0 found.1 (sym here ∙ found.2)).1 ∙ set-same old.procs i d in
+    let x : OpenOp = record { began = found.0; awaits = Await.Answer found.1 } in
+    subst (λ ps. IsWanted (want_at ps p)) (sym e) (range-open g.P.Program.spent g.P.Program.wants old c.requires.before p c.index_of.ensures.process x found.2)
+
+pub gives_up-requires-clause-call : goal.gives_up-requires-clause-call
+gives_up-requires-clause-call g c =
+    let old = c.args.self.now in
+    let p = c.args.proc.number in
+    let i = c.index_of.result in
+    let d = c.index-self-index_of.result in
+    let found = calling-there (proc_of (state_of old) p).doing c.requires.called in
+    let here = ap (λ (x : ProcState). x.doing) (seen-here old.procs i p (get_or old.procs i d) d c.requires.before.within.four c.index_of.ensures.bound c.index_of.ensures.value refl) in
+    let e : set old.procs i c.notice-again.new.self ≡ old.procs = ap (set old.procs i) (c.in-None.ensures.none found.0 found.1 (sym here ∙ found.2)).1 ∙ set-same old.procs i d in
+    let x : OpenOp = record { began = found.0; awaits = Await.Answer found.1 } in
+    subst (λ ps. (op : Op) → want_at ps p ≡ Do op → IsInCall old.desk p op) (sym e)
+    (call-open g.P.Program.spent g.P.Program.wants old c.requires.before p c.index_of.ensures.process x found.2 found.1 refl)
+
+pub returns-in-None : goal.returns-in-None
+returns-in-None g c =
+    let old = c.args.self.now in
+    let p = c.args.proc.number in
+    let i = c.index_of.result in
+    let d = c.index-self-index_of.result in
+    let found = calling-there (proc_of (state_of old) p).doing c.requires.called in
+    let here = ap (λ (x : ProcState). x.doing) (seen-here old.procs i p (get_or old.procs i d) d c.requires.before.within.four c.index_of.ensures.bound c.index_of.ensures.value refl) in
+    let none = c.in-None.ensures.none found.0 found.1 (sym here ∙ found.2) in
+    let e : set old.procs i c.notice-again.new.self ≡ old.procs = ap (set old.procs i) none.1 ∙ set-same old.procs i d in
+    IfOk-weaker c.gives_up.result _ _ (λ done moves.
+    gave_up-led g.P.Program.spent g.P.Program.wants g.P.Program.becomes old c.requires.before p c.index_of.ensures.process found.0 found.1 found.2 c.gives_up.new.self done none.0
+    (subst (λ ps. (begun : Place) (op : Op) → want_at ps p ≡ Do op → ForSome (failed old.desk p op) (λ m. Moves g.P.Program.spent g.P.Program.wants g.P.Program.becomes (record old { procs = ps }) c.gives_up.new.self done p begun (Accessed.Settled m))) e moves))
+    c.gives_up.ensures

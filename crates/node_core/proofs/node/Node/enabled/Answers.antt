@@ -1,0 +1,13 @@
+use Rattle.std.proofs.Common.{◌≡◌, sym, subst, ◌∙◌}
+use Rattle.node_core.specs.Machines.{inner_of}
+use Rattle.node_core.specs.Nodes.{Stands}
+use Rattle.node_core.specs.Receivings.{seen}
+use Rattle.node_core.proofs.Stepping.{enabled-there}
+use Rattle.node_core.proofs.node.Node.enabled.Goals as goal
+
+pub returns-then-not-self-clause-stands : goal.returns-then-not-self-clause-stands
+returns-then-not-self-clause-stands g c made given n stands =
+    let old = c.self.inside in
+    c.enabled.ensures
+    ∙ enabled-there g.P.Program.spent g.P.Program.wants g.P.Program.becomes made given (record { inner = inner_of old.machine; log = old.log; spent = old.spent }) n
+    (subst (λ x. Stands g.P.Program.wants g.P.Program.becomes made given x n) (sym c.self.view_is) stands) (c.self.invariant c.if-not-self.true) c.args.what.now (seen c.args.incoming.now)

@@ -1,0 +1,9 @@
+pub mod Asked
+pub mod Processes
+pub mod Programs
+pub mod Marks
+pub mod Calls
+pub mod Receivings
+pub mod Nodes
+pub mod Machines
+pub mod Outcomes

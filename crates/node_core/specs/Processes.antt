@@ -1,0 +1,84 @@
+-- What definitions see of a process that a node keeps.
+use Rattle.std.specs.Prelude.{◌≡◌, ℕ, Bool, true, false, List, [], Option, Some, None, map}
+use Rattle.std.specs.Option.{option_map}
+use Rattle.dom_history.specs.declared.op.Op.{Op}
+use Rattle.dom_history.specs.declared.op.Op.TheVariants as ops
+use Rattle.dom_history.specs.declared.op.Want.{Want}
+use Rattle.dom_history.specs.declared.op.Want.TheVariants.{Do, Phase, Done}
+use Rattle.dom_history.specs.Ranges.{IsOp}
+use Rattle.ring_messages.specs.Bodies.{body_of_ask}
+use Rattle.ring_messages.specs.Frames.{Message}
+use Rattle.fault_handler.specs.Desks.{at}
+use Rattle.node_runs.specs.NodeStates.{Asked, Await, OpenOp, ProcState}
+use Rattle.node_core.specs.declared.processes.Call.{Call}
+use Rattle.node_core.specs.declared.processes.Await as kept
+use Rattle.node_core.specs.declared.processes.Await.TheVariants as awaits
+use Rattle.node_core.specs.declared.processes.Again.{Again}
+use Rattle.node_core.specs.declared.processes.Open.{Open}
+use Rattle.node_core.specs.declared.processes.Proc.{Proc}
+use Rattle.node_core.specs.Asked.{ask_told}
+
+-- a call, with the bytes of its page
+abbrev pub call_seen : Call → List ℕ → Asked
+call_seen c page = record { waiting = c.asking; home = c.home; ask = ask_told c.ask page }
+
+abbrev pub await_seen : kept.Await → List ℕ → Await
+await_seen (awaits.Answer c) page = Await.Answer (call_seen c page)
+await_seen (awaits.Page u k) page = Await.Page u k
+
+abbrev pub open_seen : Op → Open → List ℕ → OpenOp
+open_seen op o page = record { began = record { op = op; begun = o.begun }; awaits = await_seen o.awaits page }
+
+-- what is open, where an operation is wanted
+abbrev pub open_in : Want → Option Open → Option Open
+open_in (Do op) opened = opened
+open_in Phase opened = None
+open_in Done opened = None
+
+-- the open operation is the one that is wanted
+abbrev pub doing_of : Want → Option Open → List ℕ → Option OpenOp
+doing_of (Do op) opened page = option_map (λ o. open_seen op o page) opened
+doing_of Phase opened page = None
+doing_of Done opened page = None
+
+-- a process. What it heard is not kept
+abbrev pub proc_seen : Proc → ProcState
+proc_seen q = record { heard = []; doing = doing_of q.want q.opened q.page.value; last = q.last; phase = q.phase }
+
+-- an operation is wanted, in its ranges
+abbrev pub IsWanted : Want → Type 0
+IsWanted (Do op) = IsOp op
+IsWanted Phase = ⊥
+IsWanted Done = ⊥
+
+-- what a process wants
+abbrev pub want_at : List Proc → ℕ → Want
+want_at procs p = at (map (λ q. q.want) procs) p Phase
+
+-- a call is open
+abbrev pub IsAnswer : Await → Type 0
+IsAnswer (Await.Answer c) = Unit {0}
+IsAnswer (Await.Page u k) = ⊥
+
+abbrev pub IsCalling : Option OpenOp → Type 0
+IsCalling None = ⊥
+IsCalling (Some o) = IsAnswer o.awaits
+
+-- a New, or a List, is wanted: the desk has no part in them
+abbrev pub is_new : Want → Bool
+is_new (Do (ops.New home kind room)) = true
+is_new _ = false
+
+abbrev pub is_list : Want → Bool
+is_list (Do (ops.List home after)) = true
+is_list _ = false
+
+-- the request of a call, to be sent again
+pub record IsAgain (c : Asked) (again : Again) : Type 0 where
+  pub home : again.home ≡ c.home
+  pub number : again.number ≡ c.waiting.number
+  pub body : again.body ≡ body_of_ask c.ask
+
+-- the frame that it is sent in
+abbrev pub again_sent : ℕ → ℕ → ℕ → Again → Message
+again_sent node p tick again = record { from = node; to = again.home; proc = p; number = again.number; tick = tick; body = again.body }

@@ -1,0 +1,314 @@
+//! A process begins what its program wants, or goes on with it after a wait.
+ghost use Rattle.std.specs.Prelude.{◌≡◌, ◌≤◌, length, ◌&&◌, nat_le, true, false, Some, None, IsSome, IfOk};
+ghost use Rattle.std.specs.Option.{ForSome};
+ghost use Rattle.uid_names.specs.Names.{IsProcNumber};
+ghost use Rattle.uid_names.specs.Rooms.{IsRoom};
+ghost use Rattle.uid_names.specs.declared.limits.TheConstants.{NODE_PROCESSES};
+ghost use Rattle.dom_history.specs.declared.op.Op.{Op};
+ghost use Rattle.dom_history.specs.declared.op.Op.TheVariants.{New, List as ListOp, Lock, Unlock, Delete};
+ghost use Rattle.dom_history.specs.declared.op.Want.TheVariants.{Do, Phase, Done as AllDone};
+ghost use Rattle.dom_history.specs.Ranges.{IsOp};
+ghost use Rattle.fault_handler.specs.Outcomes.{as_access, seen_access, Gives};
+ghost use Rattle.fault_handler.specs.Accesses.{Accessed, Comes, desk_op, access_of};
+ghost use Rattle.fault_handler.specs.Conditions.{IsOf, IsIdle};
+ghost use Rattle.fault_handler.specs.Invariant.{IsDesk};
+ghost use Rattle.fault_handler.specs.Next.{FitsTurn, IsAsked};
+ghost use Rattle.lock_validate.specs.Locking.{begin_lock_of};
+ghost use Rattle.lock_validate.specs.Releases.{begin_unlock_of, begin_delete_of};
+ghost use Rattle.node_runs.specs.Incomings.{may_begin, may_go};
+ghost use Rattle.node_runs.specs.NodeStates.{proc_of};
+ghost use Rattle.node_runs.specs.Doings.{begins, goes_on};
+ghost use Rattle.node_runs.specs.Operations.{begun as begun_as, new_by, list_by};
+ghost use Rattle.dom_history.specs.Objects.{is_node};
+ghost use Rattle.node_core.specs.Processes.{IsWanted, want_at};
+ghost use Rattle.node_core.specs.Programs.{program_in};
+
+use crate::machine::Machine;
+use crate::processes::{Proc, index_of};
+use crate::turns::{Done, quiet};
+use dom_history::{Dropped, Op, Program, Reply, Want};
+use fault_handler::{Access, Desk};
+use lock_validate::{begin_delete, begin_lock, begin_unlock};
+use page_store::Pages;
+use ring_messages::Body;
+use std::alloc::Global;
+use uid_names::{LockRows, Mode, NODE_PROCESSES, NoMemory, NodeId, ObjKind, Place, ProcId, Uid};
+
+/// What the desk says to a load, a store, or what is asked of a length or a mapping.
+fn access(alloc: Global, desk: &mut Desk, proc: ProcId, want: &Want) -> Result<Access, NoMemory>
+    requires own { IsOf desk.old proc }
+    requires idle { IsIdle desk.old proc.number }
+    requires wanted { IsWanted want.now }
+    requires access { (op : Op) → want.now ≡ Do op → IsSome (desk_op op) }
+    ensures outcome { IfOk result (λ access. (op : Op) → want.now ≡ Do op → ForSome (desk_op op) (λ o.
+        Comes proc.number (λ m. Gives as_access desk.new m access) (access_of desk.old proc.number o))) }
+    ensures fits { IfOk result (λ access. (op : Op) → want.now ≡ Do op → ForSome (seen_access access) (λ o. FitsTurn op o.turn)) }
+    ensures asks { IfOk result (λ access. ForSome (seen_access access) (λ o. IsAsked desk.new.nodes o.turn)) }
+    ensures node { desk.new.node ≡ desk.old.node }
+{
+    match want {
+        Want::Do(op) => desk.access(alloc, proc, op),
+        Want::Phase | Want::Done => unreachable!(),
+    }
+}
+
+/// The same, with what all processes want.
+fn access_wanted(
+    alloc: Global,
+    desk: &mut Desk,
+    proc: ProcId,
+    procs: &[Proc; NODE_PROCESSES],
+) -> Result<Access, NoMemory>
+    requires own { IsOf desk.old proc }
+    requires idle { IsIdle desk.old proc.number }
+    requires four { length procs.now ≡ NODE_PROCESSES }
+    requires wanted { IsWanted (want_at procs.now proc.number) }
+    requires access { (op : Op) → want_at procs.now proc.number ≡ Do op → IsSome (desk_op op) }
+    ensures outcome { IfOk result (λ access. (op : Op) → want_at procs.now proc.number ≡ Do op → ForSome (desk_op op) (λ o.
+        Comes proc.number (λ m. Gives as_access desk.new m access) (access_of desk.old proc.number o))) }
+    ensures fits { IfOk result (λ access. (op : Op) → want_at procs.now proc.number ≡ Do op → ForSome (seen_access access) (λ o. FitsTurn op o.turn)) }
+    ensures asks { IfOk result (λ access. ForSome (seen_access access) (λ o. IsAsked desk.new.nodes o.turn)) }
+    ensures node { desk.new.node ≡ desk.old.node }
+    ensures process { IsProcNumber proc.number }
+{
+    let at = index_of(proc);
+    access(alloc, desk, proc, &procs[at].want)
+}
+
+impl<P: Program, G: Pages> Machine<P, G> {
+    ghost use Rattle.node_core.specs.Machines.{given_of, state_of, IsAtEvent, IsBefore};
+    ghost use Rattle.node_core.specs.Outcomes.{Moves, Does};
+
+    /// A process begins what its program wants, or is at the end of its phase or of all.
+    pub(crate) fn begin(&mut self, alloc: Global, proc: ProcId) -> Result<Done, NoMemory>
+        requires own { proc.node ≡ self.old.desk.node }
+        requires before { IsBefore P.spent P.wants self.old }
+        requires going { self.old.phase ≤ self.old.phases }
+        requires enabled { may_begin (given_of self.old) (state_of self.old) proc.number ≡ true }
+        ensures { IfOk result (λ done. Does P.spent P.wants P.becomes self.old self.new done
+            (Some (begins (given_of self.old) (state_of self.old) proc.number (want_at self.old.procs proc.number)))) }
+    {
+        match &self.procs[index_of(proc)].want {
+            Want::Do(_) => self.begins(alloc, proc, self.place()),
+            Want::Phase => self.pauses(alloc, proc),
+            Want::Done => Ok(self.finishes(alloc, proc)),
+        }
+    }
+
+    /// The program is told that a phase begins, which is that of what it wants next.
+    fn pauses(&mut self, alloc: Global, proc: ProcId) -> Result<Done, NoMemory>
+        requires before { IsBefore P.spent P.wants self.old }
+        requires going { self.old.phase ≤ self.old.phases }
+        requires enabled { may_begin (given_of self.old) (state_of self.old) proc.number ≡ true }
+        requires wanted { want_at self.old.procs proc.number ≡ Phase }
+        ensures { IfOk result (λ done. Does P.spent P.wants P.becomes self.old self.new done
+            (Some (begins (given_of self.old) (state_of self.old) proc.number Phase))) }
+    {
+        let phase = self.procs[index_of(proc)].phase + 1;
+        self.tell(alloc, proc, None, phase)?;
+        Ok(quiet(Dropped::new(alloc)))
+    }
+
+    /// The process is at the end of all phases.
+    fn finishes(&mut self, alloc: Global, proc: ProcId) -> Done
+        requires before { IsBefore P.spent P.wants self.old }
+        ensures { Does P.spent P.wants P.becomes self.old self.new result (Some (begins (given_of self.old) (state_of self.old) proc.number AllDone)) }
+    {
+        self.procs[index_of(proc)].phase = self.phases + 1;
+        quiet(Dropped::new(alloc))
+    }
+
+    /// A process goes on after a wait: its operation begins anew.
+    pub(crate) fn go(&mut self, alloc: Global, proc: ProcId) -> Result<Done, NoMemory>
+        requires own { proc.node ≡ self.old.desk.node }
+        requires before { IsBefore P.spent P.wants self.old }
+        requires program { IsSome (program_in self.old.programs.items proc.number) }
+        requires enabled { may_go self.old.desk (proc_of (state_of self.old) proc.number).doing ≡ true }
+        ensures { IfOk result (λ done. Does P.spent P.wants P.becomes self.old self.new done
+            (goes_on (state_of self.old) proc.number (proc_of (state_of self.old) proc.number).doing)) }
+    {
+        match self.procs[index_of(proc)].doing() {
+            Some(open) => self.begins(alloc, proc, open.begun),
+            None => unreachable!(),
+        }
+    }
+
+    /// The operation that began at this place begins, or begins anew after a wait.
+    fn begins(&mut self, alloc: Global, proc: ProcId, begun: Place) -> Result<Done, NoMemory>
+        requires own { proc.node ≡ self.old.desk.node }
+        requires at { IsAtEvent P.spent P.wants self.old }
+        requires program { IsSome (program_in self.old.programs.items proc.number) }
+        requires wanted { IsWanted (want_at self.old.procs proc.number) }
+        requires desk { IsDesk self.old.desk }
+        requires idle { IsIdle self.old.desk proc.number }
+        ensures { IfOk result (λ done. (op : Op) → want_at self.old.procs proc.number ≡ Do op →
+            Moves P.spent P.wants P.becomes self.old self.new done proc.number begun (begun_as (given_of self.old).opening self.old.desk proc.number op)) }
+    {
+        match &self.procs[index_of(proc)].want {
+            Want::Do(Op::New { home, kind, room }) => {
+                let (home, kind, room) = (*home, *kind, *room);
+                self.begins_new(alloc, proc, begun, home, kind, room)
+            }
+            Want::Do(Op::List { home, after }) => {
+                let (home, after) = (*home, *after);
+                self.begins_list(alloc, proc, begun, home, after)
+            }
+            Want::Do(Op::Lock { uid, mode }) => {
+                let (uid, mode) = (*uid, *mode);
+                self.begins_lock(alloc, proc, begun, uid, mode)
+            }
+            Want::Do(Op::Unlock { uid }) => {
+                let uid = *uid;
+                self.begins_unlock(alloc, proc, begun, uid)
+            }
+            Want::Do(Op::Delete { uid }) => {
+                let uid = *uid;
+                self.begins_delete(alloc, proc, begun, uid)
+            }
+            Want::Do(_) => self.begins_access(alloc, proc, begun),
+            Want::Phase | Want::Done => unreachable!(),
+        }
+    }
+
+    /// Whether this is one of the nodes.
+    fn is_node(&self, home: NodeId) -> bool
+        ensures { result ≡ is_node (given_of self.now).opening home }
+    {
+        1 <= home.number() && home.number() <= self.desk.nodes()
+    }
+
+    /// Whether this is one of the nodes, and the room is not too great.
+    fn may_make(&self, home: NodeId, room: u32) -> bool
+        ensures { result ≡ (is_node (given_of self.now).opening home && nat_le room (given_of self.now).opening.greatest) }
+    {
+        self.is_node(home) && room <= self.greatest
+    }
+
+    fn begins_new(
+        &mut self,
+        alloc: Global,
+        proc: ProcId,
+        begun: Place,
+        home: NodeId,
+        kind: ObjKind,
+        room: u32,
+    ) -> Result<Done, NoMemory>
+        requires own { proc.node ≡ self.old.desk.node }
+        requires at { IsAtEvent P.spent P.wants self.old }
+        requires program { IsSome (program_in self.old.programs.items proc.number) }
+        requires wanted { want_at self.old.procs proc.number ≡ Do (New home kind room) }
+        requires room { IsRoom room }
+        ensures { IfOk result (λ done. (op : Op) → want_at self.old.procs proc.number ≡ Do op →
+            Moves P.spent P.wants P.becomes self.old self.new done proc.number begun (begun_as (given_of self.old).opening self.old.desk proc.number op)) }
+    {
+        if self.may_make(home, room) {
+            let body = Body::Make { kind, room };
+            return Ok(self.asks(proc, begun, home, body, Dropped::new(alloc)));
+        }
+        self.ends(alloc, proc, Reply::NoSpace, Dropped::new(alloc))
+    }
+
+    fn begins_list(
+        &mut self,
+        alloc: Global,
+        proc: ProcId,
+        begun: Place,
+        home: NodeId,
+        after: Option<(Uid, ProcId)>,
+    ) -> Result<Done, NoMemory>
+        requires own { proc.node ≡ self.old.desk.node }
+        requires at { IsAtEvent P.spent P.wants self.old }
+        requires program { IsSome (program_in self.old.programs.items proc.number) }
+        requires wanted { want_at self.old.procs proc.number ≡ Do (ListOp home after) }
+        ensures { IfOk result (λ done. (op : Op) → want_at self.old.procs proc.number ≡ Do op →
+            Moves P.spent P.wants P.becomes self.old self.new done proc.number begun (begun_as (given_of self.old).opening self.old.desk proc.number op)) }
+    {
+        if self.is_node(home) {
+            let body = Body::List { after };
+            return Ok(self.asks(proc, begun, home, body, Dropped::new(alloc)));
+        }
+        let reply = Reply::Locks {
+            rows: LockRows::new(alloc),
+            more: false,
+        };
+        self.ends(alloc, proc, reply, Dropped::new(alloc))
+    }
+
+    fn begins_lock(
+        &mut self,
+        alloc: Global,
+        proc: ProcId,
+        begun: Place,
+        uid: Uid,
+        mode: Mode,
+    ) -> Result<Done, NoMemory>
+        requires own { proc.node ≡ self.old.desk.node }
+        requires at { IsAtEvent P.spent P.wants self.old }
+        requires program { IsSome (program_in self.old.programs.items proc.number) }
+        requires wanted { want_at self.old.procs proc.number ≡ Do (Lock uid mode) }
+        requires range { IsOp (Lock uid mode) }
+        requires idle { IsIdle self.old.desk proc.number }
+        ensures { IfOk result (λ done. (op : Op) → want_at self.old.procs proc.number ≡ Do op →
+            Moves P.spent P.wants P.becomes self.old self.new done proc.number begun (begun_as (given_of self.old).opening self.old.desk proc.number op)) }
+    {
+        let step = begin_lock(alloc, &mut self.desk, proc, uid, mode)?;
+        self.stepped(alloc, proc, begun, step)
+    }
+
+    fn begins_unlock(
+        &mut self,
+        alloc: Global,
+        proc: ProcId,
+        begun: Place,
+        uid: Uid,
+    ) -> Result<Done, NoMemory>
+        requires own { proc.node ≡ self.old.desk.node }
+        requires at { IsAtEvent P.spent P.wants self.old }
+        requires program { IsSome (program_in self.old.programs.items proc.number) }
+        requires wanted { want_at self.old.procs proc.number ≡ Do (Unlock uid) }
+        requires range { IsOp (Unlock uid) }
+        requires idle { IsIdle self.old.desk proc.number }
+        ensures { IfOk result (λ done. (op : Op) → want_at self.old.procs proc.number ≡ Do op →
+            Moves P.spent P.wants P.becomes self.old self.new done proc.number begun (begun_as (given_of self.old).opening self.old.desk proc.number op)) }
+    {
+        let step = begin_unlock(alloc, &mut self.desk, proc, uid)?;
+        self.stepped(alloc, proc, begun, step)
+    }
+
+    fn begins_delete(
+        &mut self,
+        alloc: Global,
+        proc: ProcId,
+        begun: Place,
+        uid: Uid,
+    ) -> Result<Done, NoMemory>
+        requires own { proc.node ≡ self.old.desk.node }
+        requires at { IsAtEvent P.spent P.wants self.old }
+        requires program { IsSome (program_in self.old.programs.items proc.number) }
+        requires wanted { want_at self.old.procs proc.number ≡ Do (Delete uid) }
+        requires range { IsOp (Delete uid) }
+        requires idle { IsIdle self.old.desk proc.number }
+        ensures { IfOk result (λ done. (op : Op) → want_at self.old.procs proc.number ≡ Do op →
+            Moves P.spent P.wants P.becomes self.old self.new done proc.number begun (begun_as (given_of self.old).opening self.old.desk proc.number op)) }
+    {
+        let step = begin_delete(alloc, &mut self.desk, proc, uid)?;
+        self.stepped(alloc, proc, begun, step)
+    }
+
+    /// A load, a store, or what is asked of a length or a mapping.
+    fn begins_access(&mut self, alloc: Global, proc: ProcId, begun: Place) -> Result<Done, NoMemory>
+        requires own { proc.node ≡ self.old.desk.node }
+        requires at { IsAtEvent P.spent P.wants self.old }
+        requires program { IsSome (program_in self.old.programs.items proc.number) }
+        requires wanted { IsWanted (want_at self.old.procs proc.number) }
+        requires access { (op : Op) → want_at self.old.procs proc.number ≡ Do op → IsSome (desk_op op) }
+        requires desk { IsDesk self.old.desk }
+        requires idle { IsIdle self.old.desk proc.number }
+        ensures { IfOk result (λ done. (op : Op) → want_at self.old.procs proc.number ≡ Do op →
+            Moves P.spent P.wants P.becomes self.old self.new done proc.number begun (begun_as (given_of self.old).opening self.old.desk proc.number op)) }
+    {
+        let (desk, procs) = (&mut self.desk, &self.procs);
+        let access = access_wanted(alloc, desk, proc, procs)?;
+        self.accessed(alloc, proc, begun, access)
+    }
+}

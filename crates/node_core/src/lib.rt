@@ -1,0 +1,18 @@
+//! A node: one event of it after the other, each by its definition.
+#![tactic(auto)]
+
+mod asked;
+mod begin;
+mod machine;
+mod marks;
+pub mod node;
+mod notice;
+mod phases;
+mod processes;
+mod programs;
+pub mod setup;
+mod take;
+mod turns;
+
+pub use node::Node;
+pub use setup::{Emitted, Incoming, NodeSetup};

@@ -1,0 +1,205 @@
+//! A node of a domain, and its journal.
+ghost use Rattle.std.specs.Prelude.{◌≡◌, ◌≤◌, ◌<◌, ◌^◌, ◌++◌, true, false, [], ◌∷◌, ℕ, Option, IfSome, IfOk, OnOk, OnErr, option_copied};
+ghost use Rattle.uid_names.specs.Beginnings.{CanHomeBegin, at_home};
+ghost use Rattle.uid_names.specs.declared.limits.TheConstants.{MAX_PHASES};
+ghost use Rattle.page_frames.specs.declared.frame.TheConstants.{FEWEST_FRAMES, MOST_FRAMES};
+ghost use Rattle.page_store.specs.Volumes.{no_pages};
+ghost use Rattle.dom_history.specs.declared.op.Want.TheVariants.{Phase};
+ghost use Rattle.dom_history.specs.Events.{IsWhat, AreEffects};
+ghost use Rattle.node_runs.specs.Setups.{Given, ArePrograms};
+ghost use Rattle.node_runs.specs.NodeStates.{NodeState, first_node, is_ended};
+ghost use Rattle.node_runs.specs.Incomings.{tick_of, enabled};
+ghost use Rattle.node_runs.specs.Outcomes.{Stepped};
+ghost use Rattle.node_core.specs.Programs.{program_in, numbers_in, AreRising};
+ghost use Rattle.node_core.specs.Receivings.{seen, indexed, mark_in};
+
+use crate::machine::Machine;
+use crate::programs::program_of;
+use crate::setup::{Emitted, Incoming, NodeSetup};
+use crate::turns::Done;
+use dom_history::{Event, EventList, NodeLog, Program, Sent, What};
+use page_store::Pages;
+use ring_messages::Frame;
+use std::alloc::Global;
+use std::marker::Model;
+use uid_names::{NoMemory, Opening, Place};
+
+/// A frame that is sent, with its index on its link.
+fn indexed(frame: Option<Frame>, sent: Option<Sent>) -> Option<(u64, Frame)>
+    ensures { result ≡ indexed frame sent }
+{
+    match (frame, sent) {
+        (Some(frame), Some(sent)) => Some((sent.index, frame)),
+        _ => None,
+    }
+}
+
+/// The phase whose mark an event sends.
+fn mark_in(what: &What) -> Option<u32>
+    ensures { result ≡ mark_in what.now }
+{
+    match what {
+        What::Ready(phase) => Some(*phase),
+        _ => None,
+    }
+}
+
+/// Writes the line of the journal, and answers what the event emits. Without memory the journal is as it was.
+fn write(log: &mut NodeLog, place: Place, what: What, done: Done) -> Result<Emitted, NoMemory>
+    requires what { IsWhat what }
+    requires effects { AreEffects done.effects }
+    ensures emits { IfOk result (λ emitted. emitted ≡ record { frame = indexed done.frame done.effects.sent; mark = mark_in what }) }
+    ensures events { OnOk result (log.new.events ≡ log.old.events ++ record { place = place; what = what; effects = done.effects } ∷ []) }
+    ensures node { log.new.node ≡ log.old.node }
+    ensures err { OnErr result (log.new ≡ log.old) }
+{
+    let Done { frame, effects } = done;
+    let frame = indexed(frame, effects.sent);
+    let mark = mark_in(&what);
+    let event = Event::new(place, what, effects);
+    log.events.push(event)?;
+    Ok(Emitted { frame, mark })
+}
+
+/// A node: its home side, its desk, its processes with their programs, and its journal.
+///
+/// A node that found no memory at an event is spent: no event of it is enabled.
+#[derive(Drop)]
+pub struct Node<P: Program, G: Pages> {
+    machine: Machine<P, G>,
+    log: NodeLog,
+    spent: bool,
+}
+
+impl<P: Program, G: Pages> Model for Node<P, G> {
+    ghost use Rattle.std.specs.Prelude.{◌≡◌, false};
+    ghost use Rattle.node_core.specs.Nodes.{Noted, noted_code};
+    ghost use Rattle.node_core.specs.Machines.{inner_of, IsKept};
+
+    ghost Value = { Noted P };
+
+    ghost coded = { noted_code P.code };
+
+    ghost view = { λ x. record { inner = inner_of x.machine; log = x.log; spent = x.spent } };
+
+    ghost invariant = { λ x. x.spent ≡ false → IsKept P.spent P.wants x.machine };
+}
+
+impl<P: Program, G: Pages> Node<P, G> {
+    ghost use Rattle.node_core.specs.Nodes.{given_of, state_of, program_of, is_enabled, Stands, Happened, IsGivenBy};
+
+    /// A node at the start. Each program is asked what it wants first.
+    ///
+    /// The opening has the nodes of `setup`, 1 to 8, of which its node is one; the pages are empty; the programs are of
+    /// processes 1 to 4, each once, and none of them was asked before.
+    pub fn new(
+        alloc: Global,
+        setup: NodeSetup,
+        opening: &Opening,
+        pages: G,
+        programs: Vec<(u8, P)>,
+    ) -> Result<Node<P, G>, NoMemory>
+        requires nodes { opening.now.nodes ≡ setup.nodes }
+        requires node { setup.node ≤ setup.nodes }
+        requires frames_low { FEWEST_FRAMES ≤ setup.frames }
+        requires frames_high { setup.frames ≤ MOST_FRAMES }
+        requires phases_low { 1 ≤ setup.phases }
+        requires phases_high { setup.phases ≤ MAX_PHASES }
+        requires empty { G.volume pages ≡ no_pages }
+        requires begins { CanHomeBegin (at_home setup.node opening.now.objects) }
+        requires numbers { ArePrograms (numbers_in programs.items) }
+        requires whole { (p : ℕ) → IfSome (program_in programs.items p) (λ y. P.spent y ≡ false) }
+        requires fresh { (p : ℕ) → IfSome (program_in programs.items p) (λ y. P.wants y ≡ Phase) }
+        ensures stands { IfOk result (λ node. (g : Given) → IsGivenBy P.wants P.becomes setup opening.now programs.items g →
+            Stands P.wants P.becomes (program_in programs.items) g node (first_node g)) }
+        ensures log { IfOk result (λ node. node.log ≡ record { node = setup.node; events = [] }) }
+    {
+        let node = setup.node;
+        let machine = Machine::new(alloc, setup, opening, pages, programs)?;
+        let machine = machine.asked(alloc)?;
+        let events = EventList::new(alloc);
+        let log = NodeLog { node, events };
+        Ok(Node {
+            machine,
+            log,
+            spent: false,
+        })
+    }
+
+    /// Whether an event is enabled with what it receives, as far as this node and that tell. Takes no memory.
+    pub fn enabled(&self, what: &What, incoming: &Incoming) -> bool
+        ensures value { result ≡ is_enabled self.now what.now (seen incoming.now) }
+        ensures stands { (made : ℕ → Option P) (g : Given) (n : NodeState) → Stands P.wants P.becomes made g self.now n →
+            result ≡ enabled g n what.now (seen incoming.now) }
+    {
+        !self.spent && self.machine.enabled(what, incoming)
+    }
+
+    /// The tick of its last event, 0 before the first. Takes no memory.
+    pub fn tick(&self) -> u64
+        ensures { result ≡ (state_of self.now).tick }
+    {
+        self.machine.tick
+    }
+
+    /// Its phase, from 1. Takes no memory.
+    pub fn phase(&self) -> u32
+        ensures { result ≡ (state_of self.now).phase }
+    {
+        self.machine.phase
+    }
+
+    /// Whether its last phase is over. Takes no memory.
+    pub fn ended(&self) -> bool
+        ensures { result ≡ is_ended (given_of self.now) (state_of self.now) }
+    {
+        self.machine.has_ended()
+    }
+
+    /// Its journal. Takes no memory.
+    pub fn log(&self) -> &NodeLog
+        ensures { result.now ≡ self.now.log }
+    {
+        &self.log
+    }
+
+    /// Its journal, and its programs as they are now, by rising number. Takes no memory.
+    pub fn into_parts(self) -> (NodeLog, Vec<(u8, P)>)
+        ensures log { result.0 ≡ self.log }
+        ensures programs { (p : ℕ) → program_in result.1.items p ≡ program_of self p }
+        ensures rising { self.spent ≡ false → AreRising (numbers_in result.1.items) }
+    {
+        (self.log, self.machine.programs)
+    }
+
+    /// The program of a process, as it is now. Takes no memory.
+    pub fn program(&self, proc: u8) -> Option<&P>
+        ensures { option_copied result ≡ program_of self.now proc }
+    {
+        program_of(self.machine.programs.as_slice(), proc)
+    }
+
+    /// One event, which is enabled. Without memory the journal is as it was, and the node is spent.
+    pub fn step(
+        &mut self,
+        alloc: Global,
+        what: What,
+        incoming: &Incoming,
+    ) -> Result<Emitted, NoMemory>
+        requires enabled { is_enabled self.old what (seen incoming.now) ≡ true }
+        requires tick { (state_of self.old).tick < 2 ^ 40 }
+        requires incoming { tick_of (seen incoming.now) < 2 ^ 40 }
+        ensures happens { IfOk result (λ emitted. (made : ℕ → Option P) (g : Given) (n : NodeState) → Stands P.wants P.becomes made g self.old n →
+            (s : Stepped) × Happened P.wants P.becomes made g what (seen incoming.now) self.old self.new emitted n s) }
+        ensures log { OnErr result (self.new.log ≡ self.old.log) }
+        ensures spent { OnErr result (self.new.spent ≡ true) }
+    {
+        incoming.known();
+        self.spent = true;
+        let done = self.machine.happen(alloc, &what, incoming)?;
+        let place = self.machine.place();
+        let emitted = write(&mut self.log, place, what, done)?;
+        self.spent = false;
+        Ok(emitted)
+    }
+}

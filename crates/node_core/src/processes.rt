@@ -1,0 +1,180 @@
+//! What a node keeps of a process beside its program.
+ghost use Rattle.std.specs.Prelude.{◌≡◌, ◌+◌, ◌-◌, ◌<◌, ◌^◌, Some, None, IsSome, IfSome, IfNone, IfOk};
+ghost use Rattle.std.specs.Option.{option_map};
+ghost use Rattle.uid_names.specs.Names.{IsProcNumber};
+ghost use Rattle.uid_names.specs.declared.limits.TheConstants.{NODE_PROCESSES};
+ghost use Rattle.dom_history.specs.declared.op.Op.{Op};
+ghost use Rattle.dom_history.specs.declared.op.Want.TheVariants.{Do, Phase};
+ghost use Rattle.ring_messages.specs.Bodies.{ask_of};
+ghost use Rattle.node_runs.specs.NodeStates.{Asked, Await as Awaiting, BegunOp, first_proc};
+ghost use Rattle.node_runs.specs.Outcomes.{next_call};
+ghost use Rattle.call_once.specs.Notices.{noticed};
+ghost use Rattle.call_once.specs.declared.asking.Noticed.{Noticed};
+ghost use Rattle.call_once.specs.declared.asking.TheConstants.{MOST_NOTICES};
+ghost use Rattle.node_runs.specs.Doings.{noticed_call};
+ghost use Rattle.node_core.specs.Processes.{open_in, call_seen, proc_seen, IsCalling, IsAgain};
+
+use crate::asked::KeptAsk;
+use call_once::{Asking, Noticed};
+use dom_history::Want;
+use ring_messages::Body;
+use std::alloc::Global;
+use uid_names::{NoMemory, NodeId, PAGE_BYTES, Place, ProcId, Uid};
+
+/// A call that waits for its answer: its number and notices, the home that is asked, and what it is asked.
+#[derive(Clone, Copy, Debug, PartialEq, Eq)]
+pub(crate) struct Call {
+    pub(crate) asking: Asking,
+    pub(crate) home: NodeId,
+    pub(crate) ask: KeptAsk,
+}
+
+/// What an open operation awaits: the answer to a call, or that a page is no longer on its way.
+#[derive(Clone, Copy, Debug, PartialEq, Eq)]
+pub(crate) enum Await {
+    Answer(Call),
+    Page(Uid, u32),
+}
+
+/// An open operation: where it began, and what it awaits. It is what its program wants.
+#[derive(Clone, Copy, Debug, PartialEq, Eq)]
+pub(crate) struct Open {
+    pub(crate) begun: Place,
+    pub(crate) awaits: Await,
+}
+
+/// A process: what its program wants, which is known before the process asks; its open operation; the number of its last
+/// call; the phase of what its program wants next; and the bytes of the page that its open call sends home.
+#[derive(Drop)]
+pub(crate) struct Proc {
+    pub(crate) want: Want,
+    pub(crate) opened: Option<Open>,
+    pub(crate) last: u64,
+    pub(crate) phase: u32,
+    pub(crate) page: Box<[u8; PAGE_BYTES]>,
+}
+
+/// A request that is sent again: to which home, the number of its call, and what it asks.
+#[derive(Drop)]
+pub(crate) struct Again {
+    pub(crate) home: NodeId,
+    pub(crate) number: u64,
+    pub(crate) body: Body,
+}
+
+/// Where a process's own stands.
+pub(crate) fn index_of(proc: ProcId) -> usize
+    ensures value { result ≡ proc.number - 1 }
+    ensures bound { result < NODE_PROCESSES }
+    ensures process { IsProcNumber proc.number }
+{
+    usize::from(proc.number()) - 1
+}
+
+impl Proc {
+    /// A process at the start, whose program was not asked yet.
+    pub(crate) fn new(alloc: Global) -> Result<Proc, NoMemory>
+        ensures want { IfOk result (λ q. q.want ≡ Phase) }
+        ensures state { IfOk result (λ q. proc_seen q ≡ first_proc) }
+    {
+        let page = Box::new(alloc, [0; PAGE_BYTES])?;
+        Ok(Proc {
+            want: Want::Phase,
+            opened: None,
+            last: 0,
+            phase: 1,
+            page,
+        })
+    }
+
+    /// The open operation. Takes no memory.
+    pub(crate) fn doing(&self) -> Option<Open>
+        ensures { result ≡ open_in self.now.want self.now.opened }
+    {
+        match self.want {
+            Want::Do(_) => self.opened,
+            Want::Phase | Want::Done => None,
+        }
+    }
+
+    /// The next call of the operation that began at this place: its number. Takes no memory.
+    pub(crate) fn call(&mut self, begun: Place, home: NodeId, body: &Body) -> u64
+        requires asks { IsSome (ask_of body.now) }
+        requires few { self.old.last < 2 ^ 40 }
+        ensures number { result ≡ self.old.last + 1 }
+        ensures want { self.new.want ≡ self.old.want }
+        ensures state { IfSome (ask_of body.now) (λ ask. (op : Op) → self.old.want ≡ Do op → proc_seen self.new ≡ record (proc_seen self.old) {
+          doing = Some (record {
+            began = record { op = op; begun = begun };
+            awaits = Awaiting.Answer (next_call (proc_seen self.old) home ask);
+          });
+          last = self.old.last + 1;
+        }) }
+    {
+        let number = self.last + 1;
+        let ask = KeptAsk::keep(body, &mut *self.page);
+        let asking = Asking::new(number);
+        let awaits = Await::Answer(Call { asking, home, ask });
+        self.opened = Some(Open { begun, awaits });
+        self.last = number;
+        number
+    }
+
+    /// One notice more of its open call: its request, which is to be sent again, or None where it is given up. Takes no
+    /// memory.
+    pub(crate) fn notice(&mut self) -> Option<Again>
+        requires called { IsCalling (proc_seen self.old).doing }
+        requires few { (o : BegunOp) (c : Asked) → (proc_seen self.old).doing ≡ Some (record { began = o; awaits = Awaiting.Answer c }) →
+            c.waiting.notices < MOST_NOTICES }
+        ensures again { IfSome result (λ again. (o : BegunOp) (c : Asked) → (proc_seen self.old).doing ≡ Some (record { began = o; awaits = Awaiting.Answer c }) →
+            IsAgain c again × (noticed (c.waiting.notices + 1) ≡ Noticed.Resend)
+            × (proc_seen self.new ≡ record (proc_seen self.old) { doing = Some (record { began = o; awaits = Awaiting.Answer (noticed_call c) }) })) }
+        ensures none { IfNone result ((o : BegunOp) (c : Asked) → (proc_seen self.old).doing ≡ Some (record { began = o; awaits = Awaiting.Answer c }) →
+            (noticed (c.waiting.notices + 1) ≡ Noticed.GiveUp) × (self.new ≡ self.old)) }
+        ensures want { self.new.want ≡ self.old.want }
+    {
+        let Some(Open { begun, awaits }) = self.doing() else {
+            unreachable!()
+        };
+        match awaits {
+            Await::Answer(call) => self.notice_call(begun, call),
+            Await::Page(_, _) => unreachable!(),
+        }
+    }
+
+    /// The same, with its call.
+    fn notice_call(&mut self, begun: Place, mut call: Call) -> Option<Again>
+        requires { call.asking.notices < MOST_NOTICES }
+        ensures again { IfSome result (λ again. IsAgain (call_seen call self.old.page.value) again × (noticed (call.asking.notices + 1) ≡ Noticed.Resend)) }
+        ensures state { IfSome result (λ again. (op : Op) → self.old.want ≡ Do op → proc_seen self.new ≡ record (proc_seen self.old) {
+          doing = Some (record {
+            began = record { op = op; begun = begun };
+            awaits = Awaiting.Answer (noticed_call (call_seen call self.old.page.value));
+          });
+        }) }
+        ensures none { IfNone result ((noticed (call.asking.notices + 1) ≡ Noticed.GiveUp) × (self.new ≡ self.old)) }
+        ensures want { self.new.want ≡ self.old.want }
+    {
+        match call.asking.notice() {
+            Noticed::Resend => {
+                let (home, number) = (call.home, call.asking.number());
+                let body = call.ask.body(&*self.page);
+                let awaits = Await::Answer(call);
+                self.opened = Some(Open { begun, awaits });
+                Some(Again { home, number, body })
+            }
+            Noticed::GiveUp => None,
+        }
+    }
+
+    /// The operation that began at this place waits for a page. Takes no memory.
+    pub(crate) fn wait(&mut self, begun: Place, uid: Uid, page: u32)
+        ensures want { self.new.want ≡ self.old.want }
+        ensures state { (op : Op) → self.old.want ≡ Do op → proc_seen self.new ≡ record (proc_seen self.old) {
+          doing = Some (record { began = record { op = op; begun = begun }; awaits = Awaiting.Page uid page });
+        } }
+    {
+        let awaits = Await::Page(uid, page);
+        self.opened = Some(Open { begun, awaits });
+    }
+}
