@@ -1,13 +1,11 @@
 -- Each change keeps what each desk keeps.
-use Rattle.std.proofs.Common.{◌≡◌, ℕ, ◌+◌, ◌<◌, ◌≤◌, Bool, true, false, List, [], length, Option, Some, None, inl, refl, sym, subst, ◌∙◌, arith}
-use Rattle.std.specs.Prelude.{not, ◌&&◌}
-use Rattle.std.proofs.lemmas.Bool.Decides.{nat_tests}
+use Rattle.std.proofs.Common.{◌≡◌, ℕ, ◌+◌, ◌<◌, ◌≤◌, Bool, true, false, List, [], length, Some, None, inl, refl, sym, subst, ◌∙◌, arith}
 use Rattle.uid_names.specs.Names.{ObjectName}
 use Rattle.uid_names.specs.Segments.{segments}
 use Rattle.uid_names.specs.declared.limits.TheConstants.{MAX_LENGTH, MAX_ROOM, PAGE_BYTES}
 use Rattle.uid_names.proofs.ListLemmas.{by_cases}
 use Rattle.dom_history.specs.Replies.{may_write}
-use Rattle.page_cache.specs.Caches.{Resident, page_at}
+use Rattle.page_cache.specs.Caches.{page_at}
 use Rattle.version_stamps.specs.Stamps.{stamp_of, raised}
 use Rattle.address_map.proofs.Keeps.{IsLayout-without_mapping}
 use Rattle.address_map.proofs.Changes.{IsLayout-mappings_after}
@@ -20,9 +18,8 @@ use Rattle.fault_handler.specs.Lengths.{known_of, room_of, is_changed}
 use Rattle.fault_handler.specs.Tasks.{page_of, start_of, size_of}
 use Rattle.fault_handler.specs.Desks.{DeskState, IsNode, entry_at, state_of, maps_of, open_call_of, others_write}
 use Rattle.fault_handler.specs.Changes.{with_note}
-use Rattle.fault_handler.specs.Victims.{is_idle_page}
 use Rattle.fault_handler.specs.LockCalls.{LockCall, open_call}
-use Rattle.fault_handler.specs.Invariant.{IsProc, is_marked, is_dirty, MayWork, IsAllowed, IsCallAtNode, IsDesk}
+use Rattle.fault_handler.specs.Invariant.{IsProc, is_dirty, MayWork, IsAllowed, IsCallAtNode, IsDesk}
 use Rattle.fault_handler.specs.Conditions.{IsIdle, IsNotAccessing}
 use Rattle.fault_handler.proofs.Fours.{any-at}
 use Rattle.fault_handler.proofs.PageKeeps.{IsDesk-with_used, IsDesk-with_stored, IsDesk-with_sent_again, IsDesk-with_dropped, IsDesk-with_no_page}
@@ -31,6 +28,7 @@ use Rattle.fault_handler.proofs.TransitKeeps.{keeps_writing-keeps, IsDesk-with_f
 use Rattle.fault_handler.proofs.Beginning.{segments-least}
 use Rattle.fault_handler.proofs.LockKeeps.{IsDesk-with_state, IsDesk-with_note, IsDesk-with_call, IsDesk-with_maps}
 use Rattle.fault_handler.proofs.Nothing.{none-marked, unkept-unmarked}
+use Rattle.fault_handler.proofs.Accessing.{idle-still}
 use Rattle.fault_handler.specs.Outcomes.{Turn}
 use Rattle.lock_validate.proofs.Good.{open-other}
 use Rattle.lock_validate.proofs.Releasing.{dirty-another, changed-another}
@@ -63,11 +61,6 @@ end-within task n page within = omega (arith, page, within)
 store-writes : (d : DeskState) (p : ℕ) (task : Task) (bytes : List ℕ) → task.work ≡ Store bytes → IsAllowed d.entries p task → keeps_writing (entry_at d.entries p task.uid) ≡ true
 store-writes d p task bytes is allowed = subst (λ (w : Work). MayWork w (entry_at d.entries p task.uid)) is allowed.mode
 
--- an idle page is not on its way home
-idle-unmarked : (o : Option Resident) → is_idle_page o ≡ true → is_marked o ≡ false
-idle-unmarked None idle = refl
-idle-unmarked (Some r) idle = let h : (not r.flags.dirty && not r.flags.transit) ≡ true = idle in grind (arith, nat_tests, h)
-
 module _ (c : Cause) (turn : Turn) (p : ℕ) (proc : IsProc p) where
   -- a release or a removal is noted
   noted-desk : (d : DeskState) (u : ObjectName) → IsDesk d → IsIdle d p → (may_write (state_of d p u) ≡ true → IsSettled d p u) → IsDesk (with_note d p u)
@@ -93,7 +86,7 @@ module _ (c : Cause) (turn : Turn) (p : ℕ) (proc : IsProc p) where
       IsDesk-with_end d task.uid (task.offset + length bytes) desk (end-within task (length bytes) does.allowed.range.page (store-within task bytes is does.allowed.range.within))
       (any-at (λ q. keeps_writing (entry_at d.entries q task.uid)) p proc (store-writes d p task bytes is does.allowed))
   change-desk d e dropped desk (Change.fetches task does missing frame asks) = IsDesk-with_fetch d p desk proc task does.idle missing.absent missing.unasked does.allowed
-  change-desk d e dropped desk (Change.drops task u k does missing full may asks) = IsDesk-with_dropped d u k desk (idle-unmarked (page_at d.cache.pages u k) may)
+  change-desk d e dropped desk (Change.drops task u k does missing full may asks) = IsDesk-with_dropped d u k desk (idle-still (page_at d.cache.pages u k) may)
   change-desk d e dropped desk (Change.evicts task r does missing full clean there dirty still asks) =
       IsDesk-with_eviction d p desk proc task r.uid r.page does.idle (rw there dirty) (rw there still) does.allowed
   change-desk d e dropped desk (Change.arrives task stamp bytes reply given fetches seen whole ends) = IsDesk-with_arrival d p desk proc task.uid (page_of task) bytes fetches.moves whole

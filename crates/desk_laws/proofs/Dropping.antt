@@ -18,11 +18,11 @@ use Rattle.fault_handler.specs.Desks.{DeskState, moving_of}
 use Rattle.fault_handler.specs.Drops.{is_dropped, DropsOnly}
 use Rattle.fault_handler.specs.PageReplies.{PageAnswer}
 use Rattle.fault_handler.proofs.PageLists.{is_same, same-uid, same-page, page_at-used, page_at-without_same, page_at-without_other, page_at-without_object_same, page_at-without_object_other, page_at-changed_same, page_at-changed_other}
+use Rattle.fault_handler.proofs.Accessing.{absent-without}
 use Rattle.fault_handler.specs.Outcomes.{Turn}
 use Rattle.desk_laws.specs.Causes.{Cause}
 use Rattle.desk_laws.specs.Loading.{LooksUp}
 use Rattle.desk_laws.specs.Moves.{Change, Moves}
-use Rattle.desk_laws.proofs.Facts.{absent-without}
 
 -- at this cause a page comes
 abbrev IsCame : Cause → Type 0

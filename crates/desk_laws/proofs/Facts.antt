@@ -4,12 +4,10 @@ use Rattle.std.specs.Prelude.{◌+◌, ◌*◌}
 use Rattle.std.proofs.lemmas.Bool.Decides.{nat_tests}
 use Rattle.uid_names.specs.Names.{ObjectName, same_uid}
 use Rattle.uid_names.specs.declared.limits.TheConstants.{PAGE_BYTES}
-use Rattle.uid_names.proofs.ListLemmas.{by_cases}
 use Rattle.uid_names.proofs.Tables.{row_of-named}
 use Rattle.dom_history.specs.declared.op.Spot.{Spot}
 use Rattle.dom_history.specs.declared.op.Spot.TheVariants.{Of, Addr}
 use Rattle.page_cache.specs.Caches.{Resident, is_page, page_at}
-use Rattle.page_cache.specs.Changes.{without_page}
 use Rattle.dom_history.specs.Locks.{is_free}
 use Rattle.address_map.specs.Mappings.{mapping_at, target_in}
 use Rattle.fault_handler.specs.declared.tasks.Task.{Task}
@@ -23,8 +21,8 @@ use Rattle.fault_handler.specs.Outcomes.{Moved}
 use Rattle.fault_handler.specs.Accesses.{DeskOp, Accessed, Always, target_of}
 use Rattle.fault_handler.specs.PageReplies.{PageAnswer}
 use Rattle.fault_handler.specs.LockCalls.{LockAnswer}
-use Rattle.fault_handler.proofs.KnownRows.{known_of-with_known}
-use Rattle.fault_handler.proofs.PageLists.{is_same, page_at-without_same, page_at-without_other, same-uid, same-page}
+use Rattle.fault_handler.proofs.KnownRows.{known_of-with_known, uid-grown}
+use Rattle.fault_handler.proofs.LockKeeps.{same_uid-own}
 use Rattle.lock_validate.specs.GrantDrops.{MayDropAt}
 use Rattle.lock_validate.proofs.States.{there-some}
 use Rattle.desk_laws.specs.Causes.{Cause}
@@ -63,15 +61,6 @@ IsTaskIn-same d e p (Cause.CallFailed call) task maps known is = is
 pub page_at-fresh : (u : ObjectName) (k : ℕ) (bytes : List ℕ) (pages : List Resident) → page_at (fresh_page u k bytes ∷ pages) u k ≡ Some (fresh_page u k bytes)
 page_at-fresh u k bytes pages = let here : is_page u k (fresh_page u k bytes) ≡ true = grind (arith, nat_tests) in rw here refl
 
--- a page that is not resident is not after another was dropped
-pub absent-without : (pages : List Resident) (u : ObjectName) (k : ℕ) (v : ObjectName) (j : ℕ) → page_at pages v j ≡ None → page_at (without_page pages u k) v j ≡ None
-absent-without pages u k v j absent =
-    by_cases
-    (is_same v j u k)
-    (page_at (without_page pages u k) v j ≡ None)
-    (λ same. rw (same-uid v j u k same, same-page v j u k same) (page_at-without_same pages u k))
-    (λ differ. page_at-without_other pages u k v j differ ∙ absent)
-
 -- pages that an answer drops may be dropped where some may be
 pub answer-may : (d : DeskState) (p : ℕ) (a : LockAnswer) (dropped : List (ObjectName × ℕ)) → MayDropAt d a → MayDropPages d p (Cause.AnswerCame a) dropped
 answer-may d p a [] may = tt
@@ -81,22 +70,15 @@ answer-may d p a (name ∷ names) may = may
 pub length-grown : (u : ObjectName) (end : ℕ) (rows : List Known) → IsSome (known_of u rows) → nat_lt (length_of (known_of u (known_after (grown end) (known_of u rows) rows))) end ≡ false
 length-grown u end rows known = by_row (known_of u rows) refl known
   where
-    uid-grown : (k : Known) (b : Bool) → (grown_if b end k).uid ≡ k.uid
-    uid-grown k true = refl
-    uid-grown k false = refl
-
     long-enough : (k : Known) (b : Bool) → nat_lt k.length end ≡ b → nat_lt (grown_if b end k).length end ≡ false
     long-enough k true e = grind (arith, nat_tests)
     long-enough k false e = e
 
-    own_uid : (v : ObjectName) → same_uid v v ≡ true
-    own_uid v = grind (arith, nat_tests)
-
     by_row : (o : Option Known) → known_of u rows ≡ o → IsSome o → nat_lt (length_of (known_of u (known_after (grown end) o rows))) end ≡ false
     by_row None found some = absurd (cc)
     by_row (Some k) found some =
-        let named : (grown end k).uid ≡ u = uid-grown k (nat_lt k.length end) ∙ row_of-named known_name u rows k found in
-        let own : same_uid u (grown end k).uid ≡ true = rw named (own_uid u) in
+        let named : (grown end k).uid ≡ u = uid-grown end k ∙ row_of-named known_name u rows k found in
+        let own : same_uid u (grown end k).uid ≡ true = rw named (same_uid-own u) in
         rw (known_of-with_known (grown end k) rows u, own) (long-enough k (nat_lt k.length end) refl)
 
 -- something is known of an object that a process keeps

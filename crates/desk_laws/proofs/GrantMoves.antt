@@ -24,8 +24,9 @@ use Rattle.fault_handler.proofs.Fours.{at-put_same, any-at, any-of}
 use Rattle.fault_handler.proofs.KnownRows.{known_of-with_known}
 use Rattle.fault_handler.proofs.LockKeeps.{entry_of-after_same}
 use Rattle.fault_handler.proofs.PageLists.{page_at-without_object_same}
+use Rattle.fault_handler.proofs.Replying.{not-true}
 use Rattle.lock_validate.specs.Answers.{after_drop, dropped_of, is_seen, is_fresh, known_learned, learned, granted, gone}
-use Rattle.lock_validate.proofs.Dropping.{right-true, not-true, none-keeps}
+use Rattle.lock_validate.proofs.Dropping.{right-true, none-keeps, left-true}
 use Rattle.lock_validate.proofs.States.{free-unheld, unheld-unkept}
 use Rattle.desk_laws.specs.Causes.{Cause}
 use Rattle.desk_laws.specs.Dropped.{MayDropPages}
@@ -34,10 +35,6 @@ use Rattle.desk_laws.specs.Moves.{Change, Moves}
 use Rattle.desk_laws.specs.Turns.{Says, IsMade}
 use Rattle.desk_laws.proofs.Facts.{answer-may}
 use Rattle.desk_laws.proofs.LockSaid.{known-with}
-
--- what a test says of its first part
-left-true : (a b : Bool) → (a && b) ≡ true → a ≡ true
-left-true a b h = grind (arith, nat_tests, h)
 
 -- a stamp was seen once it was raised
 seen-is : (d : DeskState) (u : ObjectName) (stamp : ℕ) → stamp_of u (with_raised d u stamp).seen ≡ Some (raised stamp (stamp_of u d.seen))

@@ -26,7 +26,6 @@ use Rattle.lock_validate.specs.Releases.{begin_release_of}
 use Rattle.lock_validate.specs.Answers.{answer_came_of}
 use Rattle.lock_validate.specs.Faults.{call_failed_of}
 use Rattle.lock_validate.proofs.Answering.{answer_came_of-good, call_failed_of-good}
-use Rattle.lock_validate.proofs.Good.{IsGood}
 use Rattle.lock_validate.proofs.Releasing.{begin_lock_of-good, begin_release_of-good}
 use Rattle.desk_laws.specs.Causes.{Cause, IsPageAnswer, op_of, comes_of, MayCome, IsOf, AfterEach}
 use Rattle.desk_laws.specs.Room.{FindsRoom}
@@ -39,9 +38,6 @@ pub record IsLeft (p : ℕ) (op : Op) (m : Moved) : Type 0 where
   pub ready : IsReady m.desk p
   pub fits : FitsTurn op m.turn
   pub next : IsNext m.desk p op m.turn
-
-good-left : (d : DeskState) (p : ℕ) (op : Op) (m : Moved) → IsGood d p op m → IsLeft p op m
-good-left d p op m good = record { asks = good.asks; ready = good.ready; fits = good.fits; next = good.next }
 
 after-left : (own all p : ℕ) (op : Op) (m : Moved) → IsAfter own all p op m → IsLeft p op m
 after-left own all p op m after = record { asks = after.asks; ready = after.ready; fits = after.fits; next = after.next }
@@ -76,13 +72,13 @@ module _ (d : DeskState) (p : ℕ) (is : IsDesk d) (proc : IsProc p) where
 
   pub comes_of-left : (c : Cause) (op : Op) → MayCome d p c → IsOf d p c op → Holds p (IsLeft p op) (comes_of d p c)
   comes_of-left (Cause.Accesses access) op may of = subst (λ (o : Op). Holds p (IsLeft p o) (access_of d p access)) (sym of) (access-left access may.0 may.1)
-  comes_of-left (Cause.Locks u m) op may of = subst (λ (o : Op). IsLeft p o (begin_lock_of d p u m)) (sym of) (good-left d p (ops.Lock u m) (begin_lock_of d p u m) (begin_lock_of-good d p u is proc may m))
+  comes_of-left (Cause.Locks u m) op may of = subst (λ (o : Op). IsLeft p o (begin_lock_of d p u m)) (sym of) (after-left d.node d.nodes p (ops.Lock u m) (begin_lock_of d p u m) (begin_lock_of-good d p u is proc may m))
   comes_of-left (Cause.Releases delete u) op may of =
-      subst (λ (o : Op). IsLeft p o (begin_release_of d p delete u)) (sym of) (good-left d p (release_op delete u) (begin_release_of d p delete u) (begin_release_of-good d p u is proc may delete))
+      subst (λ (o : Op). IsLeft p o (begin_release_of d p delete u)) (sym of) (after-left d.node d.nodes p (release_op delete u) (begin_release_of d p delete u) (begin_release_of-good d p u is proc may delete))
   comes_of-left (Cause.PageCame a) op may of = page-left a may op of
-  comes_of-left (Cause.AnswerCame a) op may of = good-left d p op (answer_came_of d p a) (answer_came_of-good d p is proc may.ready may.call may.opened op may.answer a d.node of may.says may.range)
+  comes_of-left (Cause.AnswerCame a) op may of = after-left d.node d.nodes p op (answer_came_of d p a) (answer_came_of-good d p is proc may.ready may.call may.opened op may.answer a d.node of may.says may.range)
   comes_of-left (Cause.AccessFailed t) op may of = failed-left t may.0 may.1 op of
-  comes_of-left (Cause.CallFailed call) op may of = good-left d p op (call_failed_of d p call) (call_failed_of-good d p is proc may.0 call may.1 op of)
+  comes_of-left (Cause.CallFailed call) op may of = after-left d.node d.nodes p op (call_failed_of d p call) (call_failed_of-good d p is proc may.0 call may.1 op of)
 
   -- the operation of a lock's, an unlock's or a removal's open call
   call-op : (call : LockCall) → open_call_of d p ≡ Some (open_call call) → (op : Op) × IsOpen d p op

@@ -14,9 +14,10 @@ use Rattle.fault_handler.specs.Desks.{DeskState, at, moving_of, transit_among, o
 use Rattle.fault_handler.specs.Outcomes.{Turn}
 use Rattle.fault_handler.specs.Drops.{WaitsFor}
 use Rattle.fault_handler.specs.Invariant.{IsProc}
-use Rattle.fault_handler.proofs.Fours.{first, second, third, fourth, any-of}
+use Rattle.fault_handler.proofs.Fours.{first, second, third, fourth, any-of, apart-is}
 use Rattle.lock_validate.specs.Releases.{release_ask}
 use Rattle.lock_validate.proofs.States.{deletes-writes}
+use Rattle.lock_validate.proofs.Dropping.{right-true}
 use Rattle.desk_laws.specs.Causes.{Cause}
 use Rattle.desk_laws.specs.Settled.{IsSettled, GivesUpSettled}
 use Rattle.desk_laws.specs.Waiting.{WaitsForAnother, WaitsForFetch}
@@ -79,21 +80,13 @@ module _ (d : DeskState) (p : ℕ) (e : DeskState) where
   -- a page that comes is moved
   coming-moving : (u : ObjectName) (k : ℕ) (t : Option Transit) → is_coming u k t ≡ true → is_moving u k t ≡ true
   coming-moving u k None comes = comes
-  coming-moving u k (Some t) comes = right t.inward (is_moving u k (Some t)) comes
-    where
-      right : (a b : Bool) → (a && b) ≡ true → b ≡ true
-      right a b h = grind (arith, nat_tests, h)
+  coming-moving u k (Some t) comes = right-true t.inward (is_moving u k (Some t)) comes
 
   fetched-moves : (u : ObjectName) (k : ℕ) → others_fetch e.moving p u k ≡ true → (q : ℕ) × IsProc q × (q ≢ p) × (is_moving u k (moving_of e q) ≡ true)
   fetched-moves u k fetched =
       let found = any-of (λ q. not (q == p) && is_coming u k (at e.moving q None)) fetched in
-      (found.0, found.1, apart found.0 (is_coming u k (at e.moving found.0 None)) found.2, coming-moving u k (at e.moving found.0 None) (comes found.0 (is_coming u k (at e.moving found.0 None)) found.2))
-    where
-      apart : (q : ℕ) (b : Bool) → (not (q == p) && b) ≡ true → q ≢ p
-      apart q b h = grind (arith, nat_tests, h)
-
-      comes : (q : ℕ) (b : Bool) → (not (q == p) && b) ≡ true → b ≡ true
-      comes q b h = grind (arith, nat_tests, h)
+      let there = apart-is p found.0 (is_coming u k (at e.moving found.0 None)) found.2 in
+      (found.0, found.1, there.0, coming-moving u k (at e.moving found.0 None) there.1)
 
   pub told-waits : (c : Cause) (turn : Turn) → Says d p e c turn → WaitsForAnother e p turn
   told-waits c turn (Says.waits cause task given absent fetched) = fetched-moves task.uid (page_of task) fetched

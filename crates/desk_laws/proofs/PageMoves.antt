@@ -26,12 +26,13 @@ use Rattle.fault_handler.specs.Drops.{MayDrop}
 use Rattle.fault_handler.specs.Invariant.{IsProc, IsFour, IsDesk}
 use Rattle.fault_handler.proofs.Fours.{at-put_same}
 use Rattle.fault_handler.proofs.PageLists.{page_at-used, page_at-changed_same}
+use Rattle.fault_handler.proofs.Accessing.{absent-without}
 use Rattle.desk_laws.specs.Causes.{Cause}
 use Rattle.desk_laws.specs.Dropped.{MayDropPages}
 use Rattle.desk_laws.specs.Loading.{IsTaskIn, LooksUp, Does, IsMissing, HasFrame}
 use Rattle.desk_laws.specs.Moves.{Change, Moves}
 use Rattle.desk_laws.specs.Turns.{Says, IsMade}
-use Rattle.desk_laws.proofs.Facts.{IsTaskIn-same, absent-without, length-grown, known-kept}
+use Rattle.desk_laws.proofs.Facts.{IsTaskIn-same, length-grown, known-kept}
 
 -- the page is asked for on a desk that has a frame for it
 module _ (c : Cause) (p : ℕ) (d h : DeskState) (task : Task) (proc : IsProc p) (four : IsFour h) (does : Does c p h task) (given : IsTaskIn d p c task) where

@@ -27,12 +27,13 @@ use Rattle.fault_handler.proofs.Fours.{at-put_same}
 use Rattle.fault_handler.proofs.PageLists.{page_at-changed_same}
 use Rattle.fault_handler.proofs.Nothing.{none-dirty, none-moved, none-changed}
 use Rattle.fault_handler.proofs.TransitKeeps.{there_is}
+use Rattle.fault_handler.proofs.Beginning.{keeps-writes}
 use Rattle.lock_validate.specs.Steps.{sent}
 use Rattle.lock_validate.specs.Locking.{lock_by, begin_lock_of}
 use Rattle.lock_validate.specs.Releases.{release_call, release_ask, bytes_in, length_first, page_first, transit_first, release_of, unlock_by, delete_by, begin_release_of}
 use Rattle.lock_validate.proofs.Entries.{state-noted, release-stands}
 use Rattle.lock_validate.proofs.Releasing.{is_node-is, there-node}
-use Rattle.lock_validate.proofs.States.{writes-held, held-there, neither-free, deletes-writes, keeps_writing-writes, writes-keeps_writing}
+use Rattle.lock_validate.proofs.States.{writes-held, held-there, neither-free, deletes-writes, keeps_writing-writes}
 use Rattle.desk_laws.specs.Causes.{Cause}
 use Rattle.desk_laws.specs.Settled.{IsSettled}
 use Rattle.desk_laws.specs.Releasing.{releasing_in, IsReleasing}
@@ -132,7 +133,7 @@ module _ (d : DeskState) (p : ℕ) (u : ObjectName) (is : IsDesk d) (proc : IsPr
   begins-made : (delete : Bool) → is_held (state_of d p u) ≡ true → may_write (state_of d p u) ≡ true → (delete ≡ true → may_delete (state_of d p u) ≡ true) → IsMade (Cause.Releases delete u) p d (release_of d p u delete)
   begins-made delete held writes may =
       release_of-made (Cause.Releases delete u) p d d u (λ turn. Moves.none) proc is idle delete
-      (record { given = refl; idle = idle; writes = writes-keeps_writing (entry_at d.entries p u) (idle.keeping u held) writes; may = may })
+      (record { given = refl; idle = idle; writes = keeps-writes (entry_at d.entries p u) (idle.keeping u held) writes; may = may })
 
   unlock_by-made : (free held writes : Bool) → is_free (state_of d p u) ≡ free → is_held (state_of d p u) ≡ held → may_write (state_of d p u) ≡ writes → IsMade (Cause.Releases false u) p d (unlock_by d p u free held writes)
   unlock_by-made true held writes f h w = refused-made (Cause.Releases false u) p d Reply.NotHeld (Refuses.unlock_free u f)

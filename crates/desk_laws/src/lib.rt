@@ -25,6 +25,9 @@ ghost use Rattle.desk_laws.specs.Turns.{IsMade};
 ghost use Rattle.desk_laws.specs.Untouched.{IsUntouched, IsSameDesk};
 ghost use Rattle.desk_laws.specs.Waiting.{WaitsForAnother, WaitsForFetch};
 
+use fault_handler::Desk;
+use uid_names::laws::may_cross_threads;
+
 /// Each call is a few of the changes that a desk knows, one after another, and its outcome tells what they made.
 pub fn each_call_is_moves()
     ensures { AfterEach (λ d p c m. IsMade c p d m) }
@@ -118,3 +121,8 @@ pub fn a_page_in_transit_is_moved_by_one_process()
         (q : ℕ) × IsProc q × (moving_of d q ≡ going u k) }
     ensures alone { (d : DeskState) → IsDesk d → AreApart d.moving }
 {}
+
+/// Threads may hand each other desks.
+pub fn desks_may_cross_threads() {
+    may_cross_threads::<Desk>();
+}

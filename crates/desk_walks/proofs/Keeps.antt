@@ -1,5 +1,6 @@
 -- A call keeps every process of the node ready.
 use Rattle.std.proofs.Common.{◌≡◌, ℕ, true, Option, Some, None, IsSome, inl, inr, refl, sym, ap, subst, ◌∙◌}
+use Rattle.std.proofs.lemmas.Option.{same_Some}
 use Rattle.std.proofs.lemmas.Bool.{cases_eq}
 use Rattle.uid_names.specs.Names.{ObjectName}
 use Rattle.uid_names.specs.Steps.{◌>>=◌}
@@ -63,9 +64,6 @@ module _ (d new : DeskState) (p : ℕ) (all : AllReady d) (is : IsDesk d) (proc 
   came-ready P Q a may comes holds came same =
       come p (IsMade c p d) Q (AllReady new) a (holds-made P a holds (subst (Always p (IsMade c p d)) comes (comes_of-made d p c is proc may))) came (λ m made gives. made-ready m (same m gives) made)
 
-some_is : {A : Type 0} (x y : A) → Some x ≡ Some y → x ≡ y
-some_is x y e = cc
-
 -- an open call of a lock, an unlock or a removal is one
 lock-open : (o : Option OpenCall) (call : LockCall) → (o >>= lock_call) ≡ Some call → o ≡ Some (open_call call)
 lock-open None call is = absurd (cc)
@@ -113,11 +111,11 @@ lock-other d p lock same = let h : IsSome (Some Access >>= lock_call) = rw same 
 
 -- an operation that a desk answers is in its ranges
 pub desk_op-is : (op : Op) (o : DeskOp) → desk_op op ≡ Some o → IsOp op → IsOp (op_of o)
-desk_op-is (ops.Load spot count) o is range = subst (λ (x : DeskOp). IsOp (op_of x)) (some_is (DeskOp.Loads spot count) o is) range
-desk_op-is (ops.Store spot bytes) o is range = subst (λ (x : DeskOp). IsOp (op_of x)) (some_is (DeskOp.Stores spot bytes) o is) range
-desk_op-is (ops.Length u) o is range = subst (λ (x : DeskOp). IsOp (op_of x)) (some_is (DeskOp.Measures u) o is) range
-desk_op-is (ops.Map u) o is range = subst (λ (x : DeskOp). IsOp (op_of x)) (some_is (DeskOp.Maps u) o is) range
-desk_op-is (ops.Unmap u) o is range = subst (λ (x : DeskOp). IsOp (op_of x)) (some_is (DeskOp.Unmaps u) o is) range
+desk_op-is (ops.Load spot count) o is range = subst (λ (x : DeskOp). IsOp (op_of x)) (same_Some (DeskOp.Loads spot count) o is) range
+desk_op-is (ops.Store spot bytes) o is range = subst (λ (x : DeskOp). IsOp (op_of x)) (same_Some (DeskOp.Stores spot bytes) o is) range
+desk_op-is (ops.Length u) o is range = subst (λ (x : DeskOp). IsOp (op_of x)) (same_Some (DeskOp.Measures u) o is) range
+desk_op-is (ops.Map u) o is range = subst (λ (x : DeskOp). IsOp (op_of x)) (same_Some (DeskOp.Maps u) o is) range
+desk_op-is (ops.Unmap u) o is range = subst (λ (x : DeskOp). IsOp (op_of x)) (same_Some (DeskOp.Unmaps u) o is) range
 desk_op-is op o is range = absurd (cc)
 
 -- an open call that is one of a lock, an unlock or a removal

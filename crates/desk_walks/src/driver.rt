@@ -2,7 +2,7 @@
 ghost use Rattle.std.specs.Prelude.{◌≡◌, ℕ, ◌≤◌, true, IfOk, OnOk, IsSome};
 ghost use Rattle.std.specs.Bool.{OnTrue};
 ghost use Rattle.dom_history.specs.Ranges.{IsOp};
-ghost use Rattle.ring_messages.specs.Ranges.{IsBody};
+ghost use Rattle.ring_messages.specs.Ranges.{IsBody, IsWhole};
 ghost use Rattle.fault_handler.specs.Invariant.{IsDesk};
 ghost use Rattle.fault_handler.specs.Accesses.{desk_op};
 ghost use Rattle.fault_handler.specs.LockCalls.{lock_call, answers};
@@ -17,7 +17,7 @@ use lock_validate::{
 use ring_messages::Body;
 use std::alloc::Global;
 use std::test::Fail;
-use uid_names::{NodeId, ProcId, Uid};
+use uid_names::{MAX_LENGTH, MAX_ROOM, NodeId, PAGE_BYTES, ProcId, Uid};
 
 /// What a call came to, and the pages that it dropped.
 #[derive(Drop, Debug)]
@@ -29,8 +29,7 @@ pub enum Came {
 
 fn from_access(access: Access) -> Came {
     match access {
-        Access::Hit(reply, dropped) => Came::Ends(reply, dropped),
-        Access::Refuse(reply, dropped) => Came::Ends(reply, dropped),
+        Access::Hit(reply, dropped) | Access::Refuse(reply, dropped) => Came::Ends(reply, dropped),
         Access::Need(home, body, dropped) => Came::Asks(home, body, dropped),
         Access::Wait(uid, page, dropped) => Came::Waits(uid, page, dropped),
     }
@@ -44,16 +43,14 @@ fn from_step(step: Step) -> Came {
     }
 }
 
-/// The desk of the first of some nodes.
-pub fn new_desk(alloc: Global, nodes: u8, frames: u16) -> Result<Desk, Fail>
-    requires nodes_low { 1 ≤ nodes }
-    requires nodes_high { nodes ≤ 8 }
-    requires frames_low { 5 ≤ frames }
-    requires frames_high { frames ≤ 256 }
+/// The desk of the first of three nodes.
+pub fn new_desk(alloc: Global, frames: u16) -> Result<Desk, Fail>
+    requires low { 5 ≤ frames }
+    requires high { frames ≤ 256 }
     ensures { IfOk result AllReady }
 {
     let node = NodeId::new(1).ok_or("no node")?;
-    Ok(Desk::new(alloc, node, nodes, frames)?)
+    Ok(Desk::new(alloc, node, 3, frames)?)
 }
 
 /// A process of the desk's node, and what the desk keeps.
@@ -128,15 +125,43 @@ pub fn unlock_again(alloc: Global, desk: &mut Desk, number: u8, uid: Uid) -> Res
 
 /// A home answers the open call of a process.
 pub fn answer(alloc: Global, desk: &mut Desk, number: u8, body: &Body) -> Result<Came, Fail>
-    requires ready { AllReady desk.old }
-    requires range { (node : ℕ) → IsBody node body.now }
+    requires { AllReady desk.old }
     ensures { OnOk result (AllReady desk.new) }
 {
     let proc = proc(desk, number)?;
-    if desk.answers(proc, body) {
+    if is_sent(body) && desk.answers(proc, body) {
         return answered(alloc, desk, proc, body);
     }
     Err(Fail::from("no such answer is due"))
+}
+
+/// Whether a home can have sent a body as an answer.
+fn is_sent(body: &Body) -> bool
+    ensures { OnTrue result ((node : ℕ) → IsBody node body.now) }
+{
+    match body {
+        Body::Page { stamp, bytes } => is_sent_page(*stamp, bytes),
+        Body::Stored { stamp } | Body::Stale { stamp } => *stamp >= 1,
+        Body::Granted {
+            grant,
+            stamp,
+            room,
+            length,
+            ..
+        } => {
+            *grant >= 1 && *stamp >= 1 && *room >= 1 && *room <= MAX_ROOM && *length <= MAX_LENGTH
+        }
+        Body::Conflict { .. } | Body::NoObject | Body::Done => true,
+        _ => false,
+    }
+}
+
+/// Whether it can have sent a page, which has its bytes.
+fn is_sent_page(stamp: u64, bytes: &[u8; PAGE_BYTES]) -> bool
+    ensures { OnTrue result ((1 ≤ stamp) × IsWhole bytes.now) }
+{
+    let _bytes = bytes;
+    stamp >= 1
 }
 
 /// The same, where it fits.

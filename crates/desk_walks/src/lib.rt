@@ -2,6 +2,8 @@
 //! each call comes to, met once; and random walks. No program stands on it.
 #![tactic(auto)]
 
+#[cfg(test)]
+mod deeds;
 pub mod driver;
 #[cfg(test)]
 mod plain_home;

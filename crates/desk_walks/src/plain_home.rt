@@ -31,6 +31,11 @@ pub(crate) fn place_of(page: u32) -> u32 {
         .saturating_add(AT as u32)
 }
 
+/// The page of an offset.
+pub(crate) fn page_of(offset: u32) -> usize {
+    offset as usize / PAGE_BYTES
+}
+
 impl Object {
     pub fn new(uid: Uid) -> Object {
         Object {
@@ -46,55 +51,49 @@ impl Object {
 
     /// What the home decides on a request; a lock that it grants has this number.
     pub fn decide(&mut self, proc: ProcId, body: &Body, number: u64) -> Body {
+        if let Some(refusal) = self.refused(body) {
+            return refusal;
+        }
         match body {
             Body::PageIn { page, .. } => self.page(*page),
-            Body::PageOut {
-                page,
-                grant,
-                base,
-                bytes,
-                ..
-            } => match self.refused(*grant, *base) {
-                Some(refusal) => refusal,
-                None => self.take_page(*page, bytes),
-            },
-            Body::AttrOut {
-                length,
-                grant,
-                base,
-                ..
-            } => match self.refused(*grant, *base) {
-                Some(refusal) => refusal,
-                None => self.take_length(*length),
-            },
+            Body::PageOut { page, bytes, .. } => self.take_page(*page, bytes),
+            Body::AttrOut { length, .. } => {
+                self.length = *length;
+                self.raised()
+            }
             Body::Lock { mode, .. } => self.lock(proc, *mode, number),
-            Body::Unlock { .. } => self.unlock(proc),
+            Body::Unlock { .. } => {
+                self.set_row(proc, None);
+                Body::Done
+            }
             _ => Body::NoObject,
         }
     }
 
     fn page(&self, page: u32) -> Body {
+        let stamp = self.stamp;
         match self.pages.get(page as usize) {
-            Some(bytes) => Body::Page {
-                stamp: self.stamp,
-                bytes: *bytes,
-            },
+            Some(&bytes) => Body::Page { stamp, bytes },
             None => Body::NoObject,
         }
     }
 
-    /// What refuses a write: no lock that writes has this number, or the base is another stamp.
-    fn refused(&self, grant: u64, base: u64) -> Option<Body> {
+    /// What refuses a page or a length: no lock that writes has its grant, or its base is another stamp.
+    fn refused(&self, body: &Body) -> Option<Body> {
+        let (grant, base) = match body {
+            Body::PageOut { grant, base, .. } | Body::AttrOut { grant, base, .. } => (grant, base),
+            _ => return None,
+        };
         let mut is_granted = false;
         for row in &self.rows {
             if let Some((_, mode, number)) = row {
-                is_granted = is_granted || mode.writes() && *number == grant;
+                is_granted = is_granted || mode.writes() && *number == *grant;
             }
         }
         if !is_granted {
             return Some(Body::NoGrant);
         }
-        if base != self.stamp {
+        if *base != self.stamp {
             return Some(Body::Stale { stamp: self.stamp });
         }
         None
@@ -110,11 +109,6 @@ impl Object {
             Some(old) => *old = *bytes,
             None => return Body::NoObject,
         }
-        self.raised()
-    }
-
-    fn take_length(&mut self, length: u32) -> Body {
-        self.length = length;
         self.raised()
     }
 
@@ -140,11 +134,6 @@ impl Object {
         }
     }
 
-    fn unlock(&mut self, proc: ProcId) -> Body {
-        self.set_row(proc, None);
-        Body::Done
-    }
-
     /// The lock of a process is another from now on.
     fn set_row(&mut self, proc: ProcId, row: Option<Row>) {
         if let Some(old) = self.rows.get_mut(usize::from(proc.number()) - 1) {
@@ -154,24 +143,22 @@ impl Object {
 
     /// Another node changes a page, where no process here holds a lock.
     pub fn change_elsewhere(&mut self, page: u32, byte: u8) {
-        for row in &self.rows {
-            if row.is_some() {
-                return;
-            }
+        if self.rows.iter().any(|row| row.is_some()) {
+            return;
         }
         if let Some(bytes) = self.pages.get_mut(page as usize) {
             bytes[AT] = byte;
             self.length = max(self.length, place_of(page).saturating_add(1));
             self.stamp = self.stamp.saturating_add(1);
         }
-        self.stored(page, byte);
+        self.stored(page as usize, byte);
     }
 
     /// A byte was stored there.
-    pub fn stored(&mut self, page: u32, byte: u8) {
-        if let Some(last) = self.last.get_mut(page as usize) {
+    pub fn stored(&mut self, page: usize, byte: u8) {
+        if let Some(last) = self.last.get_mut(page) {
             *last = byte;
-            self.end = max(self.end, place_of(page).saturating_add(1));
+            self.end = max(self.end, place_of(page as u32).saturating_add(1));
         }
     }
 }

@@ -1,45 +1,31 @@
-//! What each call comes to, met once, as one sees it from outside; and what two processes of a node do to one object.
-ghost use Rattle.std.specs.Prelude.{◌≡◌, ℕ, IfOk, OnOk};
-ghost use Rattle.uid_names.specs.Names.{IsName};
-ghost use Rattle.dom_history.specs.Ranges.{IsOp};
-ghost use Rattle.ring_messages.specs.Ranges.{IsBody};
+//! What each call comes to, met once, as one sees it from outside: rows of calls, each beside what it tells.
+ghost use Rattle.std.specs.Prelude.{OnOk};
 ghost use Rattle.desk_walks.specs.AllReady.{AllReady};
 
+use crate::deeds::Deed;
 use crate::driver::{Came, answer, begin, fault, new_desk, proc, unlock_again};
-use dom_history::{Dropped, LockState, Op, Reply, Spot};
+use dom_history::{EndWord, LockState, Reply};
 use fault_handler::Desk;
 use ring_messages::Body;
 use std::alloc::Global;
 use std::process::Abort;
 use std::test::Fail;
-use uid_names::{ByteList, Mode, NodeId, ObjKind, PAGE_BYTES, Uid};
+use uid_names::{Mode, NodeId, ObjKind, PAGE_BYTES, Uid};
 
-mod beside;
-mod faults;
+mod accesses;
 mod locks;
-mod unlocks;
 
 /// What a call came to. Of bytes the first is told.
 #[derive(Clone, Copy, Debug, PartialEq, Eq)]
 enum Told {
-    Fine,
-    /// The page of the object that was dropped, or the two.
-    FineWithout(Uid, u32),
-    FineWithoutTwo(Uid, u32, u32),
+    Ends(EndWord),
+    /// One or two pages of the object were dropped.
+    EndsWithout(EndWord, Uid, u32, Option<u32>),
     /// What the other process holds.
-    Conflict(Mode),
-    NoObject,
-    /// The page that was dropped.
-    NoObjectWithout(Uid, u32),
-    AlreadyHeld,
-    Unsettled,
-    TooMany,
-    NotHeld,
-    NoLock,
-    WrongMode,
-    Kept,
-    Doubt,
+    Conflicts(Mode),
     Byte(u8),
+    Size(u32),
+    At(u32, bool),
     AskLock(Uid, Mode),
     PageIn(Uid, u32),
     /// The page that is asked for, and the one that was dropped.
@@ -55,21 +41,16 @@ enum Told {
     State(LockState),
     Number(Option<u64>),
     Is(bool),
-    /// None that a test expects.
+    /// None that a row expects.
     Other,
 }
 
 /// A call at a desk, or a question to it. Processes, by their numbers, and objects come first.
 #[derive(Clone, Copy, Debug)]
 enum Call {
-    Lock(u8, Uid, Mode),
-    Unlock(u8, Uid),
-    Delete(u8, Uid),
+    Do(u8, Uid, Deed),
     /// An unlock that waited.
     UnlockAgain(u8, Uid),
-    /// The byte at an offset.
-    Load(u8, Uid, u32),
-    Store(u8, Uid, u32, u8),
     /// A page of equal bytes comes, with this stamp.
     Page(u8, u64, u8),
     /// A lock on an object of ten pages, with this number, stamp and length.
@@ -81,10 +62,10 @@ enum Call {
     Stale(u8, u64),
     Done(u8),
     Fault(u8),
-    /// A lock that is granted on an object of ten full pages.
+    /// A lock that is granted on an object of ten full pages, with stamp 1.
     Hold(u8, Uid, Mode, u64),
-    /// A page of zeros comes to a store of a byte at its start.
-    StoreNew(u8, Uid, u8, u8),
+    /// A page of equal bytes comes to a load or store that asks for it, with stamp 1.
+    Bring(u8, Uid, Deed, u8),
     /// Questions.
     StateOf(u8, Uid),
     GrantOf(u8, Uid),
@@ -92,31 +73,22 @@ enum Call {
     Seen(Uid),
     DirtyPage(Uid),
     ChangedLength(Uid),
+    InTransit(Uid, u32),
 }
 
-/// What a reply tells.
 fn told_reply(reply: &Reply) -> Told {
     match reply {
-        Reply::Fine => Told::Fine,
-        Reply::Conflict(_, mode) => Told::Conflict(*mode),
-        Reply::NoObject => Told::NoObject,
-        Reply::AlreadyHeld => Told::AlreadyHeld,
-        Reply::Unsettled => Told::Unsettled,
-        Reply::TooMany => Told::TooMany,
-        Reply::NotHeld => Told::NotHeld,
-        Reply::NoLock => Told::NoLock,
-        Reply::WrongMode => Told::WrongMode,
-        Reply::Kept => Told::Kept,
-        Reply::Doubt => Told::Doubt,
+        Reply::Conflict(_, mode) => Told::Conflicts(*mode),
+        Reply::Size(length) => Told::Size(*length),
+        Reply::At { address, fresh } => Told::At(*address, *fresh),
         Reply::Bytes(bytes) => match bytes.bytes().first() {
             Some(byte) => Told::Byte(*byte),
             None => Told::Other,
         },
-        _ => Told::Other,
+        _ => Told::Ends(EndWord::of(reply)),
     }
 }
 
-/// What a request to a home tells.
 fn told_request(home: NodeId, body: &Body) -> Told {
     match body {
         Body::Lock { uid, mode } if home == uid.home() => Told::AskLock(*uid, *mode),
@@ -140,25 +112,23 @@ fn told_request(home: NodeId, body: &Body) -> Told {
     }
 }
 
-/// The same, with the pages that were dropped.
-fn told_with(told: Told, dropped: &Dropped) -> Told {
+fn told_came(came: &Came) -> Told {
+    let (told, dropped) = match came {
+        Came::Ends(reply, dropped) => (told_reply(reply), dropped),
+        Came::Asks(home, body, dropped) => (told_request(*home, body), dropped),
+        Came::Waits(uid, page, dropped) => (Told::Wait(*uid, *page), dropped),
+    };
     match (told, dropped.items()) {
         (told, []) => told,
-        (Told::Fine, [(uid, page)]) => Told::FineWithout(*uid, *page),
-        (Told::Fine, [(uid, page), (other, next)]) if uid == other => Told::FineWithoutTwo(
-            *uid, *page, *next,
+        (Told::Ends(end), [(uid, page)]) => Told::EndsWithout(end, *uid, *page, None),
+        (Told::Ends(end), [(uid, page), (other, next)]) if uid == other => Told::EndsWithout(
+            end,
+            *uid,
+            *page,
+            Some(*next),
         ),
-        (Told::NoObject, [(uid, page)]) => Told::NoObjectWithout(*uid, *page),
-        (Told::PageIn(number, page), [(uid, old)]) => Told::PageInFor(number, page, *uid, *old),
+        (Told::PageIn(uid, page), [(other, old)]) => Told::PageInFor(uid, page, *other, *old),
         _ => Told::Other,
-    }
-}
-
-fn told_came(came: &Came) -> Told {
-    match came {
-        Came::Ends(reply, dropped) => told_with(told_reply(reply), dropped),
-        Came::Asks(home, body, dropped) => told_with(told_request(*home, body), dropped),
-        Came::Waits(uid, page, dropped) => told_with(Told::Wait(*uid, *page), dropped),
     }
 }
 
@@ -167,97 +137,33 @@ fn object(number: u8) -> Result<Uid, Fail> {
     samples::object(u64::from(number) + 1, 2)
 }
 
-/// A process begins an operation.
-fn operate(alloc: Global, desk: &mut Desk, call: Call) -> Result<Came, Fail>
-    requires { AllReady desk.old }
-    ensures { OnOk result (AllReady desk.new) }
-{
-    let (number, op) = operation(alloc, call)?;
-    begin(alloc, desk, number, &op)
-}
-
-fn operation(alloc: Global, call: Call) -> Result<(u8, Op), Fail>
-    ensures { IfOk result (λ r. IsOp r.1) }
-{
-    match call {
-        Call::Lock(number, uid, mode) => Ok((
-            number,
-            Op::Lock {
-                uid: named(uid),
-                mode,
-            },
-        )),
-        Call::Unlock(number, uid) => Ok((number, Op::Unlock { uid: named(uid) })),
-        Call::Delete(number, uid) => Ok((number, Op::Delete { uid: named(uid) })),
-        Call::Load(number, uid, offset) => {
-            let (spot, count) = (Spot::Of(named(uid), offset), 1);
-            Ok((number, Op::Load { spot, count }))
-        }
-        Call::Store(number, uid, offset, byte) => {
-            let spot = Spot::Of(named(uid), offset);
-            let bytes = ByteList::from_slice(alloc, &[byte])?;
-            Ok((number, Op::Store { spot, bytes }))
-        }
-        _ => Err(Fail::from("no operation")),
-    }
-}
-
-/// An object, which is a name.
-fn named(uid: Uid) -> Uid
-    ensures same { result ≡ uid }
-    ensures name { IsName result }
-{
-    let _number = uid.number();
-    uid
-}
-
-/// A home answers.
-fn reply(alloc: Global, desk: &mut Desk, call: Call) -> Result<Came, Fail>
-    requires { AllReady desk.old }
-    ensures { OnOk result (AllReady desk.new) }
-{
-    let (number, body) = answer_of(desk, call)?;
-    answer(alloc, desk, number, &body)
-}
-
-fn answer_of(desk: &Desk, call: Call) -> Result<(u8, Body), Fail>
-    ensures { IfOk result (λ r. (node : ℕ) → IsBody node r.1) }
-{
-    match call {
+/// The process to which a home answers, and what.
+fn answer_of(call: Call) -> Result<Option<(u8, Body)>, Fail> {
+    Ok(Some(match call {
         Call::Page(number, stamp, byte) => {
-            let (stamp, bytes) = (stamp.max(1), [byte; PAGE_BYTES]);
-            Ok((number, Body::Page { stamp, bytes }))
+            let bytes = [byte; PAGE_BYTES];
+            (number, Body::Page { stamp, bytes })
         }
         Call::Granted(number, grant, stamp, length) => {
             let body = Body::Granted {
-                grant: grant.max(1),
-                stamp: stamp.max(1),
+                grant,
+                stamp,
                 kind: ObjKind::File,
                 room: 10,
-                length: length.min(10 * PAGE_BYTES as u32),
+                length,
             };
-            Ok((number, body))
+            (number, body)
         }
         Call::HeldBy(number, holder, mode) => {
-            let proc = proc(desk, holder)?;
-            Ok((number, Body::Conflict { proc, mode }))
+            let proc = samples::proc(1, holder)?;
+            (number, Body::Conflict { proc, mode })
         }
-        Call::Gone(number) => Ok((number, Body::NoObject)),
-        Call::Stored(number, stamp) => Ok((
-            number,
-            Body::Stored {
-                stamp: stamp.max(1),
-            },
-        )),
-        Call::Stale(number, stamp) => Ok((
-            number,
-            Body::Stale {
-                stamp: stamp.max(1),
-            },
-        )),
-        Call::Done(number) => Ok((number, Body::Done)),
-        _ => Err(Fail::from("no answer")),
-    }
+        Call::Gone(number) => (number, Body::NoObject),
+        Call::Stored(number, stamp) => (number, Body::Stored { stamp }),
+        Call::Stale(number, stamp) => (number, Body::Stale { stamp }),
+        Call::Done(number) => (number, Body::Done),
+        _ => return Ok(None),
+    }))
 }
 
 /// What the answer to a question is.
@@ -269,8 +175,28 @@ fn ask(desk: &Desk, call: Call) -> Result<Told, Fail> {
         Call::Seen(uid) => Told::Number(desk.seen(uid)),
         Call::DirtyPage(uid) => Told::Number(desk.dirty_page(uid).map(u64::from)),
         Call::ChangedLength(uid) => Told::Number(desk.changed_length(uid).map(u64::from)),
+        Call::InTransit(uid, page) => Told::Is(desk.in_transit(uid, page)),
         _ => Told::Other,
     })
+}
+
+/// Takes a call that stands for itself.
+fn take(alloc: Global, desk: &mut Desk, call: Call) -> Result<Told, Fail>
+    requires { AllReady desk.old }
+    ensures { OnOk result (AllReady desk.new) }
+{
+    if let Some((number, body)) = answer_of(call)? {
+        return Ok(told_came(&answer(alloc, desk, number, &body)?));
+    }
+    match call {
+        Call::Do(number, uid, deed) => {
+            let op = deed.on(alloc, uid)?;
+            Ok(told_came(&begin(alloc, desk, number, &op)?))
+        }
+        Call::UnlockAgain(number, uid) => Ok(told_came(&unlock_again(alloc, desk, number, uid)?)),
+        Call::Fault(number) => Ok(told_reply(&fault(desk, number)?)),
+        _ => ask(desk, call),
+    }
 }
 
 /// Takes a call.
@@ -279,39 +205,21 @@ fn act(alloc: Global, desk: &mut Desk, call: Call) -> Result<Told, Fail>
     ensures { OnOk result (AllReady desk.new) }
 {
     match call {
-        Call::Lock(..) | Call::Unlock(..) | Call::Delete(..) | Call::Load(..) | Call::Store(..) =>
-            Ok(told_came(&operate(alloc, desk, call)?)),
-        Call::UnlockAgain(number, uid) => Ok(told_came(&unlock_again(alloc, desk, number, uid)?)),
-        Call::Page(..)
-        | Call::Granted(..)
-        | Call::HeldBy(..)
-        | Call::Gone(_)
-        | Call::Stored(..)
-        | Call::Stale(..)
-        | Call::Done(_) => Ok(told_came(&reply(alloc, desk, call)?)),
-        Call::Fault(number) => Ok(told_reply(&fault(desk, number)?)),
         Call::Hold(number, uid, mode, grant) => {
-            operate(alloc, desk, Call::Lock(number, uid, mode))?;
-            let full = 10 * PAGE_BYTES as u32;
-            Ok(told_came(&reply(alloc, desk, Call::Granted(number, grant, 1, full))?))
+            take(alloc, desk, Call::Do(number, uid, Deed::Lock(mode)))?;
+            take(alloc, desk, Call::Granted(number, grant, 1, 10_240))
         }
-        Call::StoreNew(number, uid, page, byte) => {
-            let offset = u32::from(page) * PAGE_BYTES as u32;
-            operate(alloc, desk, Call::Store(number, uid, offset, byte))?;
-            Ok(told_came(&reply(alloc, desk, Call::Page(number, 1, 0))?))
+        Call::Bring(number, uid, deed, byte) => {
+            take(alloc, desk, Call::Do(number, uid, deed))?;
+            take(alloc, desk, Call::Page(number, 1, byte))
         }
-        Call::StateOf(..)
-        | Call::GrantOf(..)
-        | Call::HasCall(_)
-        | Call::Seen(_)
-        | Call::DirtyPage(_)
-        | Call::ChangedLength(_) => ask(desk, call),
+        _ => take(alloc, desk, call),
     }
 }
 
-/// Takes calls at a new desk of a domain of two nodes, and compares what each came to.
+/// Takes calls at a new desk of five frames, and compares what each came to.
 fn play(rt: &(impl Abort + AllocGlobal), calls: &[(Call, Told)]) -> Result<(), Fail> {
-    let mut desk = new_desk(rt.alloc(), 2, 5)?;
+    let mut desk = new_desk(rt.alloc(), 5)?;
     for (call, wanted) in calls {
         let came = act(rt.alloc(), &mut desk, *call)?;
         assert_eq!(rt; came, *wanted, "at {call:?}");

@@ -2,15 +2,13 @@
 //! plain one. Requests and answers stay on their way while other processes go on, some are lost, and now and then a
 //! third node changes an object. Each load is answered with the byte that was stored last, and each length is the one
 //! that the stores gave.
-ghost use Rattle.std.specs.Prelude.{ℕ, ◌≤◌, IfOk, OnOk};
-ghost use Rattle.std.specs.Bool.{OnTrue};
-ghost use Rattle.dom_history.specs.Ranges.{IsOp};
-ghost use Rattle.ring_messages.specs.Ranges.{IsBody, IsWhole};
+ghost use Rattle.std.specs.Prelude.{◌≤◌, OnOk};
 ghost use Rattle.desk_walks.specs.AllReady.{AllReady};
 
+use crate::deeds::Deed;
 use crate::driver::{Came, answer, begin, fault, new_desk};
-use crate::plain_home::{Object, PAGES, place_of};
-use dom_history::{Op, Reply, Spot};
+use crate::plain_home::{Object, PAGES, page_of, place_of};
+use dom_history::Reply;
 use fault_handler::Desk;
 use ring_messages::Body;
 use samples::{Draws, object, proc};
@@ -18,51 +16,7 @@ use std::alloc::Global;
 use std::mem;
 use std::process::Abort;
 use std::test::Fail;
-use uid_names::{ByteList, MAX_LENGTH, MAX_ROOM, Mode, PAGE_BYTES, Uid};
-
-/// What a process does to an object.
-#[derive(Clone, Copy)]
-enum Deed {
-    Lock(Mode),
-    Unlock,
-    Load(u32),
-    Store(u32, u8),
-    Length,
-}
-
-impl Deed {
-    fn drawn(draws: &mut Draws) -> Deed {
-        let page = draws.below(PAGES as u64) as u32;
-        match draws.below(64) {
-            0..4 => Deed::Lock(Mode::Read),
-            4..8 => Deed::Lock(Mode::Write),
-            8..12 => Deed::Unlock,
-            12 => Deed::Length,
-            13..36 => Deed::Store(page, draws.below(256) as u8),
-            _ => Deed::Load(page),
-        }
-    }
-
-    /// It as an operation on an object.
-    fn on(self, alloc: Global, uid: Uid) -> Result<Op, Fail>
-        ensures { IfOk result IsOp }
-    {
-        let _number = uid.number();
-        Ok(match self {
-            Deed::Lock(mode) => Op::Lock { uid, mode },
-            Deed::Unlock => Op::Unlock { uid },
-            Deed::Load(page) => Op::Load {
-                spot: Spot::Of(uid, place_of(page)),
-                count: 1,
-            },
-            Deed::Store(page, byte) => Op::Store {
-                spot: Spot::Of(uid, place_of(page)),
-                bytes: ByteList::from_slice(alloc, &[byte])?,
-            },
-            Deed::Length => Op::Length { uid },
-        })
-    }
-}
+use uid_names::Mode;
 
 /// What is on its way from a process to a home, or back.
 #[derive(Drop)]
@@ -72,51 +26,26 @@ enum Way {
     Answered(Body),
 }
 
-/// What a process does, to the object at a place, and what is on its way.
+/// What a process does, to the object at a place.
+type Plan = (usize, Deed);
+
+/// What it does, and what is on its way.
 #[derive(Drop)]
 struct Seat {
-    plan: Option<(usize, Deed)>,
+    plan: Option<Plan>,
     way: Way,
 }
 
-/// Whether a home can have sent a page, which has its bytes.
-fn is_sent_page(stamp: u64, bytes: &[u8; PAGE_BYTES]) -> bool
-    ensures { OnTrue result ((1 ≤ stamp) × IsWhole bytes.now) }
-{
-    let _bytes = bytes;
-    stamp >= 1
-}
-
-/// Whether a home can have sent a body as an answer.
-fn is_sent(body: &Body) -> bool
-    ensures { OnTrue result ((node : ℕ) → IsBody node body.now) }
-{
-    match body {
-        Body::Page { stamp, bytes } => is_sent_page(*stamp, bytes),
-        Body::Stored { stamp } | Body::Stale { stamp } => *stamp >= 1,
-        Body::Granted {
-            grant,
-            stamp,
-            room,
-            length,
-            ..
-        } => {
-            *grant >= 1 && *stamp >= 1 && *room >= 1 && *room <= MAX_ROOM && *length <= MAX_LENGTH
-        }
-        Body::Conflict { .. } | Body::NoObject | Body::Done => true,
-        _ => false,
-    }
-}
-
-/// The answer of a home comes.
-fn deliver(alloc: Global, desk: &mut Desk, number: u8, body: &Body) -> Result<Came, Fail>
-    requires { AllReady desk.old }
-    ensures { OnOk result (AllReady desk.new) }
-{
-    if is_sent(body) {
-        answer(alloc, desk, number, body)
-    } else {
-        Err(Fail::from("no answer"))
+/// What a process does next.
+fn drawn(draws: &mut Draws) -> Deed {
+    let offset = place_of(draws.below(PAGES as u64) as u32);
+    match draws.below(64) {
+        0..4 => Deed::Lock(Mode::Read),
+        4..8 => Deed::Lock(Mode::Write),
+        8..12 => Deed::Unlock,
+        12 => Deed::Length,
+        13..36 => Deed::Store(offset, draws.below(256) as u8),
+        _ => Deed::Load(offset),
     }
 }
 
@@ -163,7 +92,7 @@ impl Table {
         ensures { OnOk result (AllReady desk.new) }
     {
         let number = self.draws.below(4) as u8 + 1;
-        let drawn = (self.draws.below(3) as usize, Deed::drawn(&mut self.draws));
+        let drawn = (self.draws.below(3) as usize, drawn(&mut self.draws));
         let seat = self
             .seats
             .get_mut(usize::from(number) - 1)
@@ -183,7 +112,7 @@ impl Table {
             }
             Way::Asked(body) => self.decide(number, plan, &body),
             Way::Answered(body) => {
-                let came = deliver(self.alloc, desk, number, &body)?;
+                let came = answer(self.alloc, desk, number, &body)?;
                 self.settle(rt, number, plan, came)
             }
         }
@@ -199,7 +128,7 @@ impl Table {
     }
 
     /// The home decides on a request of a process.
-    fn decide(&mut self, number: u8, plan: (usize, Deed), body: &Body) -> Result<(), Fail> {
+    fn decide(&mut self, number: u8, plan: Plan, body: &Body) -> Result<(), Fail> {
         // A page that makes room may be of another object: the objects stand in the order of their numbers.
         let at = match body {
             Body::PageOut { uid, .. } => (uid.counter() - 1) as usize,
@@ -212,13 +141,7 @@ impl Table {
     }
 
     /// What a call came to.
-    fn settle(
-        &mut self,
-        rt: &impl Abort,
-        number: u8,
-        plan: (usize, Deed),
-        came: Came,
-    ) -> Result<(), Fail> {
+    fn settle(&mut self, rt: &impl Abort, number: u8, plan: Plan, came: Came) -> Result<(), Fail> {
         match came {
             Came::Ends(reply, _) => self.ended(rt, number, plan, &reply),
             Came::Asks(_, body, _) => self.seat(number, Some(plan), Way::Asked(body)),
@@ -230,29 +153,23 @@ impl Table {
     }
 
     /// What a process was replied: a load has the byte that was stored last.
-    fn ended(
-        &mut self,
-        rt: &impl Abort,
-        number: u8,
-        plan: (usize, Deed),
-        reply: &Reply,
-    ) -> Result<(), Fail> {
+    fn ended(&mut self, rt: &impl Abort, number: u8, plan: Plan, said: &Reply) -> Result<(), Fail> {
         let object = self.objects.get_mut(plan.0).ok_or("no object")?;
-        match (plan.1, reply) {
-            (Deed::Load(page), Reply::Bytes(bytes)) => {
-                assert_eq!(rt; bytes.bytes().first(), object.last.get(page as usize));
+        match (plan.1, said) {
+            (Deed::Load(offset), Reply::Bytes(bytes)) => {
+                assert_eq!(rt; bytes.bytes().first(), object.last.get(page_of(offset)));
                 self.loads = self.loads.saturating_add(1);
             }
-            (Deed::Load(page), Reply::PastEnd) => assert!(rt; object.end <= place_of(page)),
+            (Deed::Load(offset), Reply::PastEnd) => assert!(rt; object.end <= offset),
             (Deed::Length, Reply::Size(length)) => assert_eq!(rt; *length, object.end),
-            (Deed::Store(page, byte), Reply::Fine) => object.stored(page, byte),
+            (Deed::Store(offset, byte), Reply::Fine) => object.stored(page_of(offset), byte),
             _ => {}
         }
         self.seat(number, None, Way::Nothing)
     }
 
     /// What a process does from now on, and what is on its way.
-    fn seat(&mut self, number: u8, plan: Option<(usize, Deed)>, way: Way) -> Result<(), Fail> {
+    fn seat(&mut self, number: u8, plan: Option<Plan>, way: Way) -> Result<(), Fail> {
         let at = usize::from(number.saturating_sub(1));
         let seat = self.seats.get_mut(at).ok_or("no seat")?;
         *seat = Seat { plan, way };
@@ -275,7 +192,7 @@ fn walk(rt: &(impl Abort + AllocGlobal), seed: u64, frames: u16) -> Result<Table
     requires low { 5 ≤ frames }
     requires high { frames ≤ 256 }
 {
-    let mut desk = new_desk(rt.alloc(), 3, frames)?;
+    let mut desk = new_desk(rt.alloc(), frames)?;
     let mut table = Table::new(rt.alloc(), seed)?;
     for _ in 0..20_000u32 {
         table.turn(rt, &mut desk)?;

@@ -7,7 +7,7 @@ use Rattle.std.specs.Option.{unwrap_or}
 use Rattle.std.proofs.lemmas.Bool.Decides.{nat_tests}
 use Rattle.std.proofs.lemmas.List.{length-take}
 use Rattle.uid_names.specs.Names.{ObjectName}
-use Rattle.uid_names.specs.declared.limits.TheConstants.{MAX_LENGTH, MAX_ROOM, PAGE_BYTES}
+use Rattle.uid_names.specs.declared.limits.TheConstants.{MAX_ROOM, PAGE_BYTES}
 use Rattle.dom_history.specs.declared.deed.LockState.{LockState}
 use Rattle.dom_history.specs.declared.deed.LockState.TheVariants.{Free, Held, Taking, Releasing, Deleting}
 use Rattle.dom_history.specs.declared.op.Op.{Op}
@@ -40,15 +40,14 @@ use Rattle.fault_handler.specs.Changes.{with_used, with_stored, with_dropped, wi
 use Rattle.fault_handler.specs.Outcomes.{Moved, ended, waiting}
 use Rattle.fault_handler.specs.Victims.{Victim, MayMakeRoom, is_idle_page}
 use Rattle.fault_handler.specs.Accesses.{page_out, performed, fetched, room_made, frame_by, missed_by, page_by, page_access}
-use Rattle.fault_handler.specs.Invariant.{IsProc, is_dirty, is_marked, MayWork, IsAllowed, IsLockEntryState, IsLockEntry, IsDesk}
+use Rattle.fault_handler.specs.Invariant.{IsProc, is_dirty, is_marked, IsAllowed, IsLockEntryState, IsLockEntry, IsDesk}
 use Rattle.fault_handler.specs.Conditions.{IsIdle}
 use Rattle.fault_handler.specs.Ready.{IsReady, IsReadyAt}
 use Rattle.fault_handler.specs.Next.{IsTaskOf, IsCallOf, IsRequest, MayGoOn}
-use Rattle.fault_handler.proofs.Fours.{first, second, third, fourth, at-put_same, any-at, any-of}
+use Rattle.fault_handler.proofs.Fours.{first, second, third, fourth, at-put_same, any-of}
 use Rattle.fault_handler.proofs.PageLists.{is_same, same-uid, same-page, page_at-without_same, page_at-without_other}
-use Rattle.fault_handler.proofs.PageKeeps.{IsDesk-with_used, IsDesk-with_stored, IsDesk-with_dropped}
-use Rattle.fault_handler.proofs.KnownKeeps.{IsDesk-with_end}
-use Rattle.fault_handler.proofs.TransitKeeps.{keeps_writing-keeps, any_writes-keeps, dirty-writes, IsDesk-with_fetch, IsDesk-with_eviction}
+use Rattle.fault_handler.proofs.PageKeeps.{IsDesk-with_dropped}
+use Rattle.fault_handler.proofs.TransitKeeps.{keeps_writing-keeps, any_writes-keeps, dirty-writes}
 use Rattle.fault_handler.proofs.Choice.{named-there, victim-there}
 use Rattle.fault_handler.proofs.Outcomes.{IsAfter, IsServed, Holds}
 
@@ -80,8 +79,8 @@ pub ready-open : (d : DeskState) (p : ℕ) → open_call_of d p ≡ Some Access 
 ready-open d p call = subst (IsReadyAt d p) (sym call) tt
 
 -- an idle process's operation ended
-pub ended-after : (d : DeskState) (p : ℕ) (op : Op) (reply : Reply) → IsDesk d → IsIdle d p → Fits op reply → IsAfter d.node d.nodes p op (ended d reply)
-ended-after d p op reply is idle fits = record { desk = is; node = refl; nodes = refl; asks = tt; ready = ready-idle d p idle; fits = fits; next = idle }
+pub ended-after : (d : DeskState) (p : ℕ) (op : Op) (reply : Reply) → IsIdle d p → Fits op reply → IsAfter d.node d.nodes p op (ended d reply)
+ended-after d p op reply idle fits = record { node = refl; nodes = refl; asks = tt; ready = ready-idle d p idle; fits = fits; next = idle }
 
 -- the reply to a load is one that its operation can have
 bytes-fit : (op : Op) (task : Task) (count : ℕ) (bytes : List ℕ) → IsTaskOf op (Some task) → task.work ≡ Load count → length bytes ≡ count → Fits op (Bytes bytes)
@@ -144,7 +143,7 @@ pub page_out-asked : (d : DeskState) → IsDesk d → (u : ObjectName) (k : ℕ)
 page_out-asked d is u k bytes within whole writes = (refl, within, writing_grant-least d is u writes, base-least d is u (any_writes-keeps d.entries u writes), whole)
 
 -- a page that is not resident stays so where another is dropped
-absent-without : (pages : List Resident) (u : ObjectName) (k : ℕ) (v : ObjectName) (j : ℕ) → page_at pages v j ≡ None → page_at (without_page pages u k) v j ≡ None
+pub absent-without : (pages : List Resident) (u : ObjectName) (k : ℕ) (v : ObjectName) (j : ℕ) → page_at pages v j ≡ None → page_at (without_page pages u k) v j ≡ None
 absent-without pages u k v j none =
     by_cases
     (is_same v j u k)
@@ -152,12 +151,8 @@ absent-without pages u k v j none =
     (λ same. rw (same-uid v j u k same, same-page v j u k same) (page_at-without_same pages u k))
     (λ differ. page_at-without_other pages u k v j differ ∙ none)
 
--- where a place lies in a page of an object, so does its end
-end-within : (task : Task) (n : ℕ) → page_of task < MAX_ROOM → start_of task + n ≤ PAGE_BYTES → task.offset + n ≤ MAX_LENGTH
-end-within task n page within = omega (arith, page, within)
-
 -- an idle page is not on its way home
-idle-still : (o : Option Resident) → is_idle_page o ≡ true → is_marked o ≡ false
+pub idle-still : (o : Option Resident) → is_idle_page o ≡ true → is_marked o ≡ false
 idle-still None is = absurd (cc)
 idle-still (Some r) is = grind (arith, nat_tests, is)
 
@@ -166,27 +161,20 @@ module _ (d : DeskState) (p : ℕ) (task : Task) (is : IsDesk d) (proc : IsProc 
   pub performed-after : (work : Work) (r : Resident) → task.work ≡ work → length r.bytes ≡ PAGE_BYTES → IsDoneAfter d.node d.nodes p op (performed d task work r)
   performed-after (Load count) r same whole =
       let within : start_of task + count ≤ PAGE_BYTES = subst (λ (w : Work). start_of task + size_of w ≤ PAGE_BYTES) same allowed.range.within in (
-        ended-after (with_used d task.uid (page_of task)) p op _ (IsDesk-with_used d task.uid (page_of task) is)
-            (record { no_call = idle.no_call; no_page = idle.no_page; keeping = idle.keeping })
+        ended-after (with_used d task.uid (page_of task)) p op _ (record { no_call = idle.no_call; no_page = idle.no_page; keeping = idle.keeping })
             (bytes-fit op task count _ of same (omega (arith, length-take count (drop (start_of task) r.bytes), length-drop (start_of task) r.bytes))),
         refl,
       )
-  performed-after (Store bytes) r same whole =
-      let within : start_of task + length bytes ≤ PAGE_BYTES = subst (λ (w : Work). start_of task + size_of w ≤ PAGE_BYTES) same allowed.range.within in
-      let writes : keeps_writing (entry_at d.entries p task.uid) ≡ true = subst (λ (w : Work). MayWork w (entry_at d.entries p task.uid)) same allowed.mode in (
-        ended-after (with_end (with_stored d task.uid (page_of task) (start_of task) bytes) task.uid (task.offset + length bytes)) p op Fine
-            (IsDesk-with_end (with_stored d task.uid (page_of task) (start_of task) bytes) task.uid (task.offset + length bytes)
-            (IsDesk-with_stored d task.uid (page_of task) (start_of task) bytes p is proc within writes)
-            (end-within task (length bytes) allowed.range.page within)
-            (any-at (λ q. keeps_writing (entry_at d.entries q task.uid)) p proc writes))
-            (record { no_call = idle.no_call; no_page = idle.no_page; keeping = idle.keeping })
-            (fine-fits op task bytes of same),
-        refl,
-      )
+  performed-after (Store bytes) r same whole = (
+    ended-after (with_end (with_stored d task.uid (page_of task) (start_of task) bytes) task.uid (task.offset + length bytes)) p op Fine
+        (record { no_call = idle.no_call; no_page = idle.no_page; keeping = idle.keeping })
+        (fine-fits op task bytes of same),
+    refl,
+  )
 
   -- its process waits
   waiting-after : (u : ObjectName) (k : ℕ) → IsDoneAfter d.node d.nodes p op (waiting d u k)
-  waiting-after u k = (record { desk = is; node = refl; nodes = refl; asks = tt; ready = ready-idle d p idle; fits = tt; next = (idle, goes-on d p op task of) }, tt)
+  waiting-after u k = (record { node = refl; nodes = refl; asks = tt; ready = ready-idle d p idle; fits = tt; next = (idle, goes-on d p op task of) }, tt)
 
   module _ (absent : page_at d.cache.pages task.uid (page_of task) ≡ None) (alone : others_fetch d.moving p task.uid (page_of task) ≡ false) where
     call-fetch : open_call_of (with_fetch d p task) p ≡ Some Access
@@ -195,7 +183,6 @@ module _ (d : DeskState) (p : ℕ) (task : Task) (is : IsDesk d) (proc : IsProc 
     fetched-after : (dropped : List (ObjectName × ℕ)) → IsDoneAfter d.node d.nodes p op (fetched d p task dropped)
     fetched-after dropped = (
       record {
-        desk = IsDesk-with_fetch d p is proc task idle absent alone allowed;
         node = refl;
         nodes = refl;
         asks = (home-kept d p task.uid is proc allowed.kept, (refl, allowed.range.page));
@@ -221,7 +208,6 @@ module _ (d : DeskState) (p : ℕ) (task : Task) (is : IsDesk d) (proc : IsProc 
       let writes = dirty-writes d p is proc r.uid r.page is_dirty_there in
       let call : open_call_of (with_eviction d p task r.uid r.page) p ≡ Some Access = at-put_same d.calls p (Some Access) None is.four.calls proc in (
         record {
-          desk = IsDesk-with_eviction d p is proc task r.uid r.page idle is_dirty_there (rw found still) allowed;
           node = refl;
           nodes = refl;
           asks = (home-written d r.uid is writes, page_out-asked d is r.uid r.page r.bytes shown.page shown.bytes writes);

@@ -35,7 +35,7 @@ use Rattle.fault_handler.specs.Conditions.{IsIdle, IsAccessing}
 use Rattle.fault_handler.specs.Next.{IsTaskOf, IsCallOf, IsRequest, IsOpen}
 use Rattle.fault_handler.proofs.PageLists.{found-uid, found-page}
 use Rattle.fault_handler.proofs.Moves.{moving-uid, moving-page}
-use Rattle.fault_handler.proofs.PageKeeps.{marked-there, IsDesk-with_sent_again}
+use Rattle.fault_handler.proofs.PageKeeps.{marked-there}
 use Rattle.fault_handler.proofs.KnownKeeps.{IsDesk-with_raised}
 use Rattle.fault_handler.proofs.TransitKeeps.{open_task, going-marked, dirty-writes, IsDesk-with_arrival, IsDesk-with_loss, IsDesk-with_room_settled, IsIdle-with_arrival, IsIdle-with_loss, IsIdle-with_room_settled}
 use Rattle.fault_handler.proofs.Outcomes.{Holds, each-some}
@@ -209,7 +209,6 @@ module _ (d : DeskState) (p : ℕ) (is : IsDesk d) (proc : IsProc p) (access : I
     page_by_stamp-after : (task : Task) (stamp : ℕ) (bytes : List ℕ) → IsCome d p task stamp bytes → (old : Bool) → IsDoneAfter d.node d.nodes p op (page_by_stamp d p task stamp bytes old)
     page_by_stamp-after task stamp bytes come true = (
       record {
-        desk = is;
         node = refl;
         nodes = refl;
         asks = (home-kept d p task.uid is proc come.allowed.kept, (refl, come.allowed.range.page));
@@ -247,7 +246,6 @@ module _ (d : DeskState) (p : ℕ) (is : IsDesk d) (proc : IsProc p) (access : I
         let writes : any_writes d.entries r.uid ≡ true = dirty-writes d p is proc r.uid r.page sent.dirty in
         let shown = rw sent.found at (is.pages.each r.uid r.page) in (
           record {
-            desk = IsDesk-with_sent_again (with_raised d r.uid stamp) r.uid r.page is_raised marked;
             node = refl;
             nodes = refl;
             asks = (home-written d r.uid is writes, page_out-asked (with_raised d r.uid stamp) is_raised r.uid r.page r.bytes shown.page shown.bytes writes);

@@ -22,8 +22,6 @@ use Rattle.uid_names.proofs.ListLemmas.{by_cases}
 use Rattle.address_map.specs.declared.mapping.Mapping.{Mapping}
 use Rattle.address_map.specs.Mappings.{is_of, stretch_of, lies_in, mapping_of, mapping_at, target_in, without_mapping}
 use Rattle.address_map.specs.Runs.{lowest_run}
-use Rattle.address_map.proofs.Keeps.{IsLayout-without_mapping}
-use Rattle.address_map.proofs.Changes.{IsLayout-mappings_after}
 use Rattle.address_map.specs.Maps.{IsMapping, is_full, map_answer, mappings_after}
 use Rattle.fault_handler.specs.declared.entries.LockEntry.{LockEntry}
 use Rattle.fault_handler.specs.declared.lengths.Known.{Known}
@@ -37,7 +35,6 @@ use Rattle.fault_handler.specs.Accesses.{desk_op, map_reply, page_access, task_a
 use Rattle.fault_handler.specs.Invariant.{IsProc, IsKnown, IsAllowed, IsDesk}
 use Rattle.fault_handler.specs.Conditions.{IsIdle}
 use Rattle.fault_handler.specs.Next.{IsAt, IsAtOnce}
-use Rattle.fault_handler.proofs.LockKeeps.{IsDesk-with_maps}
 use Rattle.fault_handler.proofs.Outcomes.{IsAfter, Holds, Holds-more}
 use Rattle.fault_handler.proofs.Accessing.{IsDoneAfter, ended-after, page_access-after}
 
@@ -71,7 +68,7 @@ page-within : (offset n : ℕ) → 1 ≤ n → offset + n ≤ MAX_LENGTH → off
 page-within offset n some within = omega (arith, some, within)
 
 -- a process that keeps an object and is Held in a mode that writes keeps it in that mode
-keeps-writes : (o : Option LockEntry) → keeps o ≡ true → may_write (state_in o) ≡ true → keeps_writing o ≡ true
+pub keeps-writes : (o : Option LockEntry) → keeps o ≡ true → may_write (state_in o) ≡ true → keeps_writing o ≡ true
 keeps-writes o kept writes = let a : (is_held (state_in o) && not (is_released o)) ≡ true = kept in let b : not (is_released o) ≡ true = grind (arith, nat_tests, a) in rw (writes, b) refl
 
 -- a load or store is at its spot
@@ -94,8 +91,8 @@ module _ (d : DeskState) (p : ℕ) (is : IsDesk d) (proc : IsProc p) (idle : IsI
 
     load_by-after : (spot : Spot) → IsAt spot (task_at u offset (works.Load count)) → (held past : Bool) → is_held (state_of d p u) ≡ held → nat_lt (length_of (known_of u d.known)) (offset + count) ≡ past
         → Holds p (IsAfter d.node d.nodes p (Load spot count)) (load_by d p (task_at u offset (works.Load count)) held past)
-    load_by-after spot spots false past h e = ended-after d p (Load spot count) Reply.NoLock is idle tt
-    load_by-after spot spots true true h e = ended-after d p (Load spot count) Reply.PastEnd is idle tt
+    load_by-after spot spots false past h e = ended-after d p (Load spot count) Reply.NoLock idle tt
+    load_by-after spot spots true true h e = ended-after d p (Load spot count) Reply.PastEnd idle tt
     load_by-after spot spots true false h e =
         Holds-more p (IsDoneAfter d.node d.nodes p (Load spot count)) (IsAfter d.node d.nodes p (Load spot count)) (page_access d p (task_at u offset (works.Load count))) (λ m done. done.0)
         (page_access-after d p (task_at u offset (works.Load count)) is proc idle (load-allowed h e) (Load spot count) (spots, refl))
@@ -114,9 +111,9 @@ module _ (d : DeskState) (p : ℕ) (is : IsDesk d) (proc : IsProc p) (idle : IsI
 
     store_by-after : (spot : Spot) → IsAt spot (task_at u offset (works.Store bytes)) → (held writes past : Bool) → is_held (state_of d p u) ≡ held → may_write (state_of d p u) ≡ writes
         → nat_lt (PAGE_BYTES * room_of (known_of u d.known)) (offset + length bytes) ≡ past → Holds p (IsAfter d.node d.nodes p (Store spot bytes)) (store_by d p (task_at u offset (works.Store bytes)) held writes past)
-    store_by-after spot spots false writes past h w e = ended-after d p (Store spot bytes) Reply.NoLock is idle tt
-    store_by-after spot spots true false past h w e = ended-after d p (Store spot bytes) Reply.WrongMode is idle tt
-    store_by-after spot spots true true true h w e = ended-after d p (Store spot bytes) Reply.PastRoom is idle tt
+    store_by-after spot spots false writes past h w e = ended-after d p (Store spot bytes) Reply.NoLock idle tt
+    store_by-after spot spots true false past h w e = ended-after d p (Store spot bytes) Reply.WrongMode idle tt
+    store_by-after spot spots true true true h w e = ended-after d p (Store spot bytes) Reply.PastRoom idle tt
     store_by-after spot spots true true false h w e =
         Holds-more p (IsDoneAfter d.node d.nodes p (Store spot bytes)) (IsAfter d.node d.nodes p (Store spot bytes)) (page_access d p (task_at u offset (works.Store bytes))) (λ m done. done.0)
         (page_access-after d p (task_at u offset (works.Store bytes)) is proc idle (store-allowed h w e) (Store spot bytes) (spots, refl))
@@ -127,7 +124,7 @@ module _ (d : DeskState) (p : ℕ) (is : IsDesk d) (proc : IsProc p) (idle : IsI
     where
       by_target : (s : Spot) (t : Option (ObjectName × ℕ)) → target_of d p s ≡ t → IfSome t (λ x. x.1 % PAGE_BYTES + count ≤ PAGE_BYTES) → Holds p (IsAfter d.node d.nodes p (Load s count)) (load_at d p count t)
       by_target (Of u offset) None found within = absurd (cc)
-      by_target (Addr address) None found within = ended-after d p (Load (Addr address) count) Reply.NotMapped is idle tt
+      by_target (Addr address) None found within = ended-after d p (Load (Addr address) count) Reply.NotMapped idle tt
       by_target s (Some t) found within = load_by-after t.0 t.1 count range.0 within s (spot-at d p s t (works.Load count) found) (is_held (state_of d p t.0)) (nat_lt (length_of (known_of t.0 d.known)) (t.1 + count)) refl refl
 
   store_at-after : (spot : Spot) (bytes : List ℕ) → IsInPage spot (length bytes) → Holds p (IsAfter d.node d.nodes p (Store spot bytes)) (store_at d p bytes (target_of d p spot))
@@ -135,13 +132,13 @@ module _ (d : DeskState) (p : ℕ) (is : IsDesk d) (proc : IsProc p) (idle : IsI
     where
       by_target : (s : Spot) (t : Option (ObjectName × ℕ)) → target_of d p s ≡ t → IfSome t (λ x. x.1 % PAGE_BYTES + length bytes ≤ PAGE_BYTES) → Holds p (IsAfter d.node d.nodes p (Store s bytes)) (store_at d p bytes t)
       by_target (Of u offset) None found within = absurd (cc)
-      by_target (Addr address) None found within = ended-after d p (Store (Addr address) bytes) Reply.NotMapped is idle tt
+      by_target (Addr address) None found within = ended-after d p (Store (Addr address) bytes) Reply.NotMapped idle tt
       by_target s (Some t) found within =
           store_by-after t.0 t.1 bytes range.0 within s (spot-at d p s t (works.Store bytes) found) (is_held (state_of d p t.0)) (may_write (state_of d p t.0)) (nat_lt (PAGE_BYTES * room_of (known_of t.0 d.known)) (t.1 + length bytes)) refl refl refl
 
   length_by-after : (u : ObjectName) (held : Bool) → Holds p (IsAfter d.node d.nodes p (Length u)) (length_by d u held)
-  length_by-after u false = ended-after d p (Length u) Reply.NoLock is idle tt
-  length_by-after u true = ended-after d p (Length u) _ is idle (length-known (known_of u d.known) (is.known.rows u))
+  length_by-after u false = ended-after d p (Length u) Reply.NoLock idle tt
+  length_by-after u true = ended-after d p (Length u) _ idle (length-known (known_of u d.known) (is.known.rows u))
 
   -- a mapping changes nothing of what lets a process go on
   IsIdle-with_maps : (maps : List Mapping) → IsIdle (with_maps d p maps) p
@@ -193,20 +190,19 @@ run-below count maps = by_run (lowest_run count maps) refl
 
 module _ (d : DeskState) (p : ℕ) (is : IsDesk d) (proc : IsProc p) (idle : IsIdle d p) where
   map_by-after : (u : ObjectName) (held : Bool) → is_held (state_of d p u) ≡ held → Holds p (IsAfter d.node d.nodes p (Map u)) (map_by d p u held)
-  map_by-after u false h = ended-after d p (Map u) Reply.NoLock is idle tt
+  map_by-after u false h = ended-after d p (Map u) Reply.NoLock idle tt
   map_by-after u true h =
       let count = segments (room_of (known_of u d.known)) in
       let maps = mappings_after u count (mapping_of u (maps_of d p)) (is_full (maps_of d p)) (lowest_run count (maps_of d p)) (maps_of d p) in
       ended-after (with_maps d p maps) p (Map u) (map_reply (map_answer (mapping_of u (maps_of d p)) (is_full (maps_of d p)) (lowest_run count (maps_of d p))))
-      (IsDesk-with_maps d p maps is proc (IsLayout-mappings_after u count (maps_of d p) (is.maps p proc) (segments-least d p is proc idle u h)))
       (IsIdle-with_maps d p is proc idle maps)
       (FitsMap-reply (mapping_of u (maps_of d p)) (is_full (maps_of d p)) (lowest_run count (maps_of d p)) (found-holds IsMapping (is_of u) (maps_of d p) (is.maps p proc).each) (run-below count (maps_of d p)))
 
   unmap_by-after : (u : ObjectName) (there : Bool) → Holds p (IsAfter d.node d.nodes p (Unmap u)) (unmap_by d p u there)
-  unmap_by-after u false = ended-after d p (Unmap u) Reply.NotMapped is idle tt
+  unmap_by-after u false = ended-after d p (Unmap u) Reply.NotMapped idle tt
   unmap_by-after u true =
       ended-after (with_maps d p (without_mapping u (maps_of d p))) p (Unmap u) Reply.Fine
-      (IsDesk-with_maps d p (without_mapping u (maps_of d p)) is proc (IsLayout-without_mapping u (maps_of d p) (is.maps p proc))) (IsIdle-with_maps d p is proc idle (without_mapping u (maps_of d p))) tt
+      (IsIdle-with_maps d p is proc idle (without_mapping u (maps_of d p))) tt
 
   -- an access leaves a desk, asks what a home can be asked, replies what its operation can have, and its process is idle
   -- or its call stands

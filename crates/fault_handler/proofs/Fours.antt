@@ -1,5 +1,6 @@
 -- Lemmas on what is kept for each of four processes.
 use Rattle.std.proofs.Common.{◌≡◌, ◌≢◌, ℕ, zero, suc, ◌+◌, ◌-◌, ◌≤◌, Bool, true, false, List, length, Option, None, inl, inr, refl, sym, ap, subst, ◌∙◌, arith}
+use Rattle.std.specs.Prelude.{◌==◌, not, ◌&&◌}
 use Rattle.std.proofs.lemmas.Bool.{cases_eq}
 use Rattle.std.proofs.lemmas.Bool.Decides.{nat_tests}
 use Rattle.std.proofs.lemmas.List.{get_or-set_same, get_or-set_other, length-set}
@@ -120,3 +121,10 @@ count_of-put count moving p new four is =
 -- none has more than all
 pub count_of-at : (count : Option Transit → ℕ) (moving : List (Option Transit)) (p : ℕ) → IsProc p → count (at moving p None) ≤ count_of count moving
 count_of-at count moving = by_proc (λ q. count (at moving q None) ≤ count_of count moving) (omega arith) (omega arith) (omega arith) (omega arith)
+
+-- a test at another process than this one
+pub apart-is : (p q : ℕ) (b : Bool) → (not (q == p) && b) ≡ true → (q ≢ p) × (b ≡ true)
+apart-is p q b h = (grind (arith, nat_tests, h), grind (arith, nat_tests, h))
+
+pub apart-of : (p q : ℕ) (b : Bool) → q ≢ p → b ≡ true → (not (q == p) && b) ≡ true
+apart-of p q b differs is = grind (arith, nat_tests, differs, is)

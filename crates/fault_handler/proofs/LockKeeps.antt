@@ -30,14 +30,14 @@ use Rattle.fault_handler.specs.Lengths.{known_of, is_changed}
 use Rattle.fault_handler.specs.Desks.{DeskState, IsNode, procs, at, put_at, entry_at, any_keeps, any_writes, others_write, entries_of, open_call_of, task_of, moving_of}
 use Rattle.fault_handler.specs.Changes.{with_state, with_note, with_call, with_maps}
 use Rattle.fault_handler.specs.Invariant.{IsProc, IsShownPage, is_dirty, FitsWay, FitsTransit, is_access, MayWork, IsAllowed, KeepsAll, FitsOpen, IsLockEntry, AreEntries, AreLengthsWritten, IsCallAtNode, IsDesk}
-use Rattle.fault_handler.proofs.Fours.{at-put_same, at-put_other, by_proc, length-put, each-put, any-at, any-of, any-more}
+use Rattle.fault_handler.proofs.Fours.{at-put_same, at-put_other, by_proc, length-put, each-put, any-at, any-of, any-more, apart-is}
 use Rattle.fault_handler.proofs.PageLists.{found-uid}
 use Rattle.fault_handler.proofs.Moves.{FitsOpen-task, not_access}
 use Rattle.fault_handler.proofs.TransitKeeps.{keeps_writing-keeps, any_writes-keeps, dirty-writes}
 
 -- an object's own test
-own : (u : ObjectName) → same_uid u u ≡ true
-own u = grind (arith, nat_tests)
+pub same_uid-own : (u : ObjectName) → same_uid u u ≡ true
+same_uid-own u = grind (arith, nat_tests)
 
 -- what is on another object is not on this one
 on_other : (u v : ObjectName) (e : LockEntry) → same_uid v u ≡ false → is_on v e ≡ true → is_on u e ≡ false
@@ -53,7 +53,7 @@ entry_of-without_other u v entries differ = find-filter_leaves (is_on v) (λ e. 
 
 -- the new entry is the object's
 pub entry_of-with_same : (e : LockEntry) (entries : List LockEntry) → entry_of e.uid (entries_with e entries) ≡ Some e
-entry_of-with_same e entries = find-push (is_on e.uid) (entries_without e.uid entries) e ∙ rw (entry_of-without_same e.uid entries, own e.uid) refl
+entry_of-with_same e entries = find-push (is_on e.uid) (entries_without e.uid entries) e ∙ rw (entry_of-without_same e.uid entries, same_uid-own e.uid) refl
 
 pub entry_of-with_other : (e : LockEntry) (v : ObjectName) (entries : List LockEntry) → same_uid v e.uid ≡ false → entry_of v (entries_with e entries) ≡ entry_of v entries
 entry_of-with_other e v entries differ = find-push (is_on v) (entries_without e.uid entries) e ∙ rw (differ, entry_of-without_other e.uid v entries differ) (option_or-none (entry_of v entries))
@@ -334,15 +334,10 @@ module _ (d : DeskState) (p : ℕ) (u : ObjectName) (is : IsDesk d) (proc : IsPr
       (list_any (λ q. test (entry_at noted q v)) procs ≡ true)
       (λ same.
       let found = any-of (λ q. not (q == p) && test (entry_at d.entries q u)) (beside same) in
-      let at_v : test (entry_at noted found.0 u) ≡ true = ap test (noted-elsewhere found.0 found.1 (apart-left found.0 (test (entry_at d.entries found.0 u)) found.2) u) ∙ apart-right found.0 (test (entry_at d.entries found.0 u)) found.2 in
+      let there = apart-is p found.0 (test (entry_at d.entries found.0 u)) found.2 in
+      let at_v : test (entry_at noted found.0 u) ≡ true = ap test (noted-elsewhere found.0 found.1 there.0 u) ∙ there.1 in
       any-at (λ q. test (entry_at noted q v)) found.0 found.1 (subst (λ (w : ObjectName). test (entry_at noted found.0 w) ≡ true) (sym (same_uid_is v u same)) at_v))
       (λ differ. any-more (λ q. test (entry_at d.entries q v)) (λ q. test (entry_at noted q v)) (λ q proc_q h. ap test (noted-others v differ q proc_q) ∙ h) passes)
-    where
-      apart-left : (q : ℕ) (b : Bool) → (not (q == p) && b) ≡ true → q ≢ p
-      apart-left q b h = grind (arith, nat_tests, h)
-
-      apart-right : (q : ℕ) (b : Bool) → (not (q == p) && b) ≡ true → b ≡ true
-      apart-right q b h = grind (arith, nat_tests, h)
 
   -- a process that moves a page is another one, and so is that of a load or store
   mover : (q : ℕ) → IsSome (moving_of d q) → q ≢ p

@@ -6,14 +6,12 @@ use Rattle.uid_names.specs.Names.{ObjectName}
 use Rattle.dom_history.specs.declared.op.Op.{Op}
 use Rattle.dom_history.specs.EndWords.{word_of}
 use Rattle.ring_messages.proofs.Asking.{asked-seen}
-use Rattle.ring_messages.specs.Bodies.{Ask, ask_of, body_of_ask}
 use Rattle.fault_handler.specs.declared.access.Access.{Access}
 use Rattle.fault_handler.specs.Desks.{DeskState}
 use Rattle.fault_handler.specs.Outcomes.{Turn, Outcome, Moved, is_done, reply_as, as_access, seen_access, IsNoRefusal}
 use Rattle.fault_handler.specs.Victims.{Victim, MayMakeRoom, named_victim}
 use Rattle.fault_handler.specs.Accesses.{Accessed, room_made, Comes, Always}
 use Rattle.fault_handler.specs.Unseen.{GivesTo}
-use Rattle.fault_handler.specs.Invariant.{IsDesk}
 use Rattle.fault_handler.specs.Ready.{IsReady}
 use Rattle.fault_handler.specs.Next.{FitsTurn, IsAsked, IsNext}
 use Rattle.fault_handler.proofs.PageLists.{AreOnce}
@@ -21,7 +19,6 @@ use Rattle.fault_handler.proofs.Choice.{named-may}
 
 -- what holds after a call of a desk, of the operation whose call it was
 pub record IsAfter (own all p : ℕ) (op : Op) (m : Moved) : Type 0 where
-  pub desk : IsDesk m.desk
   pub node : m.desk.node ≡ own
   pub nodes : m.desk.nodes ≡ all
   pub asks : IsAsked m.desk.nodes m.turn
@@ -84,17 +81,9 @@ served-access new m access gives served = subst IsNoRefusal (sym gives.1) (by_tu
     by_turn (Turn.Waits u k) is = tt
 
 -- what an operation's call gives, where there is an answer
-pub IfOk-more : {A E : Type 0} (r : Result A E) (P Q : A → Type 0) → ((a : A) → P a → Q a) → IfOk r P → IfOk r Q
-IfOk-more (Ok a) P Q more holds = more a holds
-IfOk-more (Err e) P Q more holds = tt
-
 pub OnOk-more : {A E : Type 0} (r : Result A E) (P : A → Type 0) (Q : Type 0) → ((a : A) → P a → Q) → IfOk r P → OnOk r Q
 OnOk-more (Ok a) P Q more holds = more a holds
 OnOk-more (Err e) P Q more holds = tt
-
-pub OnErr-more : {A E : Type 0} (r : Result A E) (P Q : Type 0) → (P → Q) → OnErr r P → OnErr r Q
-OnErr-more (Ok a) P Q more holds = tt
-OnErr-more (Err e) P Q more holds = more holds
 
 -- what holds of the value that is there holds of each
 pub each-some : {A : Type 0} (o : Option A) (P : A → Type 0) → IfSome o P → ForSome o P

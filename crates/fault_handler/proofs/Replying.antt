@@ -1,10 +1,10 @@
 -- What the code of a desk meets where an answer comes to the call of a load or store.
 use Rattle.std.proofs.Common.{◌≡◌, ◌∙◌, ℕ, nat_lt, Bool, true, false, not, ap, Option, Some, None, IsSome, IfSome, Result, IfOk, List, [], ◌∷◌, take, drop, refl, sym, subst, arith}
+use Rattle.std.proofs.lemmas.Result.{IfOk-weaker}
 use Rattle.std.specs.Option.{option_map}
 use Rattle.std.proofs.lemmas.Option.{same_Some}
 use Rattle.uid_names.specs.Names.{ObjectName}
 use Rattle.std.proofs.lemmas.Bool.Decides.{nat_tests}
-use Rattle.uid_names.proofs.ListLemmas.{by_cases}
 use Rattle.page_cache.specs.Caches.{Resident, is_page, page_at}
 use Rattle.page_cache.specs.Changes.{used, without_page}
 use Rattle.version_stamps.specs.Stamps.{stamp_of}
@@ -12,9 +12,9 @@ use Rattle.dom_history.specs.declared.op.Reply.TheVariants.{Bytes}
 use Rattle.ring_messages.specs.Bodies.{Answer, body_of_ask}
 use Rattle.ring_messages.specs.declared.body.Body.{Body}
 use Rattle.ring_messages.specs.declared.body.Body.TheVariants as bodies
-use Rattle.fault_handler.specs.ShownPages.{fresh_page, changed_page, settled}
+use Rattle.fault_handler.specs.ShownPages.{fresh_page}
 use Rattle.fault_handler.specs.Tasks.{page_of, start_of}
-use Rattle.fault_handler.specs.Unseen.{loaded_from, loaded_at, said_to, GivesTo, ComesTo}
+use Rattle.fault_handler.specs.Unseen.{loaded_from, said_to, GivesTo, ComesTo}
 use Rattle.fault_handler.specs.declared.tasks.Work.{Work}
 use Rattle.fault_handler.specs.declared.tasks.Work.TheVariants.{Load, Store}
 use Rattle.fault_handler.specs.declared.tasks.Task.{Task}
@@ -28,9 +28,8 @@ use Rattle.fault_handler.specs.Accesses.{performed, page_by, page_access, page_o
 use Rattle.fault_handler.specs.PageReplies.{PageAnswer, answer_outward, answer_by, answer_with, page_by_stamp, page_came_of, room_taken, room_sent_again}
 use Rattle.fault_handler.specs.Conditions.{IsIdle, IsAccessing, MayWantAt}
 use Rattle.fault_handler.specs.Invariant.{IsProc, IsDesk, IsAllowed, is_marked}
-use Rattle.fault_handler.proofs.PageLists.{is_same, same-uid, same-page, found-uid, found-page, without_page-none, page_at-changed_same, page_at-changed_other}
+use Rattle.fault_handler.proofs.PageLists.{found-uid, found-page, without_page-none}
 use Rattle.fault_handler.proofs.TransitKeeps.{open_task, page-comes, coming-absent, going-marked}
-use Rattle.fault_handler.proofs.Outcomes.{IfOk-more}
 use Rattle.fault_handler.proofs.Accessing.{stamp-seen}
 
 -- what holds of the load or store that is open holds of it, whichever it is
@@ -58,7 +57,7 @@ module _ (d : DeskState) (p : ℕ) (is : IsDesk d) (proc : IsProc p) where
   pub loaded-open : {E : Type 0} (r : Result (Option (List ℕ)) E) (bytes : List ℕ) (task : Task) → task_of d p ≡ Some task → IfOk r (λ loaded. loaded ≡ loaded_from bytes (start_of task) task.work)
       → IfOk r (λ loaded. IfSome (task_of d p) (λ t. loaded ≡ loaded_from bytes (start_of t) t.work))
   loaded-open r bytes task there =
-      IfOk-more r (λ loaded. loaded ≡ loaded_from bytes (start_of task) task.work) (λ loaded. IfSome (task_of d p) (λ t. loaded ≡ loaded_from bytes (start_of t) t.work))
+      IfOk-weaker r (λ loaded. loaded ≡ loaded_from bytes (start_of task) task.work) (λ loaded. IfSome (task_of d p) (λ t. loaded ≡ loaded_from bytes (start_of t) t.work))
       (λ loaded takes. of_task (λ t. loaded ≡ loaded_from bytes (start_of t) t.work) (task_of d p) task there takes)
 
 module _ (d : DeskState) (p : ℕ) (is : IsDesk d) (proc : IsProc p) (u : ObjectName) (k : ℕ) where
@@ -179,23 +178,6 @@ module _ (d : DeskState) (p : ℕ) (is : IsDesk d) (proc : IsProc p) (u : Object
             subst (λ (v : ObjectName). ComesTo p new (page_access (with_raised (with_room_settled d p v r.page true) v stamp) p task) answer) (sym (found-uid d.cache.pages u k r found))
             (subst (λ (j : ℕ). ComesTo p new (page_access (with_raised (with_room_settled d p u j true) u stamp) p task) answer) (sym (found-page d.cache.pages u k r found)) gives)
 
--- a load takes as much from its page once another's way home was settled, and as many frames are free
-pub loaded-settled : (pages : List Resident) (u : ObjectName) (k : ℕ) (taken : Bool) (task : Task) → loaded_at (page_at (changed_page u k (settled taken) pages) task.uid (page_of task)) task ≡ loaded_at (page_at pages task.uid (page_of task)) task
-loaded-settled pages u k taken task =
-    by_cases
-    (is_same task.uid (page_of task) u k)
-    (loaded_at (page_at (changed_page u k (settled taken) pages) task.uid (page_of task)) task ≡ loaded_at (page_at pages task.uid (page_of task)) task)
-    (λ same.
-    at_same task.uid (page_of task) (same-uid task.uid (page_of task) u k same) (same-page task.uid (page_of task) u k same))
-    (λ differ. ap (λ (o : Option Resident). loaded_at o task) (page_at-changed_other u k (settled taken) (λ v j r. refl) pages task.uid (page_of task) differ))
-  where
-    by_page : (o : Option Resident) → loaded_at (option_map (settled taken) o) task ≡ loaded_at o task
-    by_page None = refl
-    by_page (Some r) = refl
-
-    at_same : (v : ObjectName) (j : ℕ) → v ≡ u → j ≡ k → loaded_at (page_at (changed_page u k (settled taken) pages) v j) task ≡ loaded_at (page_at pages v j) task
-    at_same v j uid page = rw (uid, page) (ap (λ (o : Option Resident). loaded_at o task) (page_at-changed_same u k (settled taken) (λ w i r. refl) pages) ∙ by_page (page_at pages u k))
-
 -- what the process moves, by its way
 pub moves-coming : (d : DeskState) (p : ℕ) (t : Transit) → moving_of d p ≡ Some t → t.inward ≡ true → moving_of d p ≡ coming t.uid t.page
 moves-coming d p t moves comes = moves ∙ (λ i. Some (record { uid = t.uid; page = t.page; inward = comes i }))
@@ -225,23 +207,18 @@ pub not-loaded : (o : Option Resident) (start count : ℕ) (work : Work) → wor
 not-loaded None start count work is some taken = cc
 not-loaded (Some r) start count work is some taken = let none : ◌≡◌ {A = Option (List ℕ)} None (loaded_from r.bytes start (Load count)) = rw is at taken in cc
 
--- where a load takes none its page is not resident
-pub absent-unloaded : (o : Option Resident) (task : Task) (count : ℕ) → task.work ≡ Load count → ◌≡◌ {A = Option (List ℕ)} None (loaded_at o task) → o ≡ None
-absent-unloaded None task count is none = refl
-absent-unloaded (Some r) task count is none = absurd (let h : ◌≡◌ {A = Option (List ℕ)} None (loaded_from r.bytes (start_of task) (Load count)) = rw is at none in cc)
-
--- a load from its page, whose bytes were taken
-pub comes-loaded : (d new : DeskState) (p : ℕ) (task : Task) (bytes : List ℕ) → new ≡ with_used d task.uid (page_of task) → ◌≡◌ {A = Option (List ℕ)} (Some bytes) (loaded_at (page_at d.cache.pages task.uid (page_of task)) task)
-    → ComesTo p new (page_access d p task) (Hit (Bytes bytes) [])
-comes-loaded d new p task bytes is takes = by_page (page_at d.cache.pages task.uid (page_of task)) takes
+-- a load from its page
+pub comes-loaded : (d new : DeskState) (p : ℕ) (task : Task) (count : ℕ) (bytes : List ℕ) → task.work ≡ Load count → new ≡ with_used d task.uid (page_of task)
+    → ◌≡◌ {A = Option (List ℕ)} (Some bytes) (option_map (λ r. take count (drop (start_of task) r.bytes)) (page_at d.cache.pages task.uid (page_of task))) → ComesTo p new (page_access d p task) (Hit (Bytes bytes) [])
+comes-loaded d new p task count bytes loads is takes = by_page (page_at d.cache.pages task.uid (page_of task)) takes
   where
-    by_work : (r : Resident) (work : Work) → ◌≡◌ {A = Option (List ℕ)} (Some bytes) (loaded_from r.bytes (start_of task) work) → GivesTo new (performed d task work r) (Hit (Bytes bytes) [])
-    by_work r (Load count) taken = let same : bytes ≡ take count (drop (start_of task) r.bytes) = cc in (is, rw same refl)
-    by_work r (Store stored) taken = absurd (cc)
+    by_work : (r : Resident) (work : Work) → work ≡ Load count → ◌≡◌ {A = Option (List ℕ)} (Some bytes) (Some (take count (drop (start_of task) r.bytes))) → GivesTo new (performed d task work r) (Hit (Bytes bytes) [])
+    by_work r (Load n) loads taken = let same : bytes ≡ take count (drop (start_of task) r.bytes) = cc in let many : n ≡ count = cc in (is, rw (same, many) refl)
+    by_work r (Store stored) loads taken = absurd (cc)
 
-    by_page : (o : Option Resident) → ◌≡◌ {A = Option (List ℕ)} (Some bytes) (loaded_at o task) → ComesTo p new (page_by d p task o) (Hit (Bytes bytes) [])
+    by_page : (o : Option Resident) → ◌≡◌ {A = Option (List ℕ)} (Some bytes) (option_map (λ r. take count (drop (start_of task) r.bytes)) o) → ComesTo p new (page_by d p task o) (Hit (Bytes bytes) [])
     by_page None taken = absurd (cc)
-    by_page (Some r) taken = by_work r task.work taken
+    by_page (Some r) taken = by_work r task.work loads taken
 
 module _ (d new : DeskState) (p : ℕ) (t : Transit) (answer : Access) (moves : moving_of d p ≡ Some t) where
   -- what a page that came says

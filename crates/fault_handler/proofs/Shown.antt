@@ -1,5 +1,5 @@
 -- What calls on pages in frames do to the pages as they are shown, by their names.
-use Rattle.std.proofs.Common.{◌≡◌, ◌∙◌, ℕ, ◌≤◌, Bool, true, false, not, List, [], ◌∷◌, map, filter, reverse, take, drop, Option, Some, None, IsSome, IfSome, IfNone, Result, Ok, Err, IfOk, OnErr, is_some, count_by, refl, sym, ap, subst, arith}
+use Rattle.std.proofs.Common.{◌≡◌, ◌∙◌, ℕ, ◌≤◌, Bool, true, false, not, List, [], ◌∷◌, map, filter, reverse, take, drop, Option, Some, None, IsSome, IfSome, IfNone, is_some, count_by, refl, sym, ap, subst, arith}
 use Rattle.std.specs.Bool.{OnTrue, OnFalse}
 use Rattle.std.proofs.lemmas.List.{reverse-append, map-append}
 use Rattle.std.specs.List.{find}
@@ -12,12 +12,11 @@ use Rattle.page_cache.specs.Victims.{is_clean_choice, is_dirty_choice, oldest, v
 use Rattle.page_cache.specs.Numbers.{is_dirty_of, numbers, least, rising, dirty_page, resident_pages}
 use Rattle.uid_names.proofs.Finds.{find-passes}
 use Rattle.uid_names.proofs.ListLemmas.{by_cases, count_by-cons_passes, count_by-cons_fails, find-map, filter-map}
+use Rattle.page_cache.proofs.CacheLemmas.{none_mapped}
 use Rattle.page_cache.proofs.PageLemmas.{changed_in-none}
 use Rattle.fault_handler.specs.ShownPages.{changed_page}
-use Rattle.fault_handler.specs.declared.tasks.Task.{Task}
-use Rattle.fault_handler.specs.Tasks.{start_of}
-use Rattle.fault_handler.specs.Unseen.{unframed, loaded_from, loaded_at}
-use Rattle.fault_handler.proofs.PageLists.{without_page-none}
+use Rattle.fault_handler.specs.Unseen.{unframed}
+use Rattle.fault_handler.proofs.PageLists.{without_page-none, page_at-used}
 
 -- a page is resident where it is shown, and the other way round
 pub page_at-shown : (pages : List Resident) (u : ObjectName) (k : ℕ) → page_at (map unframed pages) u k ≡ option_map unframed (page_at pages u k)
@@ -37,12 +36,8 @@ IsResident-unshown pages u k is = IsSome-unmapped unframed (page_at pages u k) (
 pub IsResident-shown : (pages : List Resident) (u : ObjectName) (k : ℕ) → IsResident pages u k → IsResident (map unframed pages) u k
 IsResident-shown pages u k is = rw page_at-shown (IsSome-mapped unframed (page_at pages u k) is)
 
-None-unmapped : {X Y : Type 0} (f : X → Y) (o : Option X) → option_map f o ≡ None → o ≡ None
-None-unmapped f None none = refl
-None-unmapped f (Some x) none = absurd (cc)
-
 pub absent-unshown : (pages : List Resident) (u : ObjectName) (k : ℕ) → page_at (map unframed pages) u k ≡ None → page_at pages u k ≡ None
-absent-unshown pages u k none = None-unmapped unframed (page_at pages u k) (sym (page_at-shown pages u k) ∙ none)
+absent-unshown pages u k none = none_mapped unframed (page_at pages u k) (sym (page_at-shown pages u k) ∙ none)
 
 -- what a page has beside its frame is shown
 part-shown : {X : Type 0} (part : Resident → X) → ((r : Resident) → part (unframed r) ≡ part r) → (o : Option Resident) → option_map part (option_map unframed o) ≡ option_map part o
@@ -69,13 +64,9 @@ with_front-shown (Some r) pages = refl
 pub used-shown : (pages : List Resident) (u : ObjectName) (k : ℕ) → used (map unframed pages) u k ≡ map unframed (used pages u k)
 used-shown pages u k = rw (page_at-shown pages u k, without_page-shown pages u k) (with_front-shown (page_at pages u k) (without_page pages u k))
 
--- a page that was used is resident
-resident-front : (o : Option Resident) (pages : List Resident) (u : ObjectName) (k : ℕ) → ((r : Resident) → o ≡ Some r → is_page u k r ≡ true) → IsSome o → IsResident (with_front o pages) u k
-resident-front None pages u k passes some = absurd (cc)
-resident-front (Some r) pages u k passes some = rw (passes r refl) refl
-
+-- a page that was used stays resident
 pub IsResident-used : (pages : List Resident) (u : ObjectName) (k : ℕ) → IsResident pages u k → IsResident (used pages u k) u k
-IsResident-used pages u k is = resident-front (page_at pages u k) (without_page pages u k) u k (find-passes (is_page u k) pages) is
+IsResident-used pages u k is = rw page_at-used is
 
 -- a page is changed by its name where its frame is: each stands once
 changed_page-none : (u : ObjectName) (k : ℕ) (change : Resident → Resident) (pages : List Resident) → count_by (is_page u k) pages ≡ 0 → changed_page u k change (map unframed pages) ≡ map unframed pages
@@ -204,11 +195,10 @@ pub cache_by_parts : (f g m n : ℕ) (ps qs : List Resident) → f ≡ g → m �
 cache_by_parts f g m n ps qs frames reserved pages = λ i. record { frames = frames i; reserved = reserved i; pages = pages i }
 
 -- what holds before holds after a load that uses its page or finds none
-pub loaded-keeps : {E : Type 0} (P : Cached → Type 0) (old new : Cached) (u : ObjectName) (k : ℕ) (r : Result (Option (List ℕ)) E) → P old → P (record old { pages = used old.pages u k })
-    → IfOk r (λ loaded. IfSome loaded (λ bytes. new ≡ record old { pages = used old.pages u k })) → IfOk r (λ loaded. IfNone loaded (new ≡ old)) → OnErr r (new ≡ old) → P new
-loaded-keeps P old new u k (Ok (Some bytes)) before after is left unchanged = subst P (sym is) after
-loaded-keeps P old new u k (Ok None) before after is left unchanged = subst P (sym left) before
-loaded-keeps P old new u k (Err e) before after is left unchanged = subst P (sym unchanged) before
+pub loaded-keeps : (P : Cached → Type 0) (old new : Cached) (u : ObjectName) (k : ℕ) (loaded : Option (List ℕ)) → P old → P (record old { pages = used old.pages u k })
+    → IfSome loaded (λ bytes. new ≡ record old { pages = used old.pages u k }) → IfNone loaded (new ≡ old) → P new
+loaded-keeps P old new u k (Some bytes) before after is left = subst P (sym is) after
+loaded-keeps P old new u k None before after is left = subst P (sym left) before
 
 -- and after a store that changes its page or finds none
 pub stored-keeps : (P : Cached → Type 0) (old new changed : Cached) (b : Bool) → P old → P changed → OnTrue b (new ≡ changed) → OnFalse b (new ≡ old) → P new
@@ -223,11 +213,6 @@ taken-there (Some r) start count given bytes has is = let same : r.bytes ≡ giv
 -- none is taken where it is not resident
 pub taken-absent : (pages : List Resident) (u : ObjectName) (k start count : ℕ) → page_at pages u k ≡ None → ◌≡◌ {A = Option (List ℕ)} None (option_map (λ p. take count (drop start p.bytes)) (page_at (map unframed pages) u k))
 taken-absent pages u k start count none = rw (absent-shown pages u k none) refl
-
--- what a load or store takes from its page
-pub loaded-there : {E : Type 0} (o : Option Resident) (task : Task) (given : List ℕ) (r : Result (Option (List ℕ)) E) → option_map (λ p. p.bytes) o ≡ Some given → IfOk r (λ loaded. loaded ≡ loaded_from given (start_of task) task.work) → IfOk r (λ loaded. loaded ≡ loaded_at o task)
-loaded-there None task given r has is = absurd (cc)
-loaded-there (Some p) task given r has is = let same : p.bytes ≡ given = cc in rw same is
 
 -- nothing changes where a page is used that is not resident
 pub used-absent : (pages : List Resident) (u : ObjectName) (k : ℕ) → page_at pages u k ≡ None → used pages u k ≡ pages

@@ -3,12 +3,11 @@ use Rattle.std.specs.Prelude.{◌≡◌, ℕ, Bool, false, not, is_some, [], Opt
 use Rattle.page_cache.specs.Caches.{Resident, Cached, page_at}
 use Rattle.fault_handler.specs.declared.tasks.Work.{Work}
 use Rattle.fault_handler.specs.declared.tasks.Work.TheVariants.{Load, Store}
-use Rattle.fault_handler.specs.declared.tasks.Task.{Task}
 use Rattle.fault_handler.specs.declared.access.Access.{Access}
 use Rattle.fault_handler.specs.declared.access.Access.TheVariants.{Hit, Refuse}
 use Rattle.fault_handler.specs.declared.access.Local.{Local}
 use Rattle.fault_handler.specs.declared.access.Local.TheVariants.{Done, Refused, Misses}
-use Rattle.fault_handler.specs.Tasks.{page_of, start_of}
+use Rattle.fault_handler.specs.Tasks.{page_of}
 use Rattle.fault_handler.specs.Desks.{DeskState}
 use Rattle.fault_handler.specs.Outcomes.{Moved, Gives, as_access}
 use Rattle.fault_handler.specs.Accesses.{Accessed, DeskOp, Comes, page_by}
@@ -31,10 +30,10 @@ abbrev pub loaded_from : List ℕ → ℕ → Work → Option (List ℕ)
 loaded_from page start (Load count) = Some (take count (drop start page))
 loaded_from page start (Store bytes) = None
 
--- what it takes where its page is resident
-abbrev pub loaded_at : Option Resident → Task → Option (List ℕ)
-loaded_at None task = None
-loaded_at (Some r) task = loaded_from r.bytes (start_of task) task.work
+-- how many bytes these are
+abbrev pub loaded_size : Work → ℕ
+loaded_size (Load count) = count
+loaded_size (Store bytes) = 0
 
 -- the desk and the access are those that are given
 abbrev pub GivesTo : DeskState → Moved → Access → Type 0

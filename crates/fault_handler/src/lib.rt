@@ -9,8 +9,6 @@ pub mod lengths;
 pub mod open_call;
 mod pages;
 pub mod tasks;
-#[cfg(test)]
-mod tests;
 pub mod transits;
 
 pub use access::Access;

@@ -1,5 +1,5 @@
 //! A node's resident pages by their names. Which frame a page is in stays in here.
-ghost use Rattle.std.specs.Prelude.{◌≡◌, ℕ, ◌+◌, ◌-◌, ◌<◌, ◌≤◌, List, [], ◌∷◌, length, take, drop, false, not, ◌&&◌, is_some, Some, None, IfOk, IfSome, IfNone, OnOk, OnErr};
+ghost use Rattle.std.specs.Prelude.{◌≡◌, ℕ, ◌+◌, ◌-◌, ◌<◌, ◌≤◌, List, [], ◌∷◌, length, take, drop, false, not, ◌&&◌, is_some, Some, None, IfOk, IfSome, IfNone, OnOk, OnErr, vec_capacity};
 ghost use Rattle.std.specs.Bool.{OnTrue, OnFalse};
 ghost use Rattle.std.specs.Option.{option_map};
 ghost use Rattle.page_cache.specs.Caches.{IsCache, IsResident, IsFrame, page_at, page_in, free_count};
@@ -7,10 +7,8 @@ ghost use Rattle.page_cache.specs.Changes.{used, without_page, without_object};
 ghost use Rattle.page_cache.specs.Victims.{victim_of, name_of};
 ghost use Rattle.page_cache.specs.Numbers.{dirty_page, resident_pages};
 ghost use Rattle.fault_handler.specs.ShownPages.{fresh_page, changed_page, stored, as_sent, settled};
-ghost use Rattle.fault_handler.specs.Tasks.{page_of, start_of, size_of};
-ghost use Rattle.fault_handler.specs.Unseen.{loaded_at};
 
-use crate::tasks::{Task, part};
+use crate::tasks::copied;
 use page_cache::{Cache, PageList};
 use page_frames::{FEWEST_FRAMES, Flags, FrameNo, MOST_FRAMES};
 use std::alloc::Global;
@@ -87,31 +85,31 @@ impl ResidentPages {
         }
     }
 
-    /// So many bytes of a page, from one on, which becomes the last used one; None where it is not
-    /// resident. Without memory nothing changes.
+    /// So many bytes of a page, from one on, in a vector with room for them; the page becomes the last used
+    /// one. None where it is not resident. Takes no memory. Inlined, as are those beside it that hand on the
+    /// vector: else it is stored and read again at each load.
+    #[inline(always)]
     pub(crate) fn load(
         &mut self,
-        alloc: Global,
+        room: Vec<u8>,
         uid: Uid,
         page: u32,
         start: u32,
         count: u32,
-    ) -> Result<Option<ByteList>, NoMemory>
+    ) -> Option<ByteList>
         requires within { start + count ≤ PAGE_BYTES }
-        ensures bytes { IfOk result (λ loaded. loaded ≡ option_map (λ r. take count (drop start r.bytes)) (page_at self.old.pages uid page)) }
-        ensures used { IfOk result (λ loaded. IfSome loaded (λ _. self.new ≡ record self.old { pages = used self.old.pages uid page })) }
-        ensures absent { IfOk result (λ loaded. IfNone loaded (page_at self.old.pages uid page ≡ None)) }
-        ensures left { IfOk result (λ loaded. IfNone loaded (self.new ≡ self.old)) }
-        ensures unchanged { OnErr result (self.new ≡ self.old) }
+        requires empty { room.items ≡ [] }
+        requires room { count ≤ vec_capacity room }
+        ensures bytes { result ≡ option_map (λ r. take count (drop start r.bytes)) (page_at self.old.pages uid page) }
+        ensures used { IfSome result (λ _. self.new ≡ record self.old { pages = used self.old.pages uid page }) }
+        ensures absent { IfNone result (page_at self.old.pages uid page ≡ None) }
+        ensures left { IfNone result (self.new ≡ self.old) }
     {
-        match self.cache.find(uid, page) {
-            Some(frame) => {
-                let bytes = part(alloc, self.cache.bytes(frame), start, count)?;
-                self.cache.touch(uid, page);
-                Ok(Some(bytes))
-            }
-            None => Ok(None),
-        }
+        let Some(frame) = self.cache.use_page(uid, page) else {
+            return None;
+        };
+        let bytes = copied(room, self.cache.bytes(frame), start, count);
+        Some(bytes)
     }
 
     /// The bytes of a resident page.
@@ -120,25 +118,6 @@ impl ResidentPages {
         ensures { option_map (λ r. r.bytes) (page_at self.now.pages uid page) ≡ Some result }
     {
         *self.cache.bytes(frame_of(&self.cache, uid, page))
-    }
-
-    /// The page becomes the last used one.
-    pub(crate) fn touch(&mut self, uid: Uid, page: u32)
-        requires { IsResident self.old.pages uid page }
-        ensures { self.new ≡ record self.old { pages = used self.old.pages uid page } }
-    {
-        self.cache.touch(uid, page);
-    }
-
-    /// The bytes that a load takes from its page, where that is resident; None of a store.
-    pub(crate) fn loaded(&self, alloc: Global, task: &Task) -> Result<Option<ByteList>, NoMemory>
-        requires { start_of task.now + size_of task.now.work ≤ PAGE_BYTES }
-        ensures { IfOk result (λ loaded. loaded ≡ loaded_at (page_at self.now.pages task.now.uid (page_of task.now)) task.now) }
-    {
-        match self.cache.find(task.uid, task.page()) {
-            Some(frame) => task.loaded(alloc, self.cache.bytes(frame)),
-            None => Ok(None),
-        }
     }
 
     /// Stores bytes in a page, which becomes the last used one, if it is resident: tells whether it is.

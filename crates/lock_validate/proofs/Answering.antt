@@ -28,17 +28,18 @@ use Rattle.lock_validate.specs.Faults.{failed, call_failed_of}
 use Rattle.fault_handler.proofs.Fours.{at-put_same}
 use Rattle.fault_handler.proofs.KnownKeeps.{IsDesk-with_raised, IsDesk-with_length_done}
 use Rattle.fault_handler.proofs.TransitKeeps.{keeps_writing-keeps, IsDesk-with_page_done}
+use Rattle.fault_handler.proofs.Outcomes.{IsAfter}
 use Rattle.lock_validate.proofs.Entries.{keeping-set}
-use Rattle.lock_validate.proofs.Good.{IsGood, ended-good}
+use Rattle.lock_validate.proofs.Good.{ended-good}
 use Rattle.lock_validate.proofs.Releasing.{release_of-good}
 use Rattle.lock_validate.proofs.Standing.{AnswerStands, stands-answer, closed-stands, call-stands, closed-desk, closed-call, own-call}
 
 -- good from a desk of the same node, and for the same operation by another name
-pub good-from : (d e : DeskState) (p : ℕ) (op : Op) (m : Moved) → e.node ≡ d.node → e.nodes ≡ d.nodes → IsGood e p op m → IsGood d p op m
+pub good-from : (d e : DeskState) (p : ℕ) (op : Op) (m : Moved) → e.node ≡ d.node → e.nodes ≡ d.nodes → IsAfter e.node e.nodes p op m → IsAfter d.node d.nodes p op m
 good-from d e p op m node nodes good = record { asks = good.asks; next = good.next; ready = good.ready; fits = good.fits; node = good.node ∙ node; nodes = good.nodes ∙ nodes }
 
-good-as : (d : DeskState) (p : ℕ) (op same : Op) (m : Moved) → op ≡ same → IsGood d p same m → IsGood d p op m
-good-as d p op same m own = subst (λ (o : Op). IsGood d p o m) (sym own)
+good-as : (d : DeskState) (p : ℕ) (op same : Op) (m : Moved) → op ≡ same → IsAfter d.node d.nodes p same m → IsAfter d.node d.nodes p op m
+good-as d p op same m own = subst (λ (o : Op). IsAfter d.node d.nodes p o m) (sym own)
 
 -- an unlock or a removal whose lock is kept
 release-kept : (delete : Bool) (u : ObjectName) → Fits (release_op delete u) Kept
@@ -57,17 +58,17 @@ module _ (d : DeskState) (p : ℕ) (is : IsDesk d) (proc : IsProc p) (no_call : 
   lock-idle : (u : ObjectName) → LockStands d p u → IsIdle d p
   lock-idle u stands = record { no_call = no_call; no_page = stands.still; keeping = stands.others }
 
-  granted-good : (u : ObjectName) (m : Mode) (grant stamp room n : ℕ) (alone : Bool) (seen : Option ℕ) → LockStands d p u → IsGood d p (ops.Lock u m) (granted d p u m grant stamp room n alone seen)
+  granted-good : (u : ObjectName) (m : Mode) (grant stamp room n : ℕ) (alone : Bool) (seen : Option ℕ) → LockStands d p u → IsAfter d.node d.nodes p (ops.Lock u m) (granted d p u m grant stamp room n alone seen)
   granted-good u m grant stamp room n alone seen stands =
       let set = set-idle u (Held m) grant stands.still (λ v differs. stands.others v) in
       ended-good d (with_state (learned (alone && is_fresh stamp seen) (after_drop (alone && not (is_seen stamp seen)) d u) u stamp room n) p u (Held m) grant) p (ops.Lock u m) refl refl Fine
       (dropped_of (alone && not (is_seen stamp seen)) d u) (record { no_call = set.no_call; no_page = set.no_page; keeping = set.keeping }) tt
 
-  gone-good : (u : ObjectName) (m : Mode) (keeping : Bool) → LockStands d p u → IsGood d p (ops.Lock u m) (gone d u keeping)
+  gone-good : (u : ObjectName) (m : Mode) (keeping : Bool) → LockStands d p u → IsAfter d.node d.nodes p (ops.Lock u m) (gone d u keeping)
   gone-good u m keeping stands =
       ended-good d (after_drop (not keeping) d u) p (ops.Lock u m) refl refl NoObject (dropped_of (not keeping) d u) (record { no_call = no_call; no_page = stands.still; keeping = stands.others }) tt
 
-  removed-good : (u : ObjectName) (keeping : Bool) → ReleaseStands d p u → IsGood d p (ops.Delete u) (removed (with_state d p u Free 0) u keeping)
+  removed-good : (u : ObjectName) (keeping : Bool) → ReleaseStands d p u → IsAfter d.node d.nodes p (ops.Delete u) (removed (with_state d p u Free 0) u keeping)
   removed-good u keeping stands =
       let e = with_state d p u Free 0 in
       let set = set-idle u Free 0 stands.still stands.others in
@@ -79,21 +80,21 @@ module _ (d : DeskState) (p : ℕ) (is : IsDesk d) (proc : IsProc p) (no_call : 
     seen : IsSome (stamp_of u d.seen)
     seen = is.known.kept p proc u (keeps_writing-keeps (entry_at d.entries p u) writer.writes)
 
-    page-settled-good : (taken : Bool) → IsGood d p (release_op delete u) (release_of (with_raised (with_page_done d p taken) u stamp) p u delete)
+    page-settled-good : (taken : Bool) → IsAfter d.node d.nodes p (release_op delete u) (release_of (with_raised (with_page_done d p taken) u stamp) p u delete)
     page-settled-good taken =
         let e = with_raised (with_page_done d p taken) u stamp in
         good-from d e p (release_op delete u) (release_of e p u delete) refl refl
         (release_of-good e p u (IsDesk-with_raised (with_page_done d p taken) u stamp (IsDesk-with_page_done d p is proc taken other) seen least) proc
         (record { no_call = no_call; no_page = at-put_same d.moving p None None is.four.moving proc; keeping = writer.others }) delete writer.writes writer.may)
 
-    length-settled-good : (n : ℕ) (taken : Bool) → moving_of d p ≡ None → IsGood d p (release_op delete u) (release_of (with_raised (with_length_done d u n taken) u stamp) p u delete)
+    length-settled-good : (n : ℕ) (taken : Bool) → moving_of d p ≡ None → IsAfter d.node d.nodes p (release_op delete u) (release_of (with_raised (with_length_done d u n taken) u stamp) p u delete)
     length-settled-good n taken still =
         let e = with_raised (with_length_done d u n taken) u stamp in
         good-from d e p (release_op delete u) (release_of e p u delete) refl refl
         (release_of-good e p u (IsDesk-with_raised (with_length_done d u n taken) u stamp (IsDesk-with_length_done d u n taken is) seen least) proc
         (record { no_call = no_call; no_page = still; keeping = writer.others }) delete writer.writes writer.may)
 
-  pub answered-good : (op : Op) (a : LockAnswer) → AnswerStands d p op a → IsGood d p op (answered d p a)
+  pub answered-good : (op : Op) (a : LockAnswer) → AnswerStands d p op a → IsAfter d.node d.nodes p op (answered d p a)
   answered-good op (LockAnswer.Granted u m grant stamp room n) stands =
       good-as d p op (ops.Lock u m) (answered d p (LockAnswer.Granted u m grant stamp room n)) stands.1
       (granted-good u m grant stamp room n (not (others_keep d.entries p u)) (stamp_of u d.seen) stands.0)
@@ -113,7 +114,7 @@ module _ (d : DeskState) (p : ℕ) (is : IsDesk d) (proc : IsProc p) (no_call : 
       good-as d p op (ops.Delete u) (answered d p (LockAnswer.Removed u)) stands.2 (removed-good u (any_keeps (with_state d p u Free 0).entries u) stands.0)
 
   -- what a link fault leaves of a call that stands
-  failed-good : (op : Op) (call : LockCall) → CallStands d p call → IsCallOf op None (Some (open_call call)) → IsGood d p op (failed d p call)
+  failed-good : (op : Op) (call : LockCall) → CallStands d p call → IsCallOf op None (Some (open_call call)) → IsAfter d.node d.nodes p op (failed d p call)
   failed-good op (LockCall.Lock u m) stands own =
       good-as d p op (ops.Lock u m) (failed d p (LockCall.Lock u m)) own
       (ended-good d (with_state d p u (Taking m) 0) p (ops.Lock u m) refl refl Doubt [] (set-idle u (Taking m) 0 stands.still (λ v differs. stands.others v)) tt)
@@ -147,12 +148,12 @@ module _ (d : DeskState) (p : ℕ) (is : IsDesk d) (proc : IsProc p) (ready : Is
   answer-stands op x a to own fits range =
       stands-answer (with_call d p None) p op (task_of d p) to call x a fits (closed-stands d p call (call-stands d p is proc ready call opened)) (own-call d p is proc ready call opened op (task_of d p) own) range
 
-  pub answer_came_of-good : (op : Op) (x : Answer) (a : LockAnswer) (to : ℕ) → IsOpen d p op → lock_answer call x ≡ Some a → IsBody to (body_of_answer x) → IsGood d p op (answer_came_of d p a)
+  pub answer_came_of-good : (op : Op) (x : Answer) (a : LockAnswer) (to : ℕ) → IsOpen d p op → lock_answer call x ≡ Some a → IsBody to (body_of_answer x) → IsAfter d.node d.nodes p op (answer_came_of d p a)
   answer_came_of-good op x a to own fits range =
       good-from d (with_call d p None) p op (answer_came_of d p a) refl refl
       (answered-good (with_call d p None) p (closed-desk d p is proc ready call opened) proc (closed-call d p is proc ready call opened) op a (answer-stands op x a to own fits range))
 
-  pub call_failed_of-good : (op : Op) → IsOpen d p op → IsGood d p op (call_failed_of d p call)
+  pub call_failed_of-good : (op : Op) → IsOpen d p op → IsAfter d.node d.nodes p op (call_failed_of d p call)
   call_failed_of-good op own =
       good-from d (with_call d p None) p op (call_failed_of d p call) refl refl
       (failed-good (with_call d p None) p (closed-desk d p is proc ready call opened) proc (closed-call d p is proc ready call opened) op call

@@ -1,9 +1,8 @@
 -- Pages are dropped only at a grant of another stamp than the seen one, or where the object is known to be gone, and where no
 -- process of the node keeps it.
-use Rattle.std.proofs.Common.{◌≡◌, ◌≢◌, ℕ, Bool, true, false, [], Option, Some, None, inl, inr, refl, sym, ap, subst, ◌∙◌, arith}
+use Rattle.std.proofs.Common.{◌≡◌, ℕ, Bool, true, false, [], Option, Some, None, inl, inr, refl, sym, ap, subst, ◌∙◌}
 use Rattle.std.specs.Prelude.{◌==◌, ◌⊎◌, not, ◌&&◌}
 use Rattle.std.proofs.lemmas.Bool.{cases_eq}
-use Rattle.std.proofs.lemmas.Bool.Decides.{nat_tests}
 use Rattle.uid_names.specs.Names.{ObjectName}
 use Rattle.uid_names.proofs.ListLemmas.{by_cases}
 use Rattle.dom_history.specs.declared.op.Op.{Op}
@@ -20,22 +19,19 @@ use Rattle.fault_handler.specs.Ready.{LockStands}
 use Rattle.lock_validate.specs.Releases.{length_first, page_first, transit_first, release_of}
 use Rattle.lock_validate.specs.Answers.{dropped_of, is_seen, answered}
 use Rattle.lock_validate.specs.GrantDrops.{MayDropAt}
-use Rattle.fault_handler.proofs.Fours.{at-put_other, any-at, any-of}
+use Rattle.fault_handler.proofs.Fours.{at-put_other, any-at, any-of, apart-of}
+use Rattle.fault_handler.proofs.Replying.{not-true}
 use Rattle.lock_validate.proofs.States.{free-unheld, unheld-unkept, released-unkept}
 use Rattle.lock_validate.proofs.Standing.{AnswerStands}
 
 -- what tests say of their parts
-left-true : (a b : Bool) → (a && b) ≡ true → a ≡ true
+pub left-true : (a b : Bool) → (a && b) ≡ true → a ≡ true
 left-true true b h = refl
 left-true false b h = absurd (cc)
 
 pub right-true : (a b : Bool) → (a && b) ≡ true → b ≡ true
 right-true true b h = h
 right-true false b h = absurd (cc)
-
-pub not-true : (b : Bool) → not b ≡ true → b ≡ false
-not-true true h = absurd (cc)
-not-true false h = refl
 
 -- an unlock or a removal drops nothing
 module _ (d : DeskState) (p : ℕ) (u : ObjectName) (delete : Bool) where
@@ -66,12 +62,9 @@ module _ (d : DeskState) (p : ℕ) (u : ObjectName) (own : keeps (entry_at d.ent
       elim (cases_eq found.0 p) [
         | inl same ↦ absurd (let kept : keeps (entry_at d.entries p u) ≡ true = subst (λ (r : ℕ). keeps (entry_at d.entries r u) ≡ true) same found.2 in let e : true ≡ false = sym kept ∙ own in cc)
         | inr differs ↦
-            absurd (let there : others_keep d.entries p u ≡ true = any-at (λ q. not (q == p) && keeps (entry_at d.entries q u)) found.0 found.1 (beside found.0 (keeps (entry_at d.entries found.0 u)) differs found.2) in let e : true ≡ false = sym there ∙ others in cc)
+            absurd (let there : others_keep d.entries p u ≡ true = any-at (λ q. not (q == p) && keeps (entry_at d.entries q u)) found.0 found.1 (apart-of p found.0 (keeps (entry_at d.entries found.0 u)) differs found.2) in let e : true ≡ false = sym there ∙ others in cc)
       ])
       (λ h. h)
-    where
-      beside : (q : ℕ) (b : Bool) → q ≢ p → b ≡ true → (not (q == p) && b) ≡ true
-      beside q b differs is = grind (arith, nat_tests, differs, is)
 
   -- the same, where a test says it
   pub alone-unkept : (others : Bool) → others ≡ others_keep d.entries p u → not others ≡ true → any_keeps d.entries u ≡ false

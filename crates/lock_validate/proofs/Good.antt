@@ -11,28 +11,18 @@ use Rattle.fault_handler.specs.declared.open_call.OpenCall.{OpenCall}
 use Rattle.fault_handler.specs.declared.open_call.OpenCall.TheVariants.{Access}
 use Rattle.fault_handler.specs.Desks.{DeskState, IsNode, open_call_of, task_of, moving_of}
 use Rattle.fault_handler.specs.Changes.{with_call}
-use Rattle.fault_handler.specs.Outcomes.{Turn, Moved, waiting}
+use Rattle.fault_handler.specs.Outcomes.{Turn, waiting}
 use Rattle.fault_handler.specs.LockCalls.{LockCall, lock_call, open_call}
 use Rattle.fault_handler.specs.Invariant.{IsProc}
 use Rattle.fault_handler.specs.Conditions.{IsIdle, IsNotAccessing, IsOther}
-use Rattle.fault_handler.specs.Ready.{CallStands, MayStand, IsReadyAt, IsReady}
-use Rattle.fault_handler.specs.Next.{FitsTurn, IsAsked, IsCallOf, IsRequestOf, IsRequest, MayGoOn, IsNext}
+use Rattle.fault_handler.specs.Ready.{CallStands, MayStand, IsReadyAt}
+use Rattle.fault_handler.specs.Next.{IsCallOf, IsRequestOf, IsRequest, MayGoOn}
 use Rattle.lock_validate.specs.Steps.{sent}
 use Rattle.fault_handler.proofs.Fours.{at-put_same}
+use Rattle.fault_handler.proofs.Outcomes.{IsAfter}
+use Rattle.fault_handler.proofs.Accessing.{ready-idle}
 
--- from a desk, by an operation of a process
-pub record IsGood (d : DeskState) (p : ℕ) (op : Op) (m : Moved) : Type 0 where
-  pub asks : IsAsked m.desk.nodes m.turn
-  pub next : IsNext m.desk p op m.turn
-  pub ready : IsReady m.desk p
-  pub fits : FitsTurn op m.turn
-  pub node : m.desk.node ≡ d.node
-  pub nodes : m.desk.nodes ≡ d.nodes
-
--- a process that may go on is ready, and no load or store of it is open
-pub idle-ready : (d : DeskState) (p : ℕ) → IsIdle d p → IsReady d p
-idle-ready d p idle = subst (IsReadyAt d p) (sym idle.no_call) idle
-
+-- no load or store of a process that may go on is open
 pub idle-other : (d : DeskState) (p : ℕ) → IsIdle d p → IsNotAccessing d p
 idle-other d p idle same = let e : None ≡ Some Access = sym idle.no_call ∙ same in cc
 
@@ -53,17 +43,17 @@ open-other (LockCall.Remove u) same = cc
 
 module _ (d e : DeskState) (p : ℕ) (op : Op) (node : e.node ≡ d.node) (nodes : e.nodes ≡ d.nodes) where
   -- the operation ends, on this desk
-  pub ended-good : (reply : Reply) (dropped : List (ObjectName × ℕ)) → IsIdle e p → Fits op reply → IsGood d p op (record { desk = e; turn = Turn.Ends reply; dropped = dropped })
-  ended-good reply dropped idle fits = record { asks = tt; next = idle; ready = idle-ready e p idle; fits = fits; node = node; nodes = nodes }
+  pub ended-good : (reply : Reply) (dropped : List (ObjectName × ℕ)) → IsIdle e p → Fits op reply → IsAfter d.node d.nodes p op (record { desk = e; turn = Turn.Ends reply; dropped = dropped })
+  ended-good reply dropped idle fits = record { asks = tt; next = idle; ready = ready-idle e p idle; fits = fits; node = node; nodes = nodes }
 
   -- it waits
-  pub waiting-good : (u : ObjectName) (k : ℕ) → IsIdle e p → MayGoOn e p op → IsGood d p op (waiting e u k)
-  waiting-good u k idle may = record { asks = tt; next = (idle, may); ready = idle-ready e p idle; fits = tt; node = node; nodes = nodes }
+  pub waiting-good : (u : ObjectName) (k : ℕ) → IsIdle e p → MayGoOn e p op → IsAfter d.node d.nodes p op (waiting e u k)
+  waiting-good u k idle may = record { asks = tt; next = (idle, may); ready = ready-idle e p idle; fits = tt; node = node; nodes = nodes }
 
   -- a home is asked, by a call that is open from then on
   pub sent-good : (call : LockCall) (home : ℕ) (ask : Ask) → length e.calls ≡ 4 → IsProc p → IsNode e.nodes home → IsBody home (body_of_ask ask)
       → IsCallOf op (task_of e p) (Some (open_call call)) → IsRequestOf (moving_of e p) (open_call call) ask
-      → CallStands (with_call e p (Some (open_call call))) p call → IsGood d p op (sent e p call home ask)
+      → CallStands (with_call e p (Some (open_call call))) p call → IsAfter d.node d.nodes p op (sent e p call home ask)
   sent-good call home ask four proc at_node carried own request stands = record {
     asks = (at_node, carried);
     next = (subst (IsCallOf op (task_of e p)) (sym set) own, subst (λ (c : Option OpenCall). IsRequest (moving_of e p) c ask) (sym set) request);

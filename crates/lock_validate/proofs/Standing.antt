@@ -1,5 +1,6 @@
 -- What is known where a home's answer fits an open call that stands, or where a link fault ends one.
 use Rattle.std.proofs.Common.{◌≡◌, ◌≢◌, ℕ, ◌≤◌, true, false, Option, Some, None, IsSome, refl, sym, ap, subst, ◌∙◌}
+use Rattle.std.proofs.lemmas.Option.{same_Some}
 use Rattle.uid_names.specs.Names.{ObjectName}
 use Rattle.uid_names.specs.Steps.{◌>>=◌}
 use Rattle.uid_names.specs.declared.mode.Mode.{Mode}
@@ -36,20 +37,17 @@ AnswerStands d p op (LockAnswer.LengthSettled u n delete taken stamp) = WriterSt
 AnswerStands d p op (LockAnswer.Released u) = ReleaseStands d p u × (op ≡ ops.Unlock u)
 AnswerStands d p op (LockAnswer.Removed u) = ReleaseStands d p u × (is_held (state_of d p u) ≡ true) × (op ≡ ops.Delete u)
 
-some_is : {A : Type 0} (x y : A) → Some x ≡ Some y → x ≡ y
-some_is x y e = cc
-
 pub stands-answer : (d : DeskState) (p : ℕ) (op : Op) (task : Option Task) (to : ℕ) (call : LockCall) (x : Answer) (a : LockAnswer) → lock_answer call x ≡ Some a → CallStands d p call
     → IsCallOf op task (Some (open_call call)) → IsBody to (body_of_answer x) → AnswerStands d p op a
-stands-answer d p op task to (LockCall.Lock u m) (Answer.Granted grant stamp kind room n) a is stands own range = subst (AnswerStands d p op) (some_is (LockAnswer.Granted u m grant stamp room n) a is) (stands, own)
-stands-answer d p op task to (LockCall.Lock u m) (Answer.Conflict q held) a is stands own range = subst (AnswerStands d p op) (some_is (LockAnswer.Refused q held) a is) (u, m, stands, own)
-stands-answer d p op task to (LockCall.Lock u m) Answer.NoObject a is stands own range = subst (AnswerStands d p op) (some_is (LockAnswer.Gone u) a is) (m, stands, own)
-stands-answer d p op task to (LockCall.PageOut u k delete) (Answer.Stored stamp) a is stands own range = subst (AnswerStands d p op) (some_is (LockAnswer.PageSettled u delete true stamp) a is) (stands.0, range, own)
-stands-answer d p op task to (LockCall.PageOut u k delete) (Answer.Stale stamp) a is stands own range = subst (AnswerStands d p op) (some_is (LockAnswer.PageSettled u delete false stamp) a is) (stands.0, range, own)
-stands-answer d p op task to (LockCall.AttrOut u n delete) (Answer.Stored stamp) a is stands own range = subst (AnswerStands d p op) (some_is (LockAnswer.LengthSettled u n delete true stamp) a is) (stands.0, stands.1, range, own)
-stands-answer d p op task to (LockCall.AttrOut u n delete) (Answer.Stale stamp) a is stands own range = subst (AnswerStands d p op) (some_is (LockAnswer.LengthSettled u n delete false stamp) a is) (stands.0, stands.1, range, own)
-stands-answer d p op task to (LockCall.Unlock u) Answer.Done a is stands own range = subst (AnswerStands d p op) (some_is (LockAnswer.Released u) a is) (stands, own)
-stands-answer d p op task to (LockCall.Remove u) Answer.Done a is stands own range = subst (AnswerStands d p op) (some_is (LockAnswer.Removed u) a is) (stands.0, stands.1, own)
+stands-answer d p op task to (LockCall.Lock u m) (Answer.Granted grant stamp kind room n) a is stands own range = subst (AnswerStands d p op) (same_Some (LockAnswer.Granted u m grant stamp room n) a is) (stands, own)
+stands-answer d p op task to (LockCall.Lock u m) (Answer.Conflict q held) a is stands own range = subst (AnswerStands d p op) (same_Some (LockAnswer.Refused q held) a is) (u, m, stands, own)
+stands-answer d p op task to (LockCall.Lock u m) Answer.NoObject a is stands own range = subst (AnswerStands d p op) (same_Some (LockAnswer.Gone u) a is) (m, stands, own)
+stands-answer d p op task to (LockCall.PageOut u k delete) (Answer.Stored stamp) a is stands own range = subst (AnswerStands d p op) (same_Some (LockAnswer.PageSettled u delete true stamp) a is) (stands.0, range, own)
+stands-answer d p op task to (LockCall.PageOut u k delete) (Answer.Stale stamp) a is stands own range = subst (AnswerStands d p op) (same_Some (LockAnswer.PageSettled u delete false stamp) a is) (stands.0, range, own)
+stands-answer d p op task to (LockCall.AttrOut u n delete) (Answer.Stored stamp) a is stands own range = subst (AnswerStands d p op) (same_Some (LockAnswer.LengthSettled u n delete true stamp) a is) (stands.0, stands.1, range, own)
+stands-answer d p op task to (LockCall.AttrOut u n delete) (Answer.Stale stamp) a is stands own range = subst (AnswerStands d p op) (same_Some (LockAnswer.LengthSettled u n delete false stamp) a is) (stands.0, stands.1, range, own)
+stands-answer d p op task to (LockCall.Unlock u) Answer.Done a is stands own range = subst (AnswerStands d p op) (same_Some (LockAnswer.Released u) a is) (stands, own)
+stands-answer d p op task to (LockCall.Remove u) Answer.Done a is stands own range = subst (AnswerStands d p op) (same_Some (LockAnswer.Removed u) a is) (stands.0, stands.1, own)
 stands-answer d p op task to call x a is stands own range = absurd (cc)
 
 -- a call stands on the desk on which it is open no more
@@ -99,11 +97,11 @@ is-open d p call opened = subst (IsCallOf (op_of call) (task_of d p)) (sym opene
 -- which call an open call is
 pub lock_call-is : (oc : OpenCall) (call : LockCall) → lock_call oc ≡ Some call → oc ≡ open_call call
 lock_call-is calls.Access call is = absurd (cc)
-lock_call-is (calls.Lock u m) call is = ap open_call (some_is (LockCall.Lock u m) call is)
-lock_call-is (calls.PageOut u k delete) call is = ap open_call (some_is (LockCall.PageOut u k delete) call is)
-lock_call-is (calls.AttrOut u n delete) call is = ap open_call (some_is (LockCall.AttrOut u n delete) call is)
-lock_call-is (calls.Unlock u) call is = ap open_call (some_is (LockCall.Unlock u) call is)
-lock_call-is (calls.Remove u) call is = ap open_call (some_is (LockCall.Remove u) call is)
+lock_call-is (calls.Lock u m) call is = ap open_call (same_Some (LockCall.Lock u m) call is)
+lock_call-is (calls.PageOut u k delete) call is = ap open_call (same_Some (LockCall.PageOut u k delete) call is)
+lock_call-is (calls.AttrOut u n delete) call is = ap open_call (same_Some (LockCall.AttrOut u n delete) call is)
+lock_call-is (calls.Unlock u) call is = ap open_call (same_Some (LockCall.Unlock u) call is)
+lock_call-is (calls.Remove u) call is = ap open_call (same_Some (LockCall.Remove u) call is)
 
 -- the open call of a process that is one of a lock, an unlock or a removal
 pub lock-opened : (d : DeskState) (p : ℕ) (oc : OpenCall) → open_call_of d p ≡ Some oc → IsSome (lock_call oc) → (call : LockCall) × (open_call_of d p ≡ Some (open_call call)) × (lock_call oc ≡ Some call)
@@ -115,17 +113,17 @@ lock-opened d p oc opened some = by_call (lock_call oc) refl some
 
 -- which answer a body is
 pub answer-is : (body : Body) (x : Answer) → answer_of body ≡ Some x → body ≡ body_of_answer x
-answer-is (bodies.Page stamp bytes) x is = ap body_of_answer (some_is (Answer.Page stamp bytes) x is)
-answer-is (bodies.Stored stamp) x is = ap body_of_answer (some_is (Answer.Stored stamp) x is)
-answer-is (bodies.Stale stamp) x is = ap body_of_answer (some_is (Answer.Stale stamp) x is)
-answer-is bodies.NoGrant x is = ap body_of_answer (some_is Answer.NoGrant x is)
-answer-is bodies.NoObject x is = ap body_of_answer (some_is Answer.NoObject x is)
-answer-is (bodies.Granted grant stamp kind room n) x is = ap body_of_answer (some_is (Answer.Granted grant stamp kind room n) x is)
-answer-is (bodies.Conflict q m) x is = ap body_of_answer (some_is (Answer.Conflict q m) x is)
-answer-is bodies.Done x is = ap body_of_answer (some_is Answer.Done x is)
-answer-is (bodies.Made u) x is = ap body_of_answer (some_is (Answer.Made u) x is)
-answer-is bodies.NoSpace x is = ap body_of_answer (some_is Answer.NoSpace x is)
-answer-is (bodies.Listed rows more) x is = ap body_of_answer (some_is (Answer.Listed rows more) x is)
+answer-is (bodies.Page stamp bytes) x is = ap body_of_answer (same_Some (Answer.Page stamp bytes) x is)
+answer-is (bodies.Stored stamp) x is = ap body_of_answer (same_Some (Answer.Stored stamp) x is)
+answer-is (bodies.Stale stamp) x is = ap body_of_answer (same_Some (Answer.Stale stamp) x is)
+answer-is bodies.NoGrant x is = ap body_of_answer (same_Some Answer.NoGrant x is)
+answer-is bodies.NoObject x is = ap body_of_answer (same_Some Answer.NoObject x is)
+answer-is (bodies.Granted grant stamp kind room n) x is = ap body_of_answer (same_Some (Answer.Granted grant stamp kind room n) x is)
+answer-is (bodies.Conflict q m) x is = ap body_of_answer (same_Some (Answer.Conflict q m) x is)
+answer-is bodies.Done x is = ap body_of_answer (same_Some Answer.Done x is)
+answer-is (bodies.Made u) x is = ap body_of_answer (same_Some (Answer.Made u) x is)
+answer-is bodies.NoSpace x is = ap body_of_answer (same_Some Answer.NoSpace x is)
+answer-is (bodies.Listed rows more) x is = ap body_of_answer (same_Some (Answer.Listed rows more) x is)
 answer-is body x is = absurd (cc)
 
 -- a body that answers the open call of a process, which is not that of a load or store, has what it answers

@@ -51,9 +51,6 @@ deletes-writes Deleting is = absurd (cc)
 pub keeps_writing-writes : (o : Option LockEntry) → keeps_writing o ≡ true → may_write (state_in o) ≡ true
 keeps_writing-writes o is = grind (arith, nat_tests, is)
 
-pub writes-keeps_writing : (o : Option LockEntry) → keeps o ≡ true → may_write (state_in o) ≡ true → keeps_writing o ≡ true
-writes-keeps_writing o kept writes = grind (arith, nat_tests, kept, writes)
-
 -- what is not Held, or is released, is not kept
 pub unheld-unkept : (o : Option LockEntry) → is_held (state_in o) ≡ false → keeps o ≡ false
 unheld-unkept o unheld = grind (arith, nat_tests, unheld)

@@ -132,7 +132,9 @@ impl Desk {
             return Ok(Local::Refused(Reply::PastEnd));
         }
         let page = offset / PAGE_BYTES as u32;
-        match self.load_page(alloc, uid, page, offset % PAGE_BYTES as u32, count)? {
+        // What wants memory comes first.
+        let room = Vec::with_capacity(alloc, count as usize)?;
+        match self.load_page(room, uid, page, offset % PAGE_BYTES as u32, count) {
             Some(bytes) => Ok(Local::Done(Reply::Bytes(bytes))),
             None => {
                 let work = Work::Load(count);

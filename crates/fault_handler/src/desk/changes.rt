@@ -1,9 +1,9 @@
 //! What changes in a desk. Each change leaves a desk that keeps what each desk keeps.
-ghost use Rattle.std.specs.Prelude.{◌≡◌, ◌+◌, ◌/◌, ◌%◌, ◌<◌, ◌≤◌, true, false, is_some, length, take, drop, Some, None, IsSome, IfOk, IfSome, IfNone, OnOk, OnErr, slice_index_or, slice_set};
+ghost use Rattle.std.specs.Prelude.{◌≡◌, ◌+◌, ◌/◌, ◌%◌, ◌<◌, ◌≤◌, true, false, is_some, length, take, drop, Some, None, IsSome, IfOk, IfSome, IfNone, OnOk, OnErr, slice_index_or, slice_set, [], vec_capacity};
 ghost use Rattle.std.specs.Bool.{OnTrue, OnFalse};
 ghost use Rattle.std.specs.Option.{option_map};
 ghost use Rattle.uid_names.specs.Rooms.{IsLength, IsPageNumber};
-ghost use Rattle.page_cache.specs.Caches.{IsResident, page_at, free_count};
+ghost use Rattle.page_cache.specs.Caches.{page_at, free_count};
 ghost use Rattle.version_stamps.specs.Stamps.{stamp_of};
 ghost use Rattle.fault_handler.specs.Entries.{keeps_writing};
 ghost use Rattle.fault_handler.specs.Tasks.{page_of};
@@ -18,37 +18,30 @@ use crate::four::index_of;
 use crate::open_call::OpenCall;
 use crate::tasks::Task;
 use crate::transits::Transit;
-use std::alloc::Global;
 use std::mem;
 use uid_names::{ByteList, NODE_PROCESSES, NoMemory, PAGE_BYTES, ProcId, Uid};
 
 impl Desk {
-    /// A resident page was used.
-    pub(super) fn use_page(&mut self, uid: Uid, page: u32)
-        requires { IsResident self.old.cache.pages uid page }
-        ensures { self.new ≡ with_used self.old uid page }
-    {
-        self.pages.touch(uid, page);
-    }
-
-    /// So many bytes of a page, from one on, which uses it; None where it is not resident. Without memory
-    /// nothing changes.
+    /// So many bytes of a page, from one on, in a vector with room for them, which uses the page; None where
+    /// it is not resident.
+    #[inline(always)]
     pub(super) fn load_page(
         &mut self,
-        alloc: Global,
+        room: Vec<u8>,
         uid: Uid,
         page: u32,
         start: u32,
         count: u32,
-    ) -> Result<Option<ByteList>, NoMemory>
+    ) -> Option<ByteList>
         requires within { start + count ≤ PAGE_BYTES }
-        ensures bytes { IfOk result (λ loaded. loaded ≡ option_map (λ r. take count (drop start r.bytes)) (page_at self.old.cache.pages uid page)) }
-        ensures used { IfOk result (λ loaded. IfSome loaded (λ _. self.new ≡ with_used self.old uid page)) }
-        ensures absent { IfOk result (λ loaded. IfNone loaded (page_at self.old.cache.pages uid page ≡ None)) }
-        ensures left { IfOk result (λ loaded. IfNone loaded (self.new ≡ self.old)) }
-        ensures unchanged { OnErr result (self.new ≡ self.old) }
+        requires empty { room.items ≡ [] }
+        requires room { count ≤ vec_capacity room }
+        ensures bytes { result ≡ option_map (λ r. take count (drop start r.bytes)) (page_at self.old.cache.pages uid page) }
+        ensures used { IfSome result (λ _. self.new ≡ with_used self.old uid page) }
+        ensures absent { IfNone result (page_at self.old.cache.pages uid page ≡ None) }
+        ensures left { IfNone result (self.new ≡ self.old) }
     {
-        self.pages.load(alloc, uid, page, start, count)
+        self.pages.load(room, uid, page, start, count)
     }
 
     /// Stores bytes at an offset of an object, in a page that is resident: tells whether it is. The known

@@ -6,7 +6,7 @@ ghost use Rattle.ring_messages.specs.Ranges.{IsBody};
 ghost use Rattle.dom_history.specs.declared.op.Op.{Op};
 ghost use Rattle.page_cache.specs.Caches.{IsResident, page_at, free_count};
 ghost use Rattle.fault_handler.specs.Tasks.{page_of, start_of};
-ghost use Rattle.fault_handler.specs.Unseen.{loaded_from, loaded_at, said_to, fits_way, ComesTo, GivesTo};
+ghost use Rattle.fault_handler.specs.Unseen.{loaded_from, loaded_size, said_to, fits_way, ComesTo, GivesTo};
 ghost use Rattle.fault_handler.specs.Transits.{coming, going};
 ghost use Rattle.fault_handler.specs.Desks.{task_of, moving_of, base_of};
 ghost use Rattle.fault_handler.specs.Changes.{with_used, with_raised};
@@ -112,14 +112,15 @@ impl Desk {
         }
     }
 
-    /// The bytes that the open load of a process takes from its page, where that is resident.
-    fn loaded_there(&self, alloc: Global, proc: ProcId) -> Result<Option<ByteList>, NoMemory>
+    /// A vector with room for the bytes that the open load of a process takes from its page.
+    fn room_for_bytes(&self, alloc: Global, proc: ProcId) -> Result<Vec<u8>, NoMemory>
         requires { IsAccessing self.now proc.number }
-        ensures { IfOk result (λ loaded. IfSome (task_of self.now proc.number) (λ task. loaded ≡ loaded_at (page_at self.now.cache.pages task.uid (page_of task)) task)) }
+        ensures empty { IfOk result (λ room. room.items ≡ []) }
+        ensures room { IfOk result (λ room. IfSome (task_of self.now proc.number) (λ task. loaded_size task.work ≤ vec_capacity room)) }
     {
         self.kept(proc);
         match &self.tasks[index_of(proc)] {
-            Some(task) => self.pages.loaded(alloc, task),
+            Some(task) => task.room(alloc),
             None => unreachable!(),
         }
     }
@@ -194,55 +195,38 @@ impl Desk {
     {
         self.kept(proc);
         // What wants memory comes first.
-        let loaded = self.loaded_there(alloc, proc)?;
+        let room = self.room_for_bytes(alloc, proc)?;
         let list = self.list_for_one(alloc)?;
         let task = self.settle_room(proc, transit.uid, transit.page, true);
         self.raise(transit.uid, stamp);
-        Ok(self.access_anew(alloc, proc, task, loaded, list))
+        Ok(self.access_anew(alloc, proc, task, room, list))
     }
 
-    /// A load or store that passed its local tests, with the bytes that a load takes from its page and a list
-    /// for the page that makes room. Takes no memory.
+    /// A load or store that passed its local tests, with room for the bytes that a load takes from its page and a
+    /// list for the page that makes room. Takes no memory.
     fn access_anew(
         &mut self,
         alloc: Global,
         proc: ProcId,
         task: Task,
-        loaded: Option<ByteList>,
+        room: Vec<u8>,
         list: Vec<(Uid, u32)>,
     ) -> Access
         requires idle { IsIdle self.old proc.number }
         requires allowed { IsAllowed self.old.entries proc.number task }
-        requires loaded { loaded ≡ loaded_at (page_at self.old.cache.pages task.uid (page_of task)) task }
-        requires empty { list.items ≡ [] }
-        requires room { (0 < free_count self.old.cache) ⊎ (1 ≤ vec_capacity list) }
-        ensures outcome { ComesTo proc.number self.new (page_access self.old proc.number task) result }
-    {
-        match loaded {
-            Some(bytes) => {
-                self.use_page(task.uid, task.page());
-                Access::done(alloc, Reply::Bytes(bytes))
-            }
-            None => self.store_anew(alloc, proc, task, list),
-        }
-    }
-
-    /// The same where nothing is loaded: a store, or a load whose page is not resident.
-    fn store_anew(
-        &mut self,
-        alloc: Global,
-        proc: ProcId,
-        task: Task,
-        list: Vec<(Uid, u32)>,
-    ) -> Access
-        requires idle { IsIdle self.old proc.number }
-        requires allowed { IsAllowed self.old.entries proc.number task }
-        requires loaded { None ≡ loaded_at (page_at self.old.cache.pages task.uid (page_of task)) task }
+        requires no_bytes { room.items ≡ [] }
+        requires bytes { loaded_size task.work ≤ vec_capacity room }
         requires empty { list.items ≡ [] }
         requires room { (0 < free_count self.old.cache) ⊎ (1 ≤ vec_capacity list) }
         ensures outcome { ComesTo proc.number self.new (page_access self.old proc.number task) result }
     {
         match &task.work {
+            Work::Load(count) => {
+                match self.load_page(room, task.uid, task.page(), task.start(), *count) {
+                    Some(bytes) => Access::done(alloc, Reply::Bytes(bytes)),
+                    None => self.missed(alloc, proc, task, list),
+                }
+            }
             Work::Store(bytes) => {
                 if self.store_page(proc, task.uid, task.offset, bytes.bytes()) {
                     Access::done(alloc, Reply::Fine)
@@ -250,7 +234,6 @@ impl Desk {
                     self.missed(alloc, proc, task, list)
                 }
             }
-            Work::Load(_) => self.missed(alloc, proc, task, list),
         }
     }
 

@@ -7,8 +7,8 @@ use Rattle.fault_handler.specs.Outcomes.{Moved, ended}
 use Rattle.fault_handler.specs.Conditions.{IsAccessing}
 use Rattle.fault_handler.specs.LockCalls.{lock_call}
 use Rattle.fault_handler.proofs.TransitKeeps.{open_task}
+use Rattle.fault_handler.proofs.Accessing.{ready-idle}
 use Rattle.lock_validate.specs.Faults.{call_failed_of}
-use Rattle.lock_validate.proofs.Good.{idle-ready}
 use Rattle.desk_laws.specs.Causes.{Cause}
 use Rattle.desk_walks.proofs.Keeps.{lock-some, lock-opened, settled-ready}
 use Rattle.desk_walks.proofs.driver.fault.Goals as goal
@@ -20,7 +20,7 @@ returns-in-Some-Access c =
     let access : IsAccessing d p = sym c.open_call.ensures.value ∙ c.in-Some-Access.is ∙ ap (λ (o : OpenCall). Some o) c.in-Some-Access.field-0-is in
     let found = open_task d p c.in_ok-proc.ensures.desk (omega arith, omega arith) access in
     settled-ready d c.access_failed.new.self p c.requires c.in_ok-proc.ensures.desk (omega arith, omega arith) (Cause.AccessFailed found.1)
-    (idle-ready c.access_failed.new.self p c.access_failed.ensures.next)
+    (ready-idle c.access_failed.new.self p c.access_failed.ensures.next)
     (ended (access_failed_of d p found.1) LinkFault) (access, found.3) refl (c.access_failed.ensures.desk found.1 found.3)
 
 pub returns-in-Some : goal.returns-in-Some

@@ -16,10 +16,11 @@ use Rattle.lock_validate.specs.Answers.{answered, answer_came_of, answer_at, loc
 use Rattle.lock_validate.specs.GrantDrops.{MayDropAt}
 use Rattle.fault_handler.proofs.LockKeeps.{IsDesk-with_call}
 use Rattle.fault_handler.proofs.TransitKeeps.{there_is}
+use Rattle.fault_handler.proofs.Outcomes.{each-some}
 use Rattle.lock_validate.proofs.Standing.{op_of, is-open, answers-at, answer-parts}
 use Rattle.lock_validate.proofs.Answering.{answer_came_of-good}
 use Rattle.lock_validate.proofs.Dropping.{may-open}
-use Rattle.lock_validate.proofs.Outcomes.{IsTold, told, for-some}
+use Rattle.lock_validate.proofs.Outcomes.{IsTold, told}
 use Rattle.lock_validate.proofs.answers.answer_came.Goals as goal
 
 pub answered-requires-clause-kept : goal.answered-requires-clause-kept
@@ -45,15 +46,15 @@ returns c =
     let memory : OnErr r (IfSome (answer_at oc body) (MayDropAt (with_call d p None))) =
     subst (λ (e : DeskState). OnErr r (IfSome (answer_at oc body) (MayDropAt e))) c.set_open_call.ensures c.answered.ensures.memory in
     let gives : IfOk r (Gives as_step new (answer_came_of d p found.0)) =
-    IfOk-weaker r (λ (step : Step). IfSome (answer_at oc body) (λ a. Gives as_step new (answer_came_of d p a) step)) (Gives as_step new (answer_came_of d p found.0)) (λ step h. for-some (answer_at oc body) (λ a. Gives as_step new (answer_came_of d p a) step) h found.0 found.1) outcome in
+    IfOk-weaker r (λ (step : Step). IfSome (answer_at oc body) (λ a. Gives as_step new (answer_came_of d p a) step)) (Gives as_step new (answer_came_of d p found.0)) (λ step h. each-some (answer_at oc body) (λ a. Gives as_step new (answer_came_of d p a) step) h found.0 found.1) outcome in
     let tells : (op : Op) → IsOpen d p op → IsTold d new p op r =
     λ op own.
     told d new p op (answer_came_of d p found.0) r
     (answer_came_of-good d p c.open_call-call.ensures.kept (omega arith, omega arith) c.requires.ready parts.0 call_opened op parts.1 found.0 c.args.proc.node own parts.4 range) gives in
     let own = tells (op_of parts.0) (is-open d p parts.0 call_opened) in
     record {
-      outcome = IfOk-weaker r (λ (step : Step). IfSome (answer_at oc body) (λ a. Gives as_step new (answer_came_of d p a) step)) (λ step. ForSome (lock_answer_of d p body) (λ a. Gives as_step new (answer_came_of d p a) step)) (λ step h a is. for-some (answer_at oc body) (λ x. Gives as_step new (answer_came_of d p x) step) h a (rw opened at is)) outcome;
-      memory = on_err_weaker r (λ h a is. may-open d p a (for-some (answer_at oc body) (MayDropAt (with_call d p None)) h a (rw opened at is))) memory;
+      outcome = IfOk-weaker r (λ (step : Step). IfSome (answer_at oc body) (λ a. Gives as_step new (answer_came_of d p a) step)) (λ step. ForSome (lock_answer_of d p body) (λ a. Gives as_step new (answer_came_of d p a) step)) (λ step h a is. each-some (answer_at oc body) (λ x. Gives as_step new (answer_came_of d p x) step) h a (rw opened at is)) outcome;
+      memory = on_err_weaker r (λ h a is. may-open d p a (each-some (answer_at oc body) (MayDropAt (with_call d p None)) h a (rw opened at is))) memory;
       fits = λ op open_it. (tells op open_it).fits;
       asks = own.asks;
       next = λ op open_it. (tells op open_it).next;

@@ -1,15 +1,16 @@
 use Rattle.std.proofs.Common.{refl}
+use Rattle.std.proofs.lemmas.Result.{IfOk-weaker, on_err_weaker}
 use Rattle.ring_messages.specs.Bodies.{Answer}
 use Rattle.fault_handler.specs.PageReplies.{PageAnswer}
 use Rattle.fault_handler.specs.Desks.{task_of}
-use Rattle.fault_handler.proofs.Outcomes.{IfOk-more, OnErr-more, some-each}
+use Rattle.fault_handler.proofs.Outcomes.{some-each}
 use Rattle.fault_handler.proofs.Replying.{moves-coming, not-true, wants-page, comes-sent}
 use Rattle.fault_handler.proofs.desk.Desk.answered.Goals as goal
 
 pub returns-in-Page-clause-memory : goal.returns-in-Page-clause-memory
 returns-in-Page-clause-memory c =
     rw c.in-Page.is
-    (OnErr-more c.page_in_came.result _ _
+    (on_err_weaker c.page_in_came.result
     (λ fresh.
     wants-page c.args.self.now c.args.proc.number c.kept.ensures.desk c.kept.ensures.process c.moved-transit.result.uid c.moved-transit.result.page
     (moves-coming c.args.self.now c.args.proc.number c.moved-transit.result c.moved-transit.ensures.moves (rw c.in-Page.is at c.moved-transit.ensures.fits)) c.in-Page.stamp c.in-Page.bytes fresh)
@@ -18,7 +19,7 @@ returns-in-Page-clause-memory c =
 pub returns-in-Stored-clause-outcome : goal.returns-in-Stored-clause-outcome
 returns-in-Stored-clause-outcome c =
     rw c.in-Stored.is
-    (IfOk-more c.page_taken.result _ _
+    (IfOk-weaker c.page_taken.result _ _
     (λ access gives.
     comes-sent c.args.self.now _ c.args.proc.number c.moved-transit.result access c.moved-transit.ensures.moves (Answer.Stored c.in-Stored.stamp) (λ task r. PageAnswer.Taken task r c.in-Stored.stamp) (λ task r. refl) (λ task. refl)
     (not-true c.moved-transit.result.inward (rw c.in-Stored.is at c.moved-transit.ensures.fits)) gives)

@@ -8,4 +8,4 @@ use Rattle.fault_handler.proofs.desk.Desk.load_page.Goals as goal
 pub invariant_of-self : goal.invariant_of-self
 invariant_of-self c =
     loaded-keeps (λ (cache : Cached). IsDesk (record (desk_of c.self.inside) { cache = cache })) c.self.inside.pages c.load.new.self c.args.uid c.args.page c.load.result c.self.invariant
-    (IsDesk-with_used (desk_of c.self.inside) c.args.uid c.args.page c.self.invariant) c.load.ensures.used c.load.ensures.left c.load.ensures.unchanged
+    (IsDesk-with_used (desk_of c.self.inside) c.args.uid c.args.page c.self.invariant) c.load.ensures.used c.load.ensures.left

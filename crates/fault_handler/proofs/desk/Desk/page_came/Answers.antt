@@ -1,4 +1,5 @@
 use Rattle.std.proofs.Common.{IfSome}
+use Rattle.std.proofs.lemmas.Result.{IfOk-weaker, on_err_weaker}
 use Rattle.dom_history.specs.declared.op.Op.{Op}
 use Rattle.ring_messages.specs.Bodies.{answer_of}
 use Rattle.fault_handler.specs.declared.access.Access.{Access}
@@ -8,7 +9,7 @@ use Rattle.fault_handler.specs.Conditions.{MayWantAt}
 use Rattle.fault_handler.specs.Outcomes.{IsNoRefusal}
 use Rattle.fault_handler.specs.Next.{IsOpen}
 use Rattle.fault_handler.specs.Unseen.{said_to, GivesTo, ComesTo}
-use Rattle.fault_handler.proofs.Outcomes.{Holds, IsTold, told, come-some, some-each, served-access, number-kept, IfOk-more, OnOk-more, OnErr-more}
+use Rattle.fault_handler.proofs.Outcomes.{Holds, IsTold, told, come-some, some-each, served-access, number-kept, OnOk-more}
 use Rattle.fault_handler.proofs.Accessing.{IsDoneAfter}
 use Rattle.fault_handler.proofs.Answering.{page_answer-said, page_came_of-after, some-op, said-some, said-each}
 use Rattle.fault_handler.proofs.desk.Desk.page_came.Goals as goal
@@ -42,34 +43,34 @@ some_told c access given =
     (found.0, is_told c found.0 found.1 access given)
 
 pub returns-clause-outcome : goal.returns-clause-outcome
-returns-clause-outcome c = IfOk-more c.answered.result (Given c) _ (λ access given. said-each c.args.self.now c.args.proc.number (answer_of c.args.body.now) _ given) c.answered.ensures.outcome
+returns-clause-outcome c = IfOk-weaker c.answered.result (Given c) _ (λ access given. said-each c.args.self.now c.args.proc.number (answer_of c.args.body.now) _ given) c.answered.ensures.outcome
 
 pub returns-clause-never : goal.returns-clause-never
-returns-clause-never c = IfOk-more c.answered.result (Given c) _ (λ access given. (some_told c access given).1.1) c.answered.ensures.outcome
+returns-clause-never c = IfOk-weaker c.answered.result (Given c) _ (λ access given. (some_told c access given).1.1) c.answered.ensures.outcome
 
 pub returns-clause-fits : goal.returns-clause-fits
-returns-clause-fits c = IfOk-more c.answered.result (Given c) _ (λ access given o seen op of. (is_told c op of access given).0.fits o seen) c.answered.ensures.outcome
+returns-clause-fits c = IfOk-weaker c.answered.result (Given c) _ (λ access given o seen op of. (is_told c op of access given).0.fits o seen) c.answered.ensures.outcome
 
 pub returns-clause-asks : goal.returns-clause-asks
-returns-clause-asks c = IfOk-more c.answered.result (Given c) _ (λ access given. (some_told c access given).1.0.asks) c.answered.ensures.outcome
+returns-clause-asks c = IfOk-weaker c.answered.result (Given c) _ (λ access given. (some_told c access given).1.0.asks) c.answered.ensures.outcome
 
 pub returns-clause-next : goal.returns-clause-next
-returns-clause-next c = IfOk-more c.answered.result (Given c) _ (λ access given o seen op of. (is_told c op of access given).0.next o seen) c.answered.ensures.outcome
+returns-clause-next c = IfOk-weaker c.answered.result (Given c) _ (λ access given o seen op of. (is_told c op of access given).0.next o seen) c.answered.ensures.outcome
 
 pub returns-clause-ready : goal.returns-clause-ready
 returns-clause-ready c = OnOk-more c.answered.result (Given c) _ (λ access given. (some_told c access given).1.0.ready) c.answered.ensures.outcome
 
 pub returns-clause-memory : goal.returns-clause-memory
 returns-clause-memory c =
-    OnErr-more c.answered.result (IfSome (said_to c.args.self.now c.args.proc.number (answer_of c.args.body.now)) (MayWantAt c.args.self.now)) _
+    on_err_weaker c.answered.result
     (λ may. said-each c.args.self.now c.args.proc.number (answer_of c.args.body.now) (MayWantAt c.args.self.now) may) c.answered.ensures.memory
 
 pub returns-clause-node : goal.returns-clause-node
 returns-clause-node c =
     number-kept (λ (d : DeskState). d.node) c.args.self.now c.answered.new.self c.answered.result
-    (IfOk-more c.answered.result (Given c) _ (λ access given. (some_told c access given).1.0.node) c.answered.ensures.outcome) c.answered.ensures.unchanged
+    (IfOk-weaker c.answered.result (Given c) _ (λ access given. (some_told c access given).1.0.node) c.answered.ensures.outcome) c.answered.ensures.unchanged
 
 pub returns-clause-nodes : goal.returns-clause-nodes
 returns-clause-nodes c =
     number-kept (λ (d : DeskState). d.nodes) c.args.self.now c.answered.new.self c.answered.result
-    (IfOk-more c.answered.result (Given c) _ (λ access given. (some_told c access given).1.0.nodes) c.answered.ensures.outcome) c.answered.ensures.unchanged
+    (IfOk-weaker c.answered.result (Given c) _ (λ access given. (some_told c access given).1.0.nodes) c.answered.ensures.outcome) c.answered.ensures.unchanged

@@ -1,11 +1,8 @@
-use Rattle.std.proofs.Common.{◌∙◌, sym, true}
-use Rattle.fault_handler.proofs.Replying.{loaded-settled, gives-taken}
+use Rattle.fault_handler.proofs.Replying.{gives-taken}
 use Rattle.fault_handler.proofs.desk.Desk.page_taken.Goals as goal
 
-pub access_anew-requires-clause-loaded : goal.access_anew-requires-clause-loaded
-access_anew-requires-clause-loaded c =
-    rw (c.raise.ensures, c.settle_room-task.ensures.settled)
-    ((rw c.settle_room-task.ensures.task at c.in_ok-loaded.ensures) ∙ sym (loaded-settled c.args.self.now.cache.pages c.args.transit.uid c.args.transit.page true c.settle_room-task.result))
+pub access_anew-requires-clause-bytes : goal.access_anew-requires-clause-bytes
+access_anew-requires-clause-bytes c = rw c.settle_room-task.ensures.task at c.in_ok-room.ensures.room
 
 pub returns-clause-outcome : goal.returns-clause-outcome
 returns-clause-outcome c =

@@ -1,18 +1,27 @@
-use Rattle.std.proofs.Common.{◌∙◌, sym}
+use Rattle.std.proofs.Common.{◌∙◌, ap, sym, map}
+use Rattle.std.specs.Option.{option_map}
+use Rattle.page_cache.specs.Caches.{page_at}
 use Rattle.page_cache.proofs.CacheLemmas.{same_cache}
-use Rattle.fault_handler.proofs.Shown.{bytes-shown, absent-shown, used-shown, taken-there, taken-absent}
+use Rattle.fault_handler.specs.Unseen.{unframed}
+use Rattle.fault_handler.proofs.PageLists.{page_at-used}
+use Rattle.fault_handler.proofs.Shown.{bytes-shown, absent-shown, used-shown, used-absent, taken-there, taken-absent}
 use Rattle.fault_handler.proofs.pages.ResidentPages.load.Goals as goal
 
-pub returns-in_ok-bytes-in-Some-clause-bytes : goal.returns-in_ok-bytes-in-Some-clause-bytes
-returns-in_ok-bytes-in-Some-clause-bytes c =
-    rw (← c.self.view_is)
-    (taken-there _ c.args.start c.args.count c.bytes.result.now c.in_ok-bytes-in-Some.bytes (bytes-shown c.self.inside.cache.pages c.args.uid c.args.page ∙ rw c.in-Some.ensures.in_it at c.bytes.ensures) c.in_ok-bytes-in-Some.ensures.bytes)
+pub returns-clause-bytes : goal.returns-clause-bytes
+returns-clause-bytes c =
+    let pages = c.self.inside.cache.pages in
+    let same = ap (λ n. page_at n.pages c.args.uid c.args.page) c.use_page.ensures.pages ∙ page_at-used pages c.args.uid c.args.page c.args.uid c.args.page in
+    let has = bytes-shown pages c.args.uid c.args.page ∙ ap (option_map (λ r. r.bytes)) (sym (c.in-Some.ensures.in_it ∙ same)) ∙ c.bytes.ensures in
+    rw (← c.self.view_is) (taken-there _ c.args.start c.args.count c.bytes.result.now c.copied-bytes.result has c.copied-bytes.ensures)
 
-pub returns-in_ok-bytes-in-Some-clause-used : goal.returns-in_ok-bytes-in-Some-clause-used
-returns-in_ok-bytes-in-Some-clause-used c = rw (← c.self.view_is, c.touch.ensures) (same_cache _ _ _ _ (sym (used-shown c.self.inside.cache.pages c.args.uid c.args.page)))
+pub returns-clause-used : goal.returns-clause-used
+returns-clause-used c = rw (← c.self.view_is, c.use_page.ensures.pages) (same_cache _ _ _ _ (sym (used-shown c.self.inside.cache.pages c.args.uid c.args.page)))
 
-pub returns-in-None-clause-bytes : goal.returns-in-None-clause-bytes
-returns-in-None-clause-bytes c = rw (← c.self.view_is) (taken-absent c.self.inside.cache.pages c.args.uid c.args.page c.args.start c.args.count c.in-None.ensures.absent)
+pub returns-in_default-clause-bytes : goal.returns-in_default-clause-bytes
+returns-in_default-clause-bytes c = rw (← c.self.view_is) (taken-absent c.self.inside.cache.pages c.args.uid c.args.page c.args.start c.args.count c.in_default.ensures.absent)
 
-pub returns-in-None-clause-absent : goal.returns-in-None-clause-absent
-returns-in-None-clause-absent c = rw (← c.self.view_is) (absent-shown c.self.inside.cache.pages c.args.uid c.args.page c.in-None.ensures.absent)
+pub returns-in_default-clause-absent : goal.returns-in_default-clause-absent
+returns-in_default-clause-absent c = rw (← c.self.view_is) (absent-shown c.self.inside.cache.pages c.args.uid c.args.page c.in_default.ensures.absent)
+
+pub returns-in_default-clause-left : goal.returns-in_default-clause-left
+returns-in_default-clause-left c = rw (← c.self.view_is, c.use_page.ensures.pages) (same_cache _ _ _ _ (ap (map unframed) (used-absent c.self.inside.cache.pages c.args.uid c.args.page c.in_default.ensures.absent)))

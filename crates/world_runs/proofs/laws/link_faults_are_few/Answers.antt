@@ -1,0 +1,8 @@
+use Rattle.world_runs.proofs.LostFrames.{few-faults, no-faults}
+use Rattle.world_runs.proofs.laws.link_faults_are_few.Goals as goal
+
+pub returns : goal.returns
+returns c = record {
+  eight_times = λ s plan setup es w planned is timely. few-faults s setup plan es w planned is timely;
+  none = λ s plan setup none es w planned is timely. no-faults plan none s setup es w planned is timely;
+}

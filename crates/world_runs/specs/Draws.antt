@@ -1,0 +1,54 @@
+-- The turns that a seed picks.
+use Rattle.std.specs.Prelude.{◌≡◌, ℕ, zero, suc, ◌+◌, ◌*◌, ◌/◌, ◌%◌, ◌^◌, ◌<◌, Option, Some, List, [], ◌∷◌, map, sum}
+use Rattle.dom_history.specs.declared.plan.FateRow.{FateRow}
+use Rattle.node_runs.specs.Setups.{Setup}
+use Rattle.node_runs.specs.Doings.{node_numbers}
+use Rattle.node_runs.specs.Runs.{World}
+use Rattle.world_runs.specs.Turns.{enabled_events, after_turns}
+
+-- the state of the generator after a draw
+abbrev pub next_state : ℕ → ℕ
+next_state state = (state * 6364136223846793005 + 1442695040888963407) % 2 ^ 64
+
+-- what a draw gives, before it is brought below a bound
+abbrev pub drawn : ℕ → ℕ
+drawn state = state / 2 ^ 33
+
+-- the state after so many draws
+abbrev pub state_after : ℕ → ℕ → ℕ
+state_after seed zero = seed
+state_after seed (suc k) = next_state (state_after seed k)
+
+-- what the first draws gave, the last first
+abbrev pub draws : ℕ → ℕ → List ℕ
+draws seed zero = []
+draws seed (suc k) = drawn (state_after seed (suc k)) ∷ draws seed k
+
+-- the world after so many turns; None where all events were done before
+abbrev pub turns : Setup → List FateRow → ℕ → ℕ → Option World
+turns s plan seed k = after_turns s plan (draws seed k)
+
+-- no node's tick has come so far
+abbrev pub IsBelow : ℕ → World → Type 0
+IsBelow last w = (n : ℕ) → (w.nodes n).tick < last
+
+-- the turns end in this world: no event is enabled, and no tick came to the last one
+pub record EndsIn (s : Setup) (plan : List FateRow) (seed last : ℕ) (w : World) : Type 0 where
+  pub count : ℕ
+  pub comes : turns s plan seed count ≡ Some w
+  pub nothing : enabled_events s plan w ≡ []
+  pub below : IsBelow last w
+
+-- the turns come to the last tick: a turn gives it to this node, and none gave it before
+pub record ComesToLast (s : Setup) (plan : List FateRow) (seed last n : ℕ) : Type 0 where
+  pub count : ℕ
+  pub before : World
+  pub after : World
+  pub comes : turns s plan seed count ≡ Some before
+  pub below : IsBelow last before
+  pub next : turns s plan seed (suc count) ≡ Some after
+  pub tick : (after.nodes n).tick ≡ last
+
+-- the ticks of all nodes together
+abbrev pub ticks_in : World → ℕ
+ticks_in w = sum (map (λ n. (w.nodes n).tick) node_numbers)

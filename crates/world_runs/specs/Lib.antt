@@ -1,0 +1,11 @@
+pub mod Sendings
+pub mod Waiting
+pub mod Links
+pub mod Gone
+pub mod Turns
+pub mod OpenNotices
+pub mod Draws
+pub mod ByPlace
+pub mod Picked
+pub mod Faults
+pub mod SampleTurns
