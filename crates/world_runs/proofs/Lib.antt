@@ -27,3 +27,5 @@ pub mod Ending
 pub mod Sorting
 pub mod Alone
 pub mod Picking
+pub mod AskedNodes
+pub mod NamedNodes

@@ -163,7 +163,7 @@ different (x ∷ xs) pairs = (
 )
 
 -- the events of a run
-done-is : (s : Setup) (es : List Happening) (w : World) → IsRun s es → world_of s es ≡ Some w → w.done ≡ es
+pub done-is : (s : Setup) (es : List Happening) (w : World) → IsRun s es → world_of s es ≡ Some w → w.done ≡ es
 done-is s es w run is = some-is w.done es (sym (ap (λ (o : Option World). option_map (λ (x : World). x.done) o) is) ∙ run)
 
 pub few-faults : (s : Setup) → IsSetup s → (plan : List FateRow) (es : List Happening) (w : World) → IsPlanned s plan es → world_of s es ≡ Some w → IsTimely w → 8 * length (faults_in w.trace) ≤ length (gone_in plan es)

@@ -8,4 +8,5 @@ pub mod Draws
 pub mod ByPlace
 pub mod Picked
 pub mod Faults
+pub mod NamedNodes
 pub mod SampleTurns

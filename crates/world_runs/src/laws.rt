@@ -9,7 +9,7 @@ ghost use Rattle.node_runs.specs.Setups.{Setup, IsSetup};
 ghost use Rattle.fault_handler.specs.Desks.{IsNode, procs};
 ghost use Rattle.node_runs.specs.NodeStates.{emitted_to};
 ghost use Rattle.node_runs.specs.NodesKeep.{IsTimely};
-ghost use Rattle.node_runs.specs.Runs.{Choice, World, AreRising, incoming_of, world_after, world_of};
+ghost use Rattle.node_runs.specs.Runs.{Choice, World, IsRun, AreRising, incoming_of, world_after, world_of};
 ghost use Rattle.node_runs.specs.Incomings.{Incoming};
 ghost use Rattle.node_runs.specs.Deliveries.{is_gone, IsPlanned};
 ghost use Rattle.world_runs.specs.Waiting.{entries_put, entries_taken, waiting};
@@ -20,6 +20,7 @@ ghost use Rattle.call_once.specs.declared.asking.TheConstants.{MOST_NOTICES};
 ghost use Rattle.world_runs.specs.Gone.{gone_in};
 ghost use Rattle.world_runs.specs.Faults.{same_call, faults_in, IsFaultlessNote, notices_of, AreCounted};
 ghost use Rattle.world_runs.specs.Picked.{IsPicked};
+ghost use Rattle.world_runs.specs.NamedNodes.{NamesNodes};
 ghost use Rattle.world_runs.specs.OpenNotices.{open_notices, notices_by, notices_kept};
 ghost use Rattle.node_runs.specs.FirstRun as one;
 ghost use Rattle.node_runs.specs.SecondRun as two;
@@ -153,6 +154,17 @@ pub fn link_faults_are_few()
 pub fn ticks_are_few()
     ensures events { (s : Setup) (cs : List Choice) (w : World) → world_after s cs ≡ Some w → AreCounted w.done }
     ensures nodes { (s : Setup) (cs : List Choice) (w : World) → world_after s cs ≡ Some w → (n : ℕ) → (w.nodes n).tick ≤ length w.done }
+{}
+
+/// In every run, and so in each that a seed picks, an event names nodes of the opening alone: its own, those of the link of the
+/// frame or mark that it takes or of the frame of which it tells, and the one to which it sends.
+pub fn events_name_nodes()
+    ensures worlds { (s : Setup) → IsSetup s → (cs : List Choice) (w : World) → world_after s cs ≡ Some w → IsTimely w →
+        All (NamesNodes s.opening.nodes) w.done }
+    ensures runs { (s : Setup) → IsSetup s → (es : List Happening) (w : World) → IsRun s es → world_of s es ≡ Some w → IsTimely w →
+        All (NamesNodes s.opening.nodes) es }
+    ensures picked { (s : Setup) (plan : List FateRow) (seed last : ℕ) → IsSetup s → last ≤ 2 ^ 40 → (es : List Happening) →
+        IsPicked s plan seed last es → All (NamesNodes s.opening.nodes) es }
 {}
 
 /// The first draws of a seed, and turns that do the events of the sample runs: where the order of turns is not that of
