@@ -1,0 +1,92 @@
+-- Names by their paths: how they are listed, added and removed.
+use Rattle.std.specs.Prelude.{ℕ, Bool, true, Option, Some, None, List, [], ◌∷◌}
+use Rattle.std.specs.Ordering.{nat_cmp, is_lt}
+use Rattle.std.specs.Cmp.Lexicographic.{slice_cmp}
+use Rattle.uid_names.specs.InOrder.{put_in_order}
+use Rattle.uid_names.specs.Names.{ObjectName}
+use Rattle.uid_names.specs.declared.mode.ObjKind.{ObjKind}
+use Rattle.uid_names.specs.declared.mode.ObjKind.TheVariants.{Directory}
+use Rattle.naming_tree.specs.declared.row.DirRow.{DirRow}
+use Rattle.naming_tree.specs.declared.path.Route.{Route}
+use Rattle.naming_tree.specs.declared.site.Site.{Site}
+use Rattle.naming_tree.specs.declared.addition.Addition.{Addition}
+use Rattle.naming_tree.specs.declared.step.Walked.{Walked}
+use Rattle.naming_tree.specs.declared.step.Walked.TheVariants.{Root, At}
+use Rattle.naming_tree.specs.declared.step.NameResult.{NameResult}
+use Rattle.naming_tree.specs.declared.step.NameResult.TheVariants.{Nodes, Rows, NoName, NameExists, NotDir, IsDir, BadDir}
+use Rattle.naming_tree.specs.Directories.{rows_in}
+use Rattle.naming_tree.specs.Paths.{route_of}
+use Rattle.naming_tree.specs.Dialogues.{Dialogue, Ends}
+use Rattle.naming_tree.specs.Sessions.{reading}
+use Rattle.naming_tree.specs.Walks.{start_at, most_links, on_start, along, follow, walking}
+use Rattle.naming_tree.specs.Additions.{add_at}
+use Rattle.naming_tree.specs.Removals.{drop_at}
+
+-- the names before the last one, and that
+abbrev pub behind_first : List ℕ → Option (List (List ℕ) × List ℕ) → Option (List (List ℕ) × List ℕ)
+behind_first name None = Some ([], name)
+behind_first name (Some (front, last)) = Some (name ∷ front, last)
+
+abbrev pub last_of : List (List ℕ) → Option (List (List ℕ) × List ℕ)
+last_of [] = None
+last_of (name ∷ names) = behind_first name (last_of names)
+
+-- what is no directory ends it
+abbrev pub if_directory : ObjKind → Dialogue → Dialogue
+if_directory Directory d = d
+if_directory _ d = Ends NotDir
+
+abbrev pub in_directory : (ObjectName → Dialogue) → Walked → Dialogue
+in_directory next Root = Ends NotDir
+in_directory next (At u kind within) = if_directory kind (next u)
+
+-- a walk of all but the last name, at whose end a link is followed; and on from the directory that it leads to.
+-- A path without a last name leads to nothing, and comes to `alone` by where it starts
+abbrev pub on_last : Site → Option (List (List ℕ) × List ℕ) → Option Walked → (Option Walked → NameResult) → (List ℕ → ObjectName → Dialogue) → Dialogue
+on_last site None start alone next = Ends (alone start)
+on_last site (Some (front, name)) start alone next =
+    on_start start (λ here. along site true (in_directory (next name)) (follow site true (in_directory (next name)) most_links) here front)
+
+abbrev pub by_parent : Site → Option Route → ObjectName → (Option Walked → NameResult) → (List ℕ → ObjectName → Dialogue) → Dialogue
+by_parent site None working alone next = Ends BadDir
+by_parent site (Some route) working alone next = on_last site (last_of route.names) (start_at site working route.start) alone next
+
+-- `//`, and the entry directory of a node
+abbrev pub added_alone : Option Walked → NameResult
+added_alone None = NotDir
+added_alone (Some here) = NameExists
+
+abbrev pub removed_alone : Option Walked → NameResult
+removed_alone None = NoName
+removed_alone (Some here) = IsDir
+
+-- a name is added by its path
+abbrev pub addition : ObjKind → ℕ → Option (List ℕ) → List ℕ → Addition
+addition kind room text name = record { name = name; kind = kind; room = room; text = text }
+
+abbrev pub add_name : Site → List ℕ → ObjectName → ObjKind → ℕ → Option (List ℕ) → Dialogue
+add_name site path working kind room text = by_parent site (route_of path) working added_alone (λ name parent. add_at parent (addition kind room text name))
+
+-- a name is removed by its path
+abbrev pub drop_name : Site → List ℕ → ObjectName → Dialogue
+drop_name site path working = by_parent site (route_of path) working removed_alone (λ name parent. drop_at parent name)
+
+-- rows by their names, in the order of bytes
+abbrev pub row_below : DirRow → DirRow → Bool
+row_below a b = is_lt (slice_cmp nat_cmp a.name b.name)
+
+abbrev pub by_name : List DirRow → List DirRow
+by_name [] = []
+by_name (row ∷ rows) = put_in_order row_below row (by_name rows)
+
+abbrev pub listed : Option (List DirRow) → NameResult
+listed None = BadDir
+listed (Some rows) = Rows (by_name rows)
+
+-- a directory is listed; the root lists the nodes
+abbrev pub listing : Walked → Dialogue
+listing Root = Ends Nodes
+listing (At u kind within) = if_directory kind (reading u (λ bytes. Ends (listed (rows_in bytes))))
+
+abbrev pub list_dir : Site → List ℕ → ObjectName → Dialogue
+list_dir site path working = walking site true listing path working

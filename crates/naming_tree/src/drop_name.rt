@@ -1,0 +1,71 @@
+//! Names that are removed by their paths.
+ghost use Rattle.std.specs.Prelude.{◌≡◌, Some, None, IfOk, OnOk, OnErr, IsSome};
+ghost use Rattle.std.specs.Option.{option_copied};
+ghost use Rattle.naming_tree.specs.Turns.{FitsStood, stood_after, stood_says, IsStep};
+
+use crate::by_path::ByPath;
+use crate::path::Route;
+use crate::site::Site;
+use crate::step::NameStep;
+use dom_history::Reply;
+use std::alloc::Global;
+use std::marker::Model;
+use uid_names::{NoMemory, Uid};
+
+/// Removes a name by its path, with its object.
+///
+/// It is seen as how far it has come; as None once it is over or found no memory, and is then not called again.
+#[derive(Drop)]
+pub struct DropName {
+    by_path: ByPath,
+    over: bool,
+}
+
+impl Model for DropName {
+    ghost use Rattle.std.specs.Prelude.{Option};
+    ghost use Rattle.naming_tree.specs.declared.by_path.ByPath.{ByPath};
+    ghost use Rattle.naming_tree.specs.Turns.{unless, IfStill};
+    ghost use Rattle.naming_tree.specs.ByPaths.{IsByPath};
+
+    ghost Value = { Option ByPath };
+
+    ghost view = { λ m. unless m.over m.by_path };
+
+    ghost invariant = { λ m. IfStill m.over (IsByPath m.by_path) };
+}
+
+impl DropName {
+    ghost use Rattle.naming_tree.specs.Paths.{route_of};
+    ghost use Rattle.naming_tree.specs.ByPaths.{drop_name_of, by_path_after, by_path_asks};
+
+    /// The removal of a path's last name, from a working directory.
+    pub fn new(alloc: Global, site: Site, path: &[u8], working: Uid) -> Result<DropName, NoMemory>
+        requires path { IsSome (route_of path.now) }
+        ensures { IfOk result (λ m. m ≡ drop_name_of site (route_of path.now) working) }
+    {
+        let Some(route) = Route::read(alloc, path)? else {
+            unreachable!()
+        };
+        Ok(DropName {
+            by_path: ByPath::remove(alloc, site, route, working),
+            over: false,
+        })
+    }
+
+    /// Tells it the reply to its operation; nothing at the first call.
+    pub fn next(&mut self, alloc: Global, last: Option<&Reply>) -> Result<NameStep, NoMemory>
+        requires still { IsSome self.old }
+        requires fits { FitsStood by_path_asks self.old (option_copied last) }
+        ensures after { OnOk result (self.new ≡ stood_after by_path_after self.old (option_copied last.entry)) }
+        ensures step { IfOk result (λ step. Some step ≡ stood_says by_path_asks by_path_after self.old (option_copied last.entry)) }
+        ensures range { IfOk result IsStep }
+        ensures memory { OnErr result (self.new ≡ None) }
+    {
+        self.over = true;
+        let step = self.by_path.step(alloc, last)?;
+        if let NameStep::Do(_) = &step {
+            self.over = false;
+        }
+        Ok(step)
+    }
+}

@@ -1,0 +1,77 @@
+//! Records of directories as they are read: free, or of a row. No function takes memory.
+ghost use Rattle.std.specs.Prelude.{◌≡◌, take, drop};
+ghost use Rattle.std.specs.Int.{w64, from_be_bytes};
+ghost use Rattle.naming_tree.specs.Records.{object_of_number, name_in, row_in, spelled, slot_of};
+
+use crate::component::{COMPONENT_BYTES, Component};
+use crate::row::{DirRow, RECORD_BYTES, write_row};
+use uid_names::{ObjKind, Uid};
+
+/// A record of a directory: None where it is free.
+pub(crate) type Slot = Option<DirRow>;
+
+/// The object of a number.
+fn object_of(number: u64) -> Option<Uid>
+    ensures { result ≡ object_of_number number }
+{
+    match Uid::from_number(number) {
+        Ok(uid) => {
+            // Its number is what it was read from.
+            let _number = uid.number();
+            Some(uid)
+        }
+        Err(_) => None,
+    }
+}
+
+/// The number that stands in a record.
+fn number_in(record: &[u8; RECORD_BYTES]) -> u64
+    ensures { result ≡ from_be_bytes w64 (take 8 (drop 36 record.now)) }
+{
+    let mut bytes = [0; 8];
+    bytes.copy_from_slice(&record[36..44]);
+    u64::from_be_bytes(bytes)
+}
+
+/// The name that stands in a record.
+fn name_in(record: &[u8; RECORD_BYTES]) -> Option<Component>
+    ensures { result ≡ name_in record.now }
+{
+    let length = record[1] as usize;
+    if length > COMPONENT_BYTES {
+        return None;
+    }
+    Component::read(&record[2..2 + length])
+}
+
+/// The row that stands in the fields of a record; None where they are of none.
+fn row_in(record: &[u8; RECORD_BYTES]) -> Option<DirRow>
+    ensures { result ≡ row_in record.now }
+{
+    let kind = ObjKind::from_code(record[0])?;
+    let name = name_in(record)?;
+    let uid = object_of(number_in(record))?;
+    Some(DirRow { kind, name, uid })
+}
+
+/// The row of a record, where the record is what is written of it.
+fn row_spelled(record: &[u8; RECORD_BYTES]) -> Option<DirRow>
+    ensures { result ≡ spelled record.now (row_in record.now) }
+{
+    let row = row_in(record)?;
+    if write_row(&row) == *record {
+        Some(row)
+    } else {
+        None
+    }
+}
+
+/// What a record is; None where it is of neither form.
+pub(crate) fn slot(record: &[u8; RECORD_BYTES]) -> Option<Slot>
+    ensures { result ≡ slot_of record.now }
+{
+    if *record == [0; RECORD_BYTES] {
+        return Some(None);
+    }
+    Some(Some(row_spelled(record)?))
+}

@@ -1,0 +1,119 @@
+//! What is done in the directory to which a walk led.
+ghost use Rattle.std.specs.Prelude.{◌≡◌, None, Some, IfOk, OnOk, IfNone, IsSome};
+ghost use Rattle.dom_history.specs.Ranges.{IsOp};
+ghost use Rattle.naming_tree.specs.Turns.{turn_of, FitsAsked};
+ghost use Rattle.naming_tree.specs.Readings.{reading_op, IsReading};
+ghost use Rattle.naming_tree.specs.Tasks.{task_begins, list_on, task_after, task_asks, at_root as result_at_root, IsOn, IsTask};
+ghost use Rattle.naming_tree.specs.declared.task.Task.TheVariants.{List as ListRows};
+ghost use Rattle.naming_tree.specs.NamePaths.{listed as listed_rows};
+ghost use Rattle.naming_tree.specs.Directories.{rows_in};
+
+use crate::adding::Adding;
+use crate::directory::{DirFault, read_dir};
+use crate::listing::by_name;
+use crate::reading::Reading;
+use crate::removing::Removing;
+use crate::step::NameResult;
+use dom_history::{Op, Reply};
+use std::alloc::Global;
+use uid_names::{NoMemory, Uid};
+
+/// What is done in a directory: it is listed, or a name is added to it or removed from it.
+#[derive(Drop)]
+pub enum Task {
+    List(Reading),
+    Add(Adding),
+    Remove(Removing),
+}
+
+/// The rows of a directory that was read, by their names.
+fn listed(alloc: Global, bytes: &[u8]) -> Result<NameResult, NoMemory>
+    ensures { IfOk result (λ r. r ≡ listed_rows (rows_in bytes.now)) }
+{
+    match read_dir(alloc, bytes) {
+        Ok(rows) => Ok(NameResult::Rows(by_name(alloc, rows.items())?)),
+        Err(DirFault::BadDir) => Ok(NameResult::BadDir),
+        Err(DirFault::NoMemory) => Err(NoMemory),
+    }
+}
+
+/// Takes in the reply to an operation of a directory that is listed.
+fn list_on(
+    alloc: Global,
+    reading: &mut Reading,
+    reply: &Reply,
+) -> Result<Option<NameResult>, NoMemory>
+    requires range { IsReading reading.old }
+    requires fits { FitsAsked (Some (reading_op reading.old)) (Some reply.now) }
+    ensures turn { IfOk result (λ r. turn_of r (ListRows reading.new) ≡ task_after (ListRows reading.old) reply.now) }
+    ensures on { IfOk result (λ r. IfNone r (IsReading reading.new)) }
+{
+    reading.hear(alloc, reply)?;
+    if !reading.is_done() {
+        return Ok(None);
+    }
+    match reading.closing.refused.take() {
+        Some(reply) => Ok(Some(NameResult::Store(reply))),
+        None => Ok(Some(listed(alloc, reading.bytes.bytes())?)),
+    }
+}
+
+impl Task {
+    /// Begins in a directory.
+    pub fn begin(&mut self, alloc: Global, dir: Uid)
+        requires { IsTask self.old }
+        ensures turn { turn_of None self.new ≡ task_begins dir self.old }
+        ensures on { IsOn self.new }
+        ensures task { IsTask self.new }
+    {
+        match self {
+            Task::List(reading) => *reading = Reading::new(alloc, dir),
+            Task::Add(adding) => {
+                adding.parent = dir;
+                adding.begin();
+            }
+            Task::Remove(removing) => {
+                removing.parent = dir;
+                removing.begin();
+            }
+        }
+    }
+
+    /// Takes in the reply to its operation.
+    pub fn hear(&mut self, alloc: Global, reply: &Reply) -> Result<Option<NameResult>, NoMemory>
+        requires on { IsOn self.old }
+        requires fits { FitsAsked (task_asks self.old) (Some reply.now) }
+        ensures turn { IfOk result (λ r. turn_of r self.new ≡ task_after self.old reply.now) }
+        ensures on { IfOk result (λ r. IfNone r (IsOn self.new)) }
+        ensures task { IfOk result (λ r. IfNone r (IsTask self.new)) }
+    {
+        match self {
+            Task::List(reading) => list_on(alloc, reading, reply),
+            Task::Add(adding) => adding.hear(alloc, reply),
+            Task::Remove(removing) => removing.hear(alloc, reply),
+        }
+    }
+
+    /// Its operation.
+    pub fn op(&self, alloc: Global) -> Result<Op, NoMemory>
+        requires { IsOn self.now }
+        ensures value { IfOk result (λ op. task_asks self.now ≡ Some op) }
+        ensures range { IfOk result IsOp }
+    {
+        match self {
+            Task::List(reading) => Ok(reading.op()),
+            Task::Add(adding) => adding.op(alloc),
+            Task::Remove(removing) => removing.op(alloc),
+        }
+    }
+
+    /// What it comes to at the root of the network.
+    pub fn at_root(&self) -> NameResult
+        ensures { result ≡ result_at_root self.now }
+    {
+        match self {
+            Task::List(_) => NameResult::Nodes,
+            _ => NameResult::NotDir,
+        }
+    }
+}

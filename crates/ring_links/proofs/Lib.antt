@@ -1,0 +1,5 @@
+pub mod Plain
+pub mod Carrying
+pub mod Coming
+pub mod FirstSoFar
+pub mod Merging

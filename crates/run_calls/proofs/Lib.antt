@@ -1,0 +1,13 @@
+mod Slots
+mod Walks
+mod Settling
+mod Replies
+mod Progressing
+mod Hearing
+mod HearingRuns
+mod HistoryEntries
+mod Rising
+mod Following
+mod Placing
+mod Lasting
+mod Acting
