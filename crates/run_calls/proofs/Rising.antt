@@ -75,7 +75,7 @@ decided-adds x p None answer o doing = nothing
 decided-adds x p (Some op) answer None doing = open-adds x p op answer doing
 decided-adds x p (Some op) answer (Some t) doing = told-adds (is_fault t.reply) x op answer t
 
-note-adds : (w : World) (so_far : List Told) (x : Place) (note : Note) → Adds x (items_of w so_far x note)
+pub note-adds : (w : World) (so_far : List Told) (x : Place) (note : Note) → Adds x (items_of w so_far x note)
 note-adds w so_far x Note.Nothing = nothing
 note-adds w so_far x (Note.Began p op) = begun-adds x (ended_at p x so_far)
 note-adds w so_far x (Note.Did p phase op reply) = one refl

@@ -1,0 +1,4 @@
+pub mod FittingAnswers
+pub mod SingleActs
+pub mod Phases
+pub mod Paced
