@@ -1,0 +1,246 @@
+-- What each kind of event does to the desk of its node.
+use Rattle.std.proofs.Common.{◌≡◌, ℕ, Bool, true, false, List, ◌∷◌, length, Option, Some, None, inl, inr, refl, sym, ap, subst, ◌∙◌}
+use Rattle.std.specs.Prelude.{◌&&◌, nat_le}
+use Rattle.std.proofs.lemmas.Bool.{cases_eq}
+use Rattle.uid_names.specs.Names.{ObjectName, ProcName}
+use Rattle.uid_names.specs.Openings.{Start}
+use Rattle.uid_names.specs.Steps.{◌>>=◌}
+use Rattle.uid_names.specs.declared.mode.ObjKind.{ObjKind}
+use Rattle.dom_history.specs.declared.op.Op.{Op}
+use Rattle.dom_history.specs.declared.op.Op.TheVariants as ops
+use Rattle.dom_history.specs.declared.event.What.{What}
+use Rattle.dom_history.specs.Objects.{is_node}
+use Rattle.dom_history.specs.Ranges.{IsOp, IsWant}
+use Rattle.ring_messages.specs.declared.body.Body.{Body}
+use Rattle.ring_messages.specs.Bodies.{Ask, Answer, answer_of, body_of_answer}
+use Rattle.ring_messages.specs.Ranges.{IsBody}
+use Rattle.fault_handler.specs.declared.open_call.OpenCall.{OpenCall}
+use Rattle.fault_handler.specs.declared.open_call.OpenCall.TheVariants as calls
+use Rattle.fault_handler.specs.Desks.{DeskState, open_call_of, moving_of, at, put_at}
+use Rattle.fault_handler.specs.Outcomes.{Turn, Moved}
+use Rattle.fault_handler.specs.Accesses.{DeskOp, Accessed, Always}
+use Rattle.fault_handler.specs.PageReplies.{page_answer}
+use Rattle.fault_handler.specs.LockCalls.{LockCall, lock_call, lock_answer, open_call}
+use Rattle.fault_handler.specs.Invariant.{IsProc, IsDesk}
+use Rattle.fault_handler.specs.Conditions.{IsIdle, IsAccessing}
+use Rattle.fault_handler.proofs.Fours.{at-put_same, at-put_other}
+use Rattle.lock_validate.specs.Faults.{call_failed_of}
+use Rattle.lock_validate.proofs.Standing.{lock_call-is, answer-is}
+use Rattle.desk_laws.specs.Causes.{Cause, comes_of, MayCome, IsOf}
+use Rattle.desk_laws.specs.Turns.{IsMade}
+use Rattle.desk_laws.proofs.EachCall.{comes_of-made}
+use Rattle.node_runs.specs.Setups.{Given, IsGiven}
+use Rattle.node_runs.specs.NodeStates.{Await, BegunOp, OpenOp, ProcState, NodeState, first_proc, proc_of}
+use Rattle.node_runs.specs.Operations.{new_by, list_by, begun, gone_on, Said, said_to_new, said_to_list, said_to_lock, said_to_call, said_by, said_of, answered, access_failed, call_failed, failed}
+use Rattle.node_runs.specs.Incomings.{Incoming, has_program}
+use Rattle.node_runs.specs.Outcomes.{Stepped, Stage, moved as moved_by_op}
+use Rattle.node_runs.specs.Doings.{begun_at, stage_of, noticed_call, in_next_phase, others_marked}
+use Rattle.node_runs.specs.Dones.{Did, asking, paused, finished, began, resumed, served, passed_over, heard, ignored, resent, gave_up, got_ready, marked}
+use Rattle.node_runs.specs.Rooms.{MayMove}
+use Rattle.node_runs.specs.Agreements.{IsCallOpen, IsCalling, Agrees}
+use Rattle.node_runs.specs.SentFrames.{IsIncoming}
+use Rattle.node_runs.specs.NodesKeep.{IsNodeOf}
+use Rattle.node_runs.proofs.Somes.{some-is, map-some, bind-some}
+use Rattle.node_runs.specs.Steps.{step_of}
+use Rattle.node_runs.specs.Doings.{ticked}
+use Rattle.node_runs.proofs.Doing.{step_of-did}
+use Rattle.node_runs.proofs.Nodes.{node-with}
+use Rattle.node_runs.proofs.SettingUp.{given-procs}
+use Rattle.run_nodes.specs.DeskSteps.{OpMove, apart, moves, IsSameAwait, IsSameDoing, NodeMove, still, moved}
+
+-- what always holds of an outcome holds of each way in which it may come out
+one-way : (p : ℕ) (P : Moved → Type 0) (a : Accessed) (to : Moved) → Always p P a → MayMove p a to → P to
+one-way p P (Accessed.Settled m) to holds may = subst P (sym may) holds
+one-way p P (Accessed.NeedsRoom d task) to holds may = subst P (sym may.2) (holds may.0 may.1)
+
+module _ (d : DeskState) (p : ℕ) (is : IsDesk d) (proc : IsProc p) where
+  caused : (c : Cause) (op : Op) (to : Moved) → MayCome d p c → IsOf d p c op → MayMove p (comes_of d p c) to → OpMove d p op to
+  caused c op to may of way = moves c may of (one-way p (IsMade c p d) (comes_of d p c) to (comes_of-made d p c is proc may) way)
+
+  new-turn : (home : ℕ) (kind : ObjKind) (room : ℕ) (b : Bool) → OpMove d p (ops.New home kind room) (new_by d home kind room b)
+  new-turn home kind room true = apart refl (refl, refl)
+  new-turn home kind room false = apart refl tt
+
+  list-turn : (home : ℕ) (after : Option (ObjectName × ProcName)) (b : Bool) → OpMove d p (ops.List home after) (list_by d home after b)
+  list-turn home after true = apart refl (refl, refl)
+  list-turn home after false = apart refl tt
+
+  -- an operation begins
+  begun-turn : (opening : Start) (op : Op) (to : Moved) → IsIdle d p → IsOp op → MayMove p (begun opening d p op) to → OpMove d p op to
+  begun-turn opening (ops.New home kind room) to idle range way = subst (OpMove d p (ops.New home kind room)) (sym way) (new-turn home kind room (is_node opening home && nat_le room opening.greatest))
+  begun-turn opening (ops.List home after) to idle range way = subst (OpMove d p (ops.List home after)) (sym way) (list-turn home after (is_node opening home))
+  begun-turn opening (ops.Lock u m) to idle range way = caused (Cause.Locks u m) (ops.Lock u m) to idle refl way
+  begun-turn opening (ops.Unlock u) to idle range way = caused (Cause.Releases false u) (ops.Unlock u) to idle refl way
+  begun-turn opening (ops.Delete u) to idle range way = caused (Cause.Releases true u) (ops.Delete u) to idle refl way
+  begun-turn opening (ops.Load spot count) to idle range way = caused (Cause.Accesses (DeskOp.Loads spot count)) (ops.Load spot count) to (idle, range) refl way
+  begun-turn opening (ops.Store spot bytes) to idle range way = caused (Cause.Accesses (DeskOp.Stores spot bytes)) (ops.Store spot bytes) to (idle, range) refl way
+  begun-turn opening (ops.Length u) to idle range way = caused (Cause.Accesses (DeskOp.Measures u)) (ops.Length u) to (idle, range) refl way
+  begun-turn opening (ops.Map u) to idle range way = caused (Cause.Accesses (DeskOp.Maps u)) (ops.Map u) to (idle, range) refl way
+  begun-turn opening (ops.Unmap u) to idle range way = caused (Cause.Accesses (DeskOp.Unmaps u)) (ops.Unmap u) to (idle, range) refl way
+
+  -- one that waited goes on
+  resumed-turn : (op : Op) (accessed : Accessed) (to : Moved) → IsIdle d p → IsOp op → gone_on d p op ≡ Some accessed → MayMove p accessed to → OpMove d p op to
+  resumed-turn (ops.Load spot count) accessed to idle range goes way = caused (Cause.Accesses (DeskOp.Loads spot count)) (ops.Load spot count) to (idle, range) refl (subst (λ a. MayMove p a to) (sym (some-is _ accessed goes)) way)
+  resumed-turn (ops.Store spot bytes) accessed to idle range goes way = caused (Cause.Accesses (DeskOp.Stores spot bytes)) (ops.Store spot bytes) to (idle, range) refl (subst (λ a. MayMove p a to) (sym (some-is _ accessed goes)) way)
+  resumed-turn (ops.Unlock u) accessed to idle range goes way = caused (Cause.Releases false u) (ops.Unlock u) to idle refl (subst (λ a. MayMove p a to) (sym (some-is _ accessed goes)) way)
+  resumed-turn (ops.Delete u) accessed to idle range goes way = caused (Cause.Releases true u) (ops.Delete u) to idle refl (subst (λ a. MayMove p a to) (sym (some-is _ accessed goes)) way)
+  resumed-turn (ops.Lock u m) accessed to idle range goes way = absurd (cc)
+  resumed-turn (ops.New home kind room) accessed to idle range goes way = absurd (cc)
+  resumed-turn (ops.List home after) accessed to idle range goes way = absurd (cc)
+  resumed-turn (ops.Length u) accessed to idle range goes way = absurd (cc)
+  resumed-turn (ops.Map u) accessed to idle range goes way = absurd (cc)
+  resumed-turn (ops.Unmap u) accessed to idle range goes way = absurd (cc)
+
+  -- which call it is that is none of a lock, an unlock or a removal
+  access-is : (call : OpenCall) → lock_call call ≡ None → call ≡ calls.Access
+  access-is calls.Access none = refl
+  access-is (calls.Lock u m) none = absurd (cc)
+  access-is (calls.PageOut u k delete) none = absurd (cc)
+  access-is (calls.AttrOut u n delete) none = absurd (cc)
+  access-is (calls.Unlock u) none = absurd (cc)
+  access-is (calls.Remove u) none = absurd (cc)
+
+  module _ (op : Op) (ask : Ask) (opens : IsCallOpen d p op ask) where
+    accessing : (call : OpenCall) → open_call_of d p ≡ Some call → lock_call call ≡ None → IsAccessing d p
+    accessing call there none = there ∙ ap (λ (c : OpenCall). Some c) (access-is call none)
+
+    locking : (call : OpenCall) (c : LockCall) → open_call_of d p ≡ Some call → lock_call call ≡ Some c → open_call_of d p ≡ Some (open_call c)
+    locking call c there found = there ∙ ap (λ (o : OpenCall). Some o) (lock_call-is call c found)
+
+    -- an answer came to the desk's open call
+    by-lock : (x : Answer) (to : Moved) → IsBody d.node (body_of_answer x) → (call : OpenCall) (o : Option LockCall) (said : Said) → open_call_of d p ≡ Some call → lock_call call ≡ o → said_to_lock d p x o ≡ Some said → MayMove p (answered d p said) to → OpMove d p op to
+    by-lock x to range call None said there none says way =
+        let found = map-some Said.ToAccess (page_answer d p x) said says in
+        caused (Cause.PageCame found.0) op to (record { accessing = accessing call there none; answer = x; says = found.1; range = range }) opens.opened (subst (λ s. MayMove p (answered d p s) to) found.2 way)
+    by-lock x to range call (Some c) said there is_c says way =
+        let found = map-some Said.ToLock (lock_answer c x) said says in
+        caused (Cause.AnswerCame found.0) op to (record { ready = opens.ready; call = c; opened = locking call c there is_c; answer = x; says = found.1; range = range }) opens.opened (subst (λ s. MayMove p (answered d p s) to) found.2 way)
+
+    call-answered : (x : Answer) (to : Moved) → IsBody d.node (body_of_answer x) → (said : Said) → (open_call_of d p >>= said_to_call d p x) ≡ Some said → MayMove p (answered d p said) to → OpMove d p op to
+    call-answered x to range said says way =
+        let found = bind-some (open_call_of d p) (said_to_call d p x) said says in
+        by-lock x to range found.0 (lock_call found.0) said found.1 refl found.2 way
+
+    -- it is given up
+    by-failing : (call : OpenCall) (o : Option LockCall) (to : Moved) → open_call_of d p ≡ Some call → lock_call call ≡ o → call_failed d p o ≡ Some to → OpMove d p op to
+    by-failing call None to there none fails =
+        let found = map-some (access_failed d p) (moving_of d p) to fails in
+        caused (Cause.AccessFailed found.0) op to (accessing call there none, found.1) opens.opened found.2
+    by-failing call (Some c) to there is_c fails = caused (Cause.CallFailed c) op to (opens.ready, locking call c there is_c) opens.opened (sym (some-is (call_failed_of d p c) to fails))
+
+    call-failed : (to : Moved) → (open_call_of d p >>= λ call. call_failed d p (lock_call call)) ≡ Some to → OpMove d p op to
+    call-failed to fails =
+        let found = bind-some (open_call_of d p) (λ call. call_failed d p (lock_call call)) to fails in
+        by-failing found.0 (lock_call found.0) to found.1 refl found.2
+
+  new-said : (home : ℕ) (kind : ObjKind) (room : ℕ) (x : Answer) (said : Said) (to : Moved) → said_to_new x ≡ Some said → MayMove p (answered d p said) to → OpMove d p (ops.New home kind room) to
+  new-said home kind room (Answer.Made u) said to says way = subst (OpMove d p (ops.New home kind room)) (sym (subst (λ s. MayMove p (answered d p s) to) (sym (some-is _ said says)) way)) (apart refl tt)
+  new-said home kind room Answer.NoSpace said to says way = subst (OpMove d p (ops.New home kind room)) (sym (subst (λ s. MayMove p (answered d p s) to) (sym (some-is _ said says)) way)) (apart refl tt)
+  new-said home kind room x said to says way = absurd (cc)
+
+  list-said : (home : ℕ) (after : Option (ObjectName × ProcName)) (x : Answer) (said : Said) (to : Moved) → said_to_list x ≡ Some said → MayMove p (answered d p said) to → OpMove d p (ops.List home after) to
+  list-said home after (Answer.Listed rows more) said to says way = subst (OpMove d p (ops.List home after)) (sym (subst (λ s. MayMove p (answered d p s) to) (sym (some-is _ said says)) way)) (apart refl tt)
+  list-said home after x said to says way = absurd (cc)
+
+  by-op : (op : Op) (ask : Ask) (x : Answer) (said : Said) (to : Moved) → IsCalling d p op ask → IsBody d.node (body_of_answer x) → said_by d p op x ≡ Some said → MayMove p (answered d p said) to → OpMove d p op to
+  by-op (ops.New home kind room) ask x said to calling range says way = new-said home kind room x said to says way
+  by-op (ops.List home after) ask x said to calling range says way = list-said home after x said to says way
+  by-op (ops.Lock u m) ask x said to calling range says way = call-answered (ops.Lock u m) ask calling x to range said says way
+  by-op (ops.Unlock u) ask x said to calling range says way = call-answered (ops.Unlock u) ask calling x to range said says way
+  by-op (ops.Delete u) ask x said to calling range says way = call-answered (ops.Delete u) ask calling x to range said says way
+  by-op (ops.Load spot count) ask x said to calling range says way = call-answered (ops.Load spot count) ask calling x to range said says way
+  by-op (ops.Store spot bytes) ask x said to calling range says way = call-answered (ops.Store spot bytes) ask calling x to range said says way
+  by-op (ops.Length u) ask x said to calling range says way = call-answered (ops.Length u) ask calling x to range said says way
+  by-op (ops.Map u) ask x said to calling range says way = call-answered (ops.Map u) ask calling x to range said says way
+  by-op (ops.Unmap u) ask x said to calling range says way = call-answered (ops.Unmap u) ask calling x to range said says way
+
+  -- an answer came that fits
+  heard-turn : (op : Op) (ask : Ask) (body : Body) (said : Said) (to : Moved) → IsCalling d p op ask → IsBody d.node body → said_of d p op body ≡ Some said → MayMove p (answered d p said) to → OpMove d p op to
+  heard-turn op ask body said to calling range says way =
+      let found = bind-some (answer_of body) (said_by d p op) said says in
+      by-op op ask found.0 said to calling (subst (IsBody d.node) (answer-is body found.0 found.1) range) found.2 way
+
+  -- a call was given up
+  gave_up-turn : (op : Op) (ask : Ask) (to : Moved) → IsCalling d p op ask → failed d p op ≡ Some to → OpMove d p op to
+  gave_up-turn (ops.New home kind room) ask to calling fails = subst (OpMove d p (ops.New home kind room)) (some-is _ to fails) (apart refl tt)
+  gave_up-turn (ops.List home after) ask to calling fails = subst (OpMove d p (ops.List home after)) (some-is _ to fails) (apart refl tt)
+  gave_up-turn (ops.Lock u m) ask to calling fails = call-failed (ops.Lock u m) ask calling to fails
+  gave_up-turn (ops.Unlock u) ask to calling fails = call-failed (ops.Unlock u) ask calling to fails
+  gave_up-turn (ops.Delete u) ask to calling fails = call-failed (ops.Delete u) ask calling to fails
+  gave_up-turn (ops.Load spot count) ask to calling fails = call-failed (ops.Load spot count) ask calling to fails
+  gave_up-turn (ops.Store spot bytes) ask to calling fails = call-failed (ops.Store spot bytes) ask calling to fails
+  gave_up-turn (ops.Length u) ask to calling fails = call-failed (ops.Length u) ask calling to fails
+  gave_up-turn (ops.Map u) ask to calling fails = call-failed (ops.Map u) ask calling to fails
+  gave_up-turn (ops.Unmap u) ask to calling fails = call-failed (ops.Unmap u) ask calling to fails
+
+same-await : (a : Await) → IsSameAwait a a
+same-await (Await.Answer c) = (refl, refl)
+same-await (Await.Page u k) = (refl, refl)
+
+same-doing : (o : Option OpenOp) → IsSameDoing o o
+same-doing None = tt
+same-doing (Some o) = (refl, same-await o.awaits)
+
+module _ (g : Given) (n : NodeState) (four : length n.procs ≡ 4) where
+  -- the processes after one of them did something
+  put-same : (p : ℕ) → IsProc p → (new : ProcState) (procs : List ProcState) → procs ≡ put_at n.procs p new → IsSameDoing (proc_of n p).doing new.doing → (q : ℕ) → IsProc q → IsSameDoing (proc_of n q).doing (at procs q first_proc).doing
+  put-same p proc new procs is here q other = elim (cases_eq q p) [
+    | inl there ↦ subst (λ r. IsSameDoing (proc_of n r).doing (at procs r first_proc).doing) (sym there)
+        (subst (λ (x : ProcState). IsSameDoing (proc_of n p).doing x.doing) (sym (ap (λ ps. at ps p first_proc) is ∙ at-put_same n.procs p new first_proc four proc)) here)
+    | inr beside ↦ subst (λ (x : ProcState). IsSameDoing (proc_of n q).doing x.doing) (sym (ap (λ ps. at ps q first_proc) is ∙ at-put_other n.procs p q new first_proc proc other beside)) (same-doing (proc_of n q).doing)
+  ]
+
+  turned-node : (p : ℕ) → IsProc p → (o : BegunOp) (stage : Stage) (to : Moved) → OpMove n.desk p o.op to → NodeMove n (moved_by_op g n p o stage to)
+  turned-node p proc o stage to made = by to.turn made
+    where
+      by : (turn : Turn) → OpMove n.desk p o.op (record to { turn = turn }) → NodeMove n (moved_by_op g n p o stage (record to { turn = turn }))
+      by (Turn.Ends reply) made = moved p o (record to { turn = Turn.Ends reply }) proc made refl (ap (λ (q : ProcState). q.doing) (at-put_same n.procs p _ first_proc four proc)) (λ q other differs. at-put_other n.procs p q _ first_proc proc other differs)
+      by (Turn.Asks home ask) made = moved p o (record to { turn = Turn.Asks home ask }) proc made refl (ap (λ (q : ProcState). q.doing) (at-put_same n.procs p _ first_proc four proc)) (λ q other differs. at-put_other n.procs p q _ first_proc proc other differs)
+      by (Turn.Waits u k) made = moved p o (record to { turn = Turn.Waits u k }) proc made refl (ap (λ (q : ProcState). q.doing) (at-put_same n.procs p _ first_proc four proc)) (λ q other differs. at-put_other n.procs p q _ first_proc proc other differs)
+
+  next-procs : (b : Bool) (x : NodeState) → x.procs ≡ n.procs → (in_next_phase b x).procs ≡ n.procs
+  next-procs true x same = same
+  next-procs false x same = same
+
+  next-desk : (b : Bool) (x : NodeState) → x.desk ≡ n.desk → (in_next_phase b x).desk ≡ n.desk
+  next-desk true x same = same
+  next-desk false x same = same
+
+  phase-still : (s : Stepped) (b : Bool) (x : NodeState) → s.node ≡ in_next_phase b x → x.procs ≡ n.procs → x.desk ≡ n.desk → NodeMove n s
+  phase-still s b x is procs desk =
+      still (ap (λ (y : NodeState). y.desk) is ∙ next-desk b x desk)
+      (λ q other. subst (λ (y : ProcState). IsSameDoing (proc_of n q).doing y.doing) (sym (ap (λ (y : NodeState). proc_of y q) is ∙ ap (λ ps. at ps q first_proc) (next-procs b x procs))) (same-doing (proc_of n q).doing))
+
+-- what an event did to the desk of its node
+pub did-desk : (g : Given) → IsGiven g → ((p : ℕ) → has_program g p ≡ true → IsProc p) → (n : NodeState) → IsNodeOf g n → (what : What) (incoming : Incoming) (s : Stepped) → IsIncoming incoming → Did g n what incoming s → NodeMove n s
+did-desk g given procs n is what incoming s frame (paused p has none want) = still refl (put-same g n is.four p (procs p has) _ _ refl (same-doing (proc_of n p).doing))
+did-desk g given procs n is what incoming s frame (finished p has none want) = still refl (put-same g n is.four p (procs p has) _ _ refl (same-doing (proc_of n p).doing))
+did-desk g given procs n is what incoming s frame (began p op to has none want way) =
+    let proc = procs p has in
+    let range : IsOp op = subst IsWant want (given.wants p (proc_of n p).heard (is.followed p proc).named) in
+    turned-node g n is.four p proc (begun_at g n op) Stage.Starts to (begun-turn n.desk p is.desk proc g.opening op to (subst (Agrees n.desk p (proc_of n p).last) none (is.agrees p proc)) range way)
+did-desk g given procs n is what incoming s frame (resumed p o u k accessed to has doing come goes way) =
+    let proc = procs p has in
+    let agrees = subst (Agrees n.desk p (proc_of n p).last) doing (is.agrees p proc) in
+    turned-node g n is.four p proc o Stage.Resumes to (resumed-turn n.desk p is.desk proc o.op accessed to agrees.1.idle agrees.0 goes way)
+did-desk g given procs n is what incoming s frame (served from index m ask answer sender receiver asks answers) = still refl (λ q other. same-doing (proc_of n q).doing)
+did-desk g given procs n is what incoming s frame (passed_over from index m ask sender receiver asks none) = still refl (λ q other. same-doing (proc_of n q).doing)
+did-desk g given procs n is what incoming s frame (heard from index m o c said to sender receiver asks doing same says way) =
+    let proc : IsProc m.proc = (frame.range.proc_low, frame.range.proc_high) in
+    let agrees = subst (Agrees n.desk m.proc (proc_of n m.proc).last) doing (is.agrees m.proc proc) in
+    turned-node g n is.four m.proc proc o (stage_of m.number said) to
+    (heard-turn n.desk m.proc is.desk proc o.op c.ask m.body said to agrees.1.0 (subst (λ k. IsBody k m.body) (receiver ∙ sym is.own.node) frame.range.body) says way)
+did-desk g given procs n is what incoming s frame (ignored from index m sender receiver asks) = still refl (λ q other. same-doing (proc_of n q).doing)
+did-desk g given procs n is what incoming s frame (resent p from to index number tick o c has doing same answer) =
+    still refl (put-same g n is.four p (procs p has) _ _ refl (subst (λ x. IsSameDoing x (asking o (noticed_call c))) (sym doing) (refl, (refl, refl))))
+did-desk g given procs n is what incoming s frame (gave_up p from to index number tick o c into has doing same answer fails) =
+    let proc = procs p has in
+    let agrees = subst (Agrees n.desk p (proc_of n p).last) doing (is.agrees p proc) in
+    turned-node g n is.four p proc o (Stage.Settles c.waiting.number) into (gave_up-turn n.desk p is.desk proc o.op c.ask into agrees.1.0 fails)
+did-desk g given procs n is what incoming s frame (got_ready phase may) = let x = record n { ready = true } in phase-still g n is.four s (x.ready && others_marked g x) x refl refl refl
+did-desk g given procs n is what incoming s frame (marked from phase tick may) = let x = record n { marks = (from, phase) ∷ n.marks } in phase-still g n is.four s (x.ready && others_marked g x) x refl refl refl
+
+-- so each step of a node
+pub step-desk : (g : Given) (n : NodeState) (what : What) (incoming : Incoming) (dropped : List (ObjectName × ℕ)) (s : Stepped) → IsGiven g → IsNodeOf g n → IsIncoming incoming → step_of g n what incoming dropped ≡ Some s → NodeMove (ticked n incoming) s
+step-desk g n what incoming dropped s given is frame e =
+    did-desk g given (given-procs g given.programs) (ticked n incoming) (node-with g n (ticked n incoming) is refl refl is.side is.home) what incoming s frame (step_of-did g n what incoming dropped s e)
