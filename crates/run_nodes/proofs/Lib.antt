@@ -1,1 +1,4 @@
 pub mod DeskSteps
+pub mod GoingPages
+pub mod Staying
+pub mod OpenCalls

@@ -1,1 +1,2 @@
 pub mod DeskSteps
+pub mod OpenCalls

@@ -1,5 +1,5 @@
 //! Laws of a node alone. Each stands on a function without a body, so that the check proves it.
-ghost use Rattle.std.specs.Prelude.{◌≡◌, ℕ, Some, List};
+ghost use Rattle.std.specs.Prelude.{◌≡◌, ℕ, true, Some, List};
 ghost use Rattle.uid_names.specs.Names.{ObjectName};
 ghost use Rattle.dom_history.specs.declared.event.What.{What};
 ghost use Rattle.node_runs.specs.Setups.{Given, IsGiven};
@@ -10,7 +10,12 @@ ghost use Rattle.node_runs.specs.Outcomes.{Stepped};
 ghost use Rattle.node_runs.specs.Steps.{step_of};
 ghost use Rattle.node_runs.specs.SentFrames.{IsIncoming};
 ghost use Rattle.node_runs.specs.NodesKeep.{IsNodeOf};
+ghost use Rattle.dom_history.specs.Objects.{is_node};
+ghost use Rattle.node_runs.specs.Setups.{Setup, IsSetup};
+ghost use Rattle.node_runs.specs.NodesKeep.{Reached, IsTimely};
+ghost use Rattle.node_runs.specs.Runs.{Choice, World, world_after};
 ghost use Rattle.run_nodes.specs.DeskSteps.{NodeMove};
+ghost use Rattle.run_nodes.specs.OpenCalls.{AreCarried};
 
 /// Each event of a node leaves its desk, and what its processes await, as they were; or one process's operation begins, goes
 /// on, is answered or fails, and moves the desk by the changes that a desk knows, while the others await what they did. The
@@ -18,4 +23,20 @@ ghost use Rattle.run_nodes.specs.DeskSteps.{NodeMove};
 pub fn each_event_moves_its_desk_for_one_operation()
     ensures { (g : Given) (n : NodeState) (what : What) (incoming : Incoming) (dropped : List (ObjectName × ℕ)) (s : Stepped) →
         IsGiven g → IsNodeOf g n → IsIncoming incoming → step_of g n what incoming dropped ≡ Some s → NodeMove (ticked n incoming) s }
+{}
+
+/// Wherever a node's events led, what its open calls carry fits its desk. A page on its way home is dirty, and has the bytes
+/// that were sent until it is stored to; its call's grant is that of a process of the node that keeps the object in a mode
+/// that writes. A length on its way home is under its process's own grant, and not above the known one. No base is above the
+/// seen stamp. An open lock is of an object on which its process is Free, an open release of one on which it is not, an open
+/// removal of one that is held to be removed. A process without such a call moves no page.
+pub fn what_open_calls_carry_fits()
+    ensures step { (g : Given) (n : NodeState) (what : What) (incoming : Incoming) (dropped : List (ObjectName × ℕ)) (s : Stepped) →
+        IsGiven g → IsNodeOf g n → IsIncoming incoming → AreCarried n → step_of g n what incoming dropped ≡ Some s → AreCarried s.node }
+    ensures reached { (g : Given) → IsGiven g → (n : NodeState) → Reached g n → AreCarried n }
+{}
+
+/// So it is at each node of every run in which no tick is above 2^40.
+pub fn what_open_calls_of_a_run_carry_fits()
+    ensures { (s : Setup) → IsSetup s → (cs : List Choice) (w : World) → world_after s cs ≡ Some w → IsTimely w → (n : ℕ) → is_node s.opening n ≡ true → AreCarried (w.nodes n) }
 {}
