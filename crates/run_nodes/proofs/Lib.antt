@@ -1,4 +1,6 @@
 pub mod DeskSteps
 pub mod GoingPages
+pub mod KnownLengths
 pub mod Staying
 pub mod OpenCalls
+pub mod OpenTasks

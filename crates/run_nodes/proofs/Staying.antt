@@ -1,32 +1,29 @@
 -- What a change of one process leaves of the stamps, the lengths and the grants that the open calls of others carry.
 use Rattle.std.proofs.Common.{◌≡◌, ◌≢◌, ℕ, ◌≤◌, Bool, true, false, List, [], Option, Some, None, inl, inr, refl, sym, ap, subst, ◌∙◌, arith}
-use Rattle.std.specs.Prelude.{◌==◌, ◌&&◌, not, nat_lt, unwrap_or, if◌then◌else◌}
+use Rattle.std.specs.Prelude.{◌==◌, ◌&&◌, not, unwrap_or, if◌then◌else◌}
 use Rattle.std.proofs.lemmas.Bool.{cases_eq}
 use Rattle.std.proofs.lemmas.Bool.Decides.{nat_tests}
 use Rattle.uid_names.specs.Names.{ObjectName, same_uid}
 use Rattle.uid_names.proofs.ListLemmas.{by_cases}
 use Rattle.uid_names.proofs.Orders.{same_uid_is}
-use Rattle.uid_names.proofs.Tables.{row_of-named}
 use Rattle.dom_history.specs.Replies.{may_write}
 use Rattle.version_stamps.specs.declared.stamps.Stamp.{Stamp}
 use Rattle.version_stamps.specs.Stamps.{stamp_of, with_stamp, raised}
 use Rattle.version_stamps.proofs.LookUps.{stamp_of-with_stamp, stamp_of-without_stamp}
 use Rattle.fault_handler.specs.declared.entries.LockEntry.{LockEntry}
-use Rattle.fault_handler.specs.declared.lengths.Known.{Known}
 use Rattle.fault_handler.specs.Entries.{entry_of, state_in, grant_in, keeps, keeps_writing, entries_after, entries_noted}
-use Rattle.fault_handler.specs.Lengths.{known_name, known_of, length_of, grown, grown_if, sent_length, sent_if, known_after, with_known}
+use Rattle.fault_handler.specs.Lengths.{known_of, length_of}
 use Rattle.fault_handler.specs.Transits.{going, is_moving}
 use Rattle.fault_handler.specs.Desks.{DeskState, put_at, entries_of, entry_at, state_of, moving_of, any_keeps, base_of}
-use Rattle.fault_handler.specs.Changes.{known_sent}
 use Rattle.fault_handler.specs.Outcomes.{Turn}
 use Rattle.fault_handler.specs.Invariant.{IsProc, IsDesk}
 use Rattle.fault_handler.proofs.Fours.{at-put_same, at-put_other, any-more}
-use Rattle.fault_handler.proofs.KnownRows.{known_of-with_known, uid-grown, uid-sent}
 use Rattle.fault_handler.proofs.LockKeeps.{entry_of-after_other, entry_of-noted_other}
 use Rattle.fault_handler.proofs.TransitKeeps.{keeps_writing-keeps}
 use Rattle.desk_laws.specs.Causes.{Cause}
 use Rattle.desk_laws.specs.Moves.{Change}
 use Rattle.run_nodes.specs.OpenCalls.{writes_under, is_writing_grant}
+use Rattle.run_nodes.proofs.KnownLengths.{kept-unlearned, change-up}
 
 raised-up : (stamp : ℕ) (o : Option ℕ) → unwrap_or o 0 ≤ raised stamp o
 raised-up stamp None = omega arith
@@ -47,38 +44,6 @@ module _ (u : ObjectName) where
       let e = ap (λ o. unwrap_or o 0) found in
       omega (arith, e))
 
-  length-grown : (end : ℕ) (k : Known) → k.length ≤ (grown end k).length
-  length-grown end k = by (nat_lt k.length end) refl
-    where
-      by : (b : Bool) → nat_lt k.length end ≡ b → k.length ≤ (grown_if b end k).length
-      by true e = grind (arith, nat_tests, e)
-      by false e = omega arith
-
-  length-sent : (n : ℕ) (k : Known) → k.length ≤ (sent_length n k).length
-  length-sent n k = by (k.length == n)
-    where
-      by : (b : Bool) → k.length ≤ (sent_if b k).length
-      by true = omega arith
-      by false = omega arith
-
-  -- a row that was changed in its place to one of no smaller length
-  after-known : (change : Known → Known) → ((k : Known) → (change k).uid ≡ k.uid) → ((k : Known) → k.length ≤ (change k).length) → (v : ObjectName) (rows : List Known) (o : Option Known) → known_of v rows ≡ o
-      → length_of (known_of u rows) ≤ length_of (known_of u (known_after change o rows))
-  after-known change names up v rows None found = omega arith
-  after-known change names up v rows (Some k) found = by_cases (same_uid u (change k).uid) (length_of (known_of u rows) ≤ length_of (known_of u (with_known (change k) rows)))
-      (λ is.
-      let named : (change k).uid ≡ v = names k ∙ row_of-named known_name v rows k found in
-      let here = known_of-with_known (change k) rows u ∙ ap (λ b. if b then Some (change k) else known_of u rows) is in
-      let e = ap length_of here in
-      let f = ap (λ w. length_of (known_of w rows)) (same_uid_is u (change k).uid is ∙ named) ∙ ap length_of found in
-      let h = up k in
-      omega (arith, e, f, h))
-      (λ differs. let e = ap length_of (known_of-with_known (change k) rows u ∙ ap (λ b. if b then Some (change k) else known_of u rows) differs) in omega (arith, e))
-
-  sent-known : (taken : Bool) (v : ObjectName) (n : ℕ) (rows : List Known) → length_of (known_of u rows) ≤ length_of (known_of u (known_sent taken v n rows))
-  sent-known true v n rows = after-known (sent_length n) (uid-sent n) (length-sent n) v rows (known_of v rows) refl
-  sent-known false v n rows = omega arith
-
   module _ (c : Cause) (turn : Turn) (p : ℕ) (d : DeskState) (kept : any_keeps d.entries u ≡ true) where
     not-this : (v : ObjectName) → any_keeps d.entries v ≡ false → same_uid u v ≡ false
     not-this v none = by_cases (same_uid u v) (same_uid u v ≡ false) (λ is. absurd (let e : true ≡ false = sym kept ∙ (ap (any_keeps d.entries) (same_uid_is u v is) ∙ none) in cc)) (λ h. h)
@@ -92,12 +57,7 @@ module _ (u : ObjectName) where
 
     -- nor does its known length
     pub known-stays : (e : DeskState) (dropped : List (ObjectName × ℕ)) → Change c turn p d e dropped → length_of (known_of u d.known) ≤ length_of (known_of u e.known)
-    known-stays e dropped (Change.grows task bytes does is ends) = after-known (grown _) (uid-grown _) (length-grown _) task.uid d.known (known_of task.uid d.known) refl
-    known-stays e dropped (Change.length_settles v n delete taken stamp given idle writes) = sent-known taken v n d.known
-    known-stays e dropped (Change.learns v m grant stamp room n given alone none fresh is_room is_length) =
-        let f = ap length_of (known_of-with_known (record { uid = v; room = room; length = n; changed = false }) d.known u ∙ ap (λ b. if b then Some (record { uid = v; room = room; length = n; changed = false }) else known_of u d.known) (not-this v none)) in
-        omega (arith, f)
-    known-stays e dropped change = omega arith
+    known-stays e dropped change = (change-up u c turn p d e dropped (kept-unlearned u c d kept) change).0
 
 pub writing-left : (o : Option LockEntry) (b : Bool) → (keeps_writing o && b) ≡ true → keeps_writing o ≡ true
 writing-left o b h = by (keeps_writing o) refl h

@@ -1,2 +1,3 @@
 pub mod DeskSteps
 pub mod OpenCalls
+pub mod OpenTasks

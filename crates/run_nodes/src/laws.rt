@@ -16,6 +16,7 @@ ghost use Rattle.node_runs.specs.NodesKeep.{Reached, IsTimely};
 ghost use Rattle.node_runs.specs.Runs.{Choice, World, world_after};
 ghost use Rattle.run_nodes.specs.DeskSteps.{NodeMove};
 ghost use Rattle.run_nodes.specs.OpenCalls.{AreCarried};
+ghost use Rattle.run_nodes.specs.OpenTasks.{AreTasksWithin, AreTransits};
 
 /// Each event of a node leaves its desk, and what its processes await, as they were; or one process's operation begins, goes
 /// on, is answered or fails, and moves the desk by the changes that a desk knows, while the others await what they did. The
@@ -39,4 +40,20 @@ pub fn what_open_calls_carry_fits()
 /// So it is at each node of every run in which no tick is above 2^40.
 pub fn what_open_calls_of_a_run_carry_fits()
     ensures { (s : Setup) → IsSetup s → (cs : List Choice) (w : World) → world_after s cs ≡ Some w → IsTimely w → (n : ℕ) → is_node s.opening n ≡ true → AreCarried (w.nodes n) }
+{}
+
+/// So each process moves the page that its open call asks for or sends, and no other.
+pub fn a_process_moves_what_its_call_asks()
+    ensures { (n : NodeState) → AreCarried n → AreTransits n }
+{}
+
+/// Wherever a node's events led, each open load ends within the known length of its object, and each open store within the
+/// known room.
+pub fn open_loads_and_stores_lie_within_what_is_known()
+    ensures step { (g : Given) (n : NodeState) (what : What) (incoming : Incoming) (dropped : List (ObjectName × ℕ)) (s : Stepped) →
+        IsGiven g → IsNodeOf g n → IsIncoming incoming → AreTasksWithin n.desk → step_of g n what incoming dropped ≡ Some s → AreTasksWithin s.node.desk }
+    ensures reached { (g : Given) → IsGiven g → (n : NodeState) → Reached g n → AreTasksWithin n.desk }
+
+    // So at each node of every run in which no tick is above 2^40.
+    ensures runs { (s : Setup) → IsSetup s → (cs : List Choice) (w : World) → world_after s cs ≡ Some w → IsTimely w → (n : ℕ) → is_node s.opening n ≡ true → AreTasksWithin (w.nodes n).desk }
 {}
