@@ -6,3 +6,4 @@ pub mod Marking
 pub mod InPhases
 pub mod Phased
 pub mod Ending
+pub mod DecisionOrder

@@ -2,3 +2,4 @@ pub mod FittingAnswers
 pub mod SingleActs
 pub mod Phases
 pub mod Paced
+pub mod DecisionOrder

@@ -9,6 +9,7 @@ ghost use Rattle.node_runs.specs.Runs.{Choice, World, world_after, world_of, Has
 ghost use Rattle.node_runs.specs.RunHistories.{all_told, history_in, history_of};
 ghost use Rattle.node_runs.specs.CallsKeep.{HasProcs};
 ghost use Rattle.run_phases.specs.FittingAnswers.{AreFittingAnswers};
+ghost use Rattle.run_phases.specs.DecisionOrder.{AreDecisionsRising};
 ghost use Rattle.run_phases.specs.SingleActs.{AreToldRising, AreSingleActs};
 ghost use Rattle.run_phases.specs.Phases.{AreInPhase};
 ghost use Rattle.run_phases.specs.Paced.{ArePaced};
@@ -18,6 +19,11 @@ ghost use Rattle.run_phases.specs.Paced.{ArePaced};
 /// to a page or a length, and so on.
 pub fn each_answer_is_one_that_its_call_can_have()
     ensures { (s : Setup) → HasProcs s → (cs : List Choice) (w : World) → world_after s cs ≡ Some w → AreFittingAnswers w }
+{}
+
+/// In every run, whatever becomes of frames, a home decides the calls of a process by rising numbers.
+pub fn a_home_decides_by_rising_numbers()
+    ensures { (s : Setup) → HasProcs s → (cs : List Choice) (w : World) → world_after s cs ≡ Some w → AreDecisionsRising w.trace }
 {}
 
 /// In every run in which no tick is above 2^40 a process is told of the ends of its operations in the order in which they
