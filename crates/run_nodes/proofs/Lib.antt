@@ -4,3 +4,5 @@ pub mod KnownLengths
 pub mod Staying
 pub mod OpenCalls
 pub mod OpenTasks
+pub mod Released
+pub mod AskedHomes

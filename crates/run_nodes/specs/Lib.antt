@@ -1,3 +1,5 @@
 pub mod DeskSteps
 pub mod OpenCalls
 pub mod OpenTasks
+pub mod Released
+pub mod AskedHomes

@@ -15,7 +15,9 @@ ghost use Rattle.node_runs.specs.Setups.{Setup, IsSetup};
 ghost use Rattle.node_runs.specs.NodesKeep.{Reached, IsTimely};
 ghost use Rattle.node_runs.specs.Runs.{Choice, World, world_after};
 ghost use Rattle.run_nodes.specs.DeskSteps.{NodeMove};
+ghost use Rattle.run_nodes.specs.AskedHomes.{AreCallsAtHomes};
 ghost use Rattle.run_nodes.specs.OpenCalls.{AreCarried};
+ghost use Rattle.run_nodes.specs.Released.{AreReleased};
 ghost use Rattle.run_nodes.specs.OpenTasks.{AreTasksWithin, AreTransits};
 
 /// Each event of a node leaves its desk, and what its processes await, as they were; or one process's operation begins, goes
@@ -47,6 +49,12 @@ pub fn a_process_moves_what_its_call_asks()
     ensures { (n : NodeState) → AreCarried n → AreTransits n }
 {}
 
+/// A lock that is Held was given up, or its object's removal sent, exactly where its process's open call does so: else the process
+/// keeps it.
+pub fn a_lock_is_given_up_by_an_open_call()
+    ensures { (g : Given) (n : NodeState) → IsNodeOf g n → AreReleased n }
+{}
+
 /// Wherever a node's events led, each open load ends within the known length of its object, and each open store within the
 /// known room.
 pub fn open_loads_and_stores_lie_within_what_is_known()
@@ -56,4 +64,9 @@ pub fn open_loads_and_stores_lie_within_what_is_known()
 
     // So at each node of every run in which no tick is above 2^40.
     ensures runs { (s : Setup) → IsSetup s → (cs : List Choice) (w : World) → world_after s cs ≡ Some w → IsTimely w → (n : ℕ) → is_node s.opening n ≡ true → AreTasksWithin (w.nodes n).desk }
+{}
+
+/// In every run in which no tick is above 2^40 each call about an object asks the object's home.
+pub fn each_call_asks_the_home_of_its_object()
+    ensures { (s : Setup) → IsSetup s → (cs : List Choice) (w : World) → world_after s cs ≡ Some w → IsTimely w → AreCallsAtHomes w }
 {}

@@ -1,0 +1,153 @@
+-- In every run a call about an object asks the object's home.
+use Rattle.std.proofs.Common.{◌≡◌, ℕ, Bool, true, false, List, Option, Some, None, inl, inr, refl, sym, subst}
+use Rattle.std.proofs.lemmas.Bool.{cases_eq}
+use Rattle.uid_names.specs.Names.{ObjectName}
+use Rattle.dom_history.specs.declared.op.Op.{Op}
+use Rattle.dom_history.specs.declared.op.Op.TheVariants as ops
+use Rattle.dom_history.specs.Objects.{is_node}
+use Rattle.ring_messages.specs.Frames.{Message}
+use Rattle.fault_handler.specs.Desks.{DeskState}
+use Rattle.fault_handler.specs.Outcomes.{Turn, Moved}
+use Rattle.fault_handler.specs.Invariant.{IsProc}
+use Rattle.fault_handler.proofs.Fours.{by_proc}
+use Rattle.lock_validate.specs.Releases.{release_ask}
+use Rattle.desk_laws.specs.Causes.{Cause}
+use Rattle.desk_laws.specs.Turns.{Says}
+use Rattle.node_runs.specs.Setups.{Setup, IsSetup, given}
+use Rattle.node_runs.specs.NodeStates.{Asked, Await, BegunOp, OpenOp, ProcState, NodeState, first_node, proc_of}
+use Rattle.node_runs.specs.Outcomes.{Stepped}
+use Rattle.node_runs.specs.Doings.{ticked}
+use Rattle.node_runs.specs.SentFrames.{IsFrame, IsIncoming}
+use Rattle.node_runs.specs.NodesKeep.{IsTimely}
+use Rattle.node_runs.specs.Runs.{World, Choice, calls_after, world_after}
+use Rattle.node_runs.specs.CallsKeep.{EachOf, IsOnLink}
+use Rattle.node_runs.proofs.Doing.{step_of-did}
+use Rattle.node_runs.proofs.Receiving.{EachOf-more, incoming-is}
+use Rattle.node_runs.proofs.Calls.{put-same, put-other}
+use Rattle.node_runs.proofs.CallSteps.{IsFrameProc, CallStep, silent, asked, again, did-calls}
+use Rattle.node_runs.proofs.SettingUp.{setup-gives, setup-procs}
+use Rattle.run_calls.proofs.HearingRuns.{IsKeptNext, every-kept-run}
+use Rattle.run_nodes.specs.DeskSteps.{IsHomeTurn, OpMove, apart, moves, doing_after, IsSameAwait, IsSameDoing, NodeMove, still, moved}
+use Rattle.run_nodes.specs.AskedHomes.{IsAtHome, IsAwaitAtHome, IsOpenAtHome, AreOpenAtHomes, AreCallsAtHomes}
+use Rattle.run_nodes.proofs.DeskSteps.{step-desk}
+
+abbrev IsTurnAtHome : Turn → Type 0
+IsTurnAtHome (Turn.Ends reply) = Unit {0}
+IsTurnAtHome (Turn.Asks home ask) = IsAtHome home ask
+IsTurnAtHome (Turn.Waits u k) = Unit {0}
+
+release-home : (delete : Bool) (u : ObjectName) → IsAtHome u.home (release_ask delete u)
+release-home true u = refl
+release-home false u = refl
+
+said-home : (d e : DeskState) (p : ℕ) (c : Cause) (turn : Turn) → Says d p e c turn → IsTurnAtHome turn
+said-home d e p c turn (Says.asks_page cause task given fetches) = refl
+said-home d e p c turn (Says.sends_room cause task r given room) = refl
+said-home d e p c turn (Says.sends_page cause delete u k r given opened sends) = refl
+said-home d e p c turn (Says.sends_length cause delete u n given opened changed) = refl
+said-home d e p c turn (Says.asks_lock u m opened) = refl
+said-home d e p c turn (Says.gives_up cause delete u given opened may settled) = release-home delete u
+said-home d e p c turn says = tt
+
+home-turn : (op : Op) (turn : Turn) → IsHomeTurn op turn → IsTurnAtHome turn
+home-turn op (Turn.Ends reply) is = tt
+home-turn op (Turn.Waits u k) is = tt
+home-turn (ops.New to kind room) (Turn.Asks home ask) is = subst (IsAtHome home) (sym is.1) tt
+home-turn (ops.List to after) (Turn.Asks home ask) is = subst (IsAtHome home) (sym is.1) tt
+home-turn (ops.Lock u m) (Turn.Asks home ask) is = absurd is
+home-turn (ops.Unlock u) (Turn.Asks home ask) is = absurd is
+home-turn (ops.Delete u) (Turn.Asks home ask) is = absurd is
+home-turn (ops.Load spot count) (Turn.Asks home ask) is = absurd is
+home-turn (ops.Store spot bytes) (Turn.Asks home ask) is = absurd is
+home-turn (ops.Length u) (Turn.Asks home ask) is = absurd is
+home-turn (ops.Map u) (Turn.Asks home ask) is = absurd is
+home-turn (ops.Unmap u) (Turn.Asks home ask) is = absurd is
+
+move-home : (d : DeskState) (p : ℕ) (op : Op) (m : Moved) → OpMove d p op m → IsTurnAtHome m.turn
+move-home d p op m (apart desk turn) = home-turn op m.turn turn
+move-home d p op m (moves c may of made) = said-home d m.desk p c m.turn made.says
+
+turn-open : (o : BegunOp) (q : ProcState) (turn : Turn) → IsTurnAtHome turn → IsOpenAtHome (doing_after o q turn)
+turn-open o q (Turn.Ends reply) is = tt
+turn-open o q (Turn.Asks home ask) is = is
+turn-open o q (Turn.Waits u k) is = tt
+
+same-open : (o r : Option OpenOp) → IsSameDoing o r → IsOpenAtHome o → IsOpenAtHome r
+same-open None None same is = tt
+same-open None (Some r) same is = absurd same
+same-open (Some o) None same is = absurd same
+same-open (Some o) (Some r) same is = by o.awaits r.awaits same.1 is
+  where
+    by : (a b : Await) → IsSameAwait a b → IsAwaitAtHome a → IsAwaitAtHome b
+    by (Await.Answer c) (Await.Answer k) same is = subst (IsAtHome k.home) (sym same.1) (subst (λ h. IsAtHome h c.ask) (sym same.0) is)
+    by (Await.Answer c) (Await.Page u k) same is = absurd same
+    by (Await.Page u k) (Await.Answer c) same is = absurd same
+    by (Await.Page u k) (Await.Page v j) same is = tt
+
+node-home : (n : NodeState) (s : Stepped) → NodeMove n s → AreOpenAtHomes n → AreOpenAtHomes s.node
+node-home n s (still desk same) at q other = same-open (proc_of n q).doing (proc_of s.node q).doing (same q other) (at q other)
+node-home n s (moved p o m proc made desk doing others) at q other = elim (cases_eq q p) [
+  | inl there ↦ subst (λ r. IsOpenAtHome (proc_of s.node r).doing) (sym there) (subst IsOpenAtHome (sym doing) (turn-open o (proc_of n p) m.turn (move-home n.desk p o.op m made)))
+  | inr beside ↦ subst (λ (x : ProcState). IsOpenAtHome x.doing) (sym (others q other beside)) (at q other)
+]
+
+-- of each node of a run, and of each call that was made
+pub record AreAtHomes (s : Setup) (w : World) : Type 0 where
+  pub opened : (n : ℕ) → is_node s.opening n ≡ true → AreOpenAtHomes (w.nodes n)
+  pub calls : AreCallsAtHomes w
+
+module _ (s : Setup) (setup : IsSetup s) (old : World) (c : Choice) (new : World) (next : IsKeptNext s old c new) (at : AreAtHomes s old) where
+  abbrev step : Stepped
+  step = next.is.step
+
+  abbrev m : NodeState
+  m = ticked (old.nodes c.node) next.is.incoming
+
+  here : AreOpenAtHomes step.node
+  here = node-home m step
+      (step-desk (given s c.node) (old.nodes c.node) c.what next.is.incoming c.dropped step (setup-gives s setup c.node next.is.node) (next.kept.nodes c.node next.is.node)
+      (incoming-is IsIncoming tt (λ number tick. tt) (λ tick. tt) IsFrame (λ x is. is) old c.node (λ from. next.kept.frames from c.node) c.what next.is.incoming next.is.comes) next.is.steps)
+      (at.opened c.node next.is.node)
+
+  calls-step : CallStep (given s c.node) m step
+  calls-step = did-calls (given s c.node) m (next.calls.four c.node) (setup-procs s setup c.node) c.what next.is.incoming step
+      (incoming-is IsFrameProc tt (λ i tick. tt) (λ tick. tt) (λ x. IsProc x.proc) (λ x is. is) old c.node
+      (λ from. EachOf-more (IsOnLink old.calls from c.node) (λ (x : Message). IsProc x.proc) (old.frames from c.node) (λ x is. is.proc) (next.calls.frames from c.node)) c.what next.is.incoming next.is.comes)
+      (step_of-did (given s c.node) (old.nodes c.node) c.what next.is.incoming c.dropped step next.is.steps)
+
+  abbrev Each : List Asked → Type 0
+  Each xs = EachOf (λ (k : Asked). IsAtHome k.home k.ask) xs
+
+  one-more : (p : ℕ) (k : Asked) → IsAtHome k.home k.ask → (a q : ℕ) → Each (calls_after old c.node (Some (p, k)) a q)
+  one-more p k is a q = elim (cases_eq a c.node) [
+    | inr away ↦ subst (λ (f : ℕ → List Asked). Each (f q)) (sym (put-other old.calls c.node a _ away)) (at.calls a q)
+    | inl there ↦ subst (λ (f : ℕ → List Asked). Each (f q)) (sym (put-same old.calls c.node a _ there)) (elim (cases_eq q p) [
+      | inr beside ↦ subst Each (sym (put-other (old.calls c.node) p q _ beside)) (at.calls c.node q)
+      | inl same ↦ subst Each (sym (put-same (old.calls c.node) p q _ same)) (is, at.calls c.node p)
+    ])
+  ]
+
+  calls-now : (a q : ℕ) → Each (calls_after old c.node step.call a q)
+  calls-now a q = elim calls-step [
+    | silent none reply stay four ↦ subst (λ o. Each (calls_after old c.node o a q)) (sym none) (at.calls a q)
+    | again p o k owner was none frame last now others four ↦ subst (λ x. Each (calls_after old c.node x a q)) (sym none) (at.calls a q)
+    | asked p o k owner number made frame last now others four ↦ subst (λ x. Each (calls_after old c.node x a q)) (sym made) (one-more p k (subst IsOpenAtHome now (here p owner)) a q)
+  ]
+
+  homes-later : AreAtHomes s new
+  homes-later = subst (AreAtHomes s) (sym next.is.world) (record {
+    opened = λ a node. elim (cases_eq a c.node) [
+      | inl there ↦ subst AreOpenAtHomes (sym (put-same old.nodes c.node a step.node there)) here
+      | inr away ↦ subst AreOpenAtHomes (sym (put-other old.nodes c.node a step.node away)) (at.opened a node)
+    ];
+    calls = calls-now;
+  })
+
+-- in every run
+homes-are : (s : Setup) → IsSetup s → (cs : List Choice) (w : World) → world_after s cs ≡ Some w → IsTimely w → AreAtHomes s w
+homes-are s setup = every-kept-run s setup (setup-procs s setup) (AreAtHomes s)
+    (record { opened = λ n node. by_proc (λ p. IsOpenAtHome (proc_of (first_node (given s n)) p).doing) tt tt tt tt; calls = λ n p. tt })
+    (λ cs old c new e timely next at. homes-later s setup old c new next at)
+
+pub calls-at-homes : (s : Setup) → IsSetup s → (cs : List Choice) (w : World) → world_after s cs ≡ Some w → IsTimely w → AreCallsAtHomes w
+calls-at-homes s setup cs w e timely = (homes-are s setup cs w e timely).calls
