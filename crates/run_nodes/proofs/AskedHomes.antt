@@ -86,7 +86,7 @@ same-open (Some o) (Some r) same is = by o.awaits r.awaits same.1 is
 
 node-home : (n : NodeState) (s : Stepped) → NodeMove n s → AreOpenAtHomes n → AreOpenAtHomes s.node
 node-home n s (still desk same) at q other = same-open (proc_of n q).doing (proc_of s.node q).doing (same q other) (at q other)
-node-home n s (moved p o m proc made desk doing others) at q other = elim (cases_eq q p) [
+node-home n s (moved p o m proc continues made desk doing others) at q other = elim (cases_eq q p) [
   | inl there ↦ subst (λ r. IsOpenAtHome (proc_of s.node r).doing) (sym there) (subst IsOpenAtHome (sym doing) (turn-open o (proc_of n p) m.turn (move-home n.desk p o.op m made)))
   | inr beside ↦ subst (λ (x : ProcState). IsOpenAtHome x.doing) (sym (others q other beside)) (at q other)
 ]

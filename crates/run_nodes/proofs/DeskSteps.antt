@@ -46,7 +46,7 @@ use Rattle.node_runs.specs.Doings.{ticked}
 use Rattle.node_runs.proofs.Doing.{step_of-did}
 use Rattle.node_runs.proofs.Nodes.{node-with}
 use Rattle.node_runs.proofs.SettingUp.{given-procs}
-use Rattle.run_nodes.specs.DeskSteps.{OpMove, apart, moves, IsSameAwait, IsSameDoing, NodeMove, still, moved}
+use Rattle.run_nodes.specs.DeskSteps.{OpMove, apart, moves, IsSameAwait, IsSameDoing, IsContinued, NodeMove, still, moved}
 
 -- what always holds of an outcome holds of each way in which it may come out
 one-way : (p : ℕ) (P : Moved → Type 0) (a : Accessed) (to : Moved) → Always p P a → MayMove p a to → P to
@@ -177,7 +177,7 @@ same-await : (a : Await) → IsSameAwait a a
 same-await (Await.Answer c) = (refl, refl)
 same-await (Await.Page u k) = (refl, refl)
 
-same-doing : (o : Option OpenOp) → IsSameDoing o o
+pub same-doing : (o : Option OpenOp) → IsSameDoing o o
 same-doing None = tt
 same-doing (Some o) = (refl, same-await o.awaits)
 
@@ -190,13 +190,13 @@ module _ (g : Given) (n : NodeState) (four : length n.procs ≡ 4) where
     | inr beside ↦ subst (λ (x : ProcState). IsSameDoing (proc_of n q).doing x.doing) (sym (ap (λ ps. at ps q first_proc) is ∙ at-put_other n.procs p q new first_proc proc other beside)) (same-doing (proc_of n q).doing)
   ]
 
-  turned-node : (p : ℕ) → IsProc p → (o : BegunOp) (stage : Stage) (to : Moved) → OpMove n.desk p o.op to → NodeMove n (moved_by_op g n p o stage to)
-  turned-node p proc o stage to made = by to.turn made
+  turned-node : (p : ℕ) → IsProc p → (o : BegunOp) (stage : Stage) (to : Moved) → IsContinued (proc_of n p).doing o → OpMove n.desk p o.op to → NodeMove n (moved_by_op g n p o stage to)
+  turned-node p proc o stage to continues made = by to.turn made
     where
       by : (turn : Turn) → OpMove n.desk p o.op (record to { turn = turn }) → NodeMove n (moved_by_op g n p o stage (record to { turn = turn }))
-      by (Turn.Ends reply) made = moved p o (record to { turn = Turn.Ends reply }) proc made refl (ap (λ (q : ProcState). q.doing) (at-put_same n.procs p _ first_proc four proc)) (λ q other differs. at-put_other n.procs p q _ first_proc proc other differs)
-      by (Turn.Asks home ask) made = moved p o (record to { turn = Turn.Asks home ask }) proc made refl (ap (λ (q : ProcState). q.doing) (at-put_same n.procs p _ first_proc four proc)) (λ q other differs. at-put_other n.procs p q _ first_proc proc other differs)
-      by (Turn.Waits u k) made = moved p o (record to { turn = Turn.Waits u k }) proc made refl (ap (λ (q : ProcState). q.doing) (at-put_same n.procs p _ first_proc four proc)) (λ q other differs. at-put_other n.procs p q _ first_proc proc other differs)
+      by (Turn.Ends reply) made = moved p o (record to { turn = Turn.Ends reply }) proc continues made refl (ap (λ (q : ProcState). q.doing) (at-put_same n.procs p _ first_proc four proc)) (λ q other differs. at-put_other n.procs p q _ first_proc proc other differs)
+      by (Turn.Asks home ask) made = moved p o (record to { turn = Turn.Asks home ask }) proc continues made refl (ap (λ (q : ProcState). q.doing) (at-put_same n.procs p _ first_proc four proc)) (λ q other differs. at-put_other n.procs p q _ first_proc proc other differs)
+      by (Turn.Waits u k) made = moved p o (record to { turn = Turn.Waits u k }) proc continues made refl (ap (λ (q : ProcState). q.doing) (at-put_same n.procs p _ first_proc four proc)) (λ q other differs. at-put_other n.procs p q _ first_proc proc other differs)
 
   next-procs : (b : Bool) (x : NodeState) → x.procs ≡ n.procs → (in_next_phase b x).procs ≡ n.procs
   next-procs true x same = same
@@ -218,17 +218,17 @@ did-desk g given procs n is what incoming s frame (finished p has none want) = s
 did-desk g given procs n is what incoming s frame (began p op to has none want way) =
     let proc = procs p has in
     let range : IsOp op = subst IsWant want (given.wants p (proc_of n p).heard (is.followed p proc).named) in
-    turned-node g n is.four p proc (begun_at g n op) Stage.Starts to (begun-turn n.desk p is.desk proc g.opening op to (subst (Agrees n.desk p (proc_of n p).last) none (is.agrees p proc)) range way)
+    turned-node g n is.four p proc (begun_at g n op) Stage.Starts to (subst (λ x. IsContinued x (begun_at g n op)) (sym none) tt) (begun-turn n.desk p is.desk proc g.opening op to (subst (Agrees n.desk p (proc_of n p).last) none (is.agrees p proc)) range way)
 did-desk g given procs n is what incoming s frame (resumed p o u k accessed to has doing come goes way) =
     let proc = procs p has in
     let agrees = subst (Agrees n.desk p (proc_of n p).last) doing (is.agrees p proc) in
-    turned-node g n is.four p proc o Stage.Resumes to (resumed-turn n.desk p is.desk proc o.op accessed to agrees.1.idle agrees.0 goes way)
+    turned-node g n is.four p proc o Stage.Resumes to (subst (λ x. IsContinued x o) (sym doing) refl) (resumed-turn n.desk p is.desk proc o.op accessed to agrees.1.idle agrees.0 goes way)
 did-desk g given procs n is what incoming s frame (served from index m ask answer sender receiver asks answers) = still refl (λ q other. same-doing (proc_of n q).doing)
 did-desk g given procs n is what incoming s frame (passed_over from index m ask sender receiver asks none) = still refl (λ q other. same-doing (proc_of n q).doing)
 did-desk g given procs n is what incoming s frame (heard from index m o c said to sender receiver asks doing same says way) =
     let proc : IsProc m.proc = (frame.range.proc_low, frame.range.proc_high) in
     let agrees = subst (Agrees n.desk m.proc (proc_of n m.proc).last) doing (is.agrees m.proc proc) in
-    turned-node g n is.four m.proc proc o (stage_of m.number said) to
+    turned-node g n is.four m.proc proc o (stage_of m.number said) to (subst (λ x. IsContinued x o) (sym doing) refl)
     (heard-turn n.desk m.proc is.desk proc o.op c.ask m.body said to agrees.1.0 (subst (λ k. IsBody k m.body) (receiver ∙ sym is.own.node) frame.range.body) says way)
 did-desk g given procs n is what incoming s frame (ignored from index m sender receiver asks) = still refl (λ q other. same-doing (proc_of n q).doing)
 did-desk g given procs n is what incoming s frame (resent p from to index number tick o c has doing same answer) =
@@ -236,7 +236,7 @@ did-desk g given procs n is what incoming s frame (resent p from to index number
 did-desk g given procs n is what incoming s frame (gave_up p from to index number tick o c into has doing same answer fails) =
     let proc = procs p has in
     let agrees = subst (Agrees n.desk p (proc_of n p).last) doing (is.agrees p proc) in
-    turned-node g n is.four p proc o (Stage.Settles c.waiting.number) into (gave_up-turn n.desk p is.desk proc o.op c.ask into agrees.1.0 fails)
+    turned-node g n is.four p proc o (Stage.Settles c.waiting.number) into (subst (λ x. IsContinued x o) (sym doing) refl) (gave_up-turn n.desk p is.desk proc o.op c.ask into agrees.1.0 fails)
 did-desk g given procs n is what incoming s frame (got_ready phase may) = let x = record n { ready = true } in phase-still g n is.four s (x.ready && others_marked g x) x refl refl refl
 did-desk g given procs n is what incoming s frame (marked from phase tick may) = let x = record n { marks = (from, phase) ∷ n.marks } in phase-still g n is.four s (x.ready && others_marked g x) x refl refl refl
 

@@ -6,3 +6,4 @@ pub mod OpenCalls
 pub mod OpenTasks
 pub mod Released
 pub mod AskedHomes
+pub mod TaskPlaces

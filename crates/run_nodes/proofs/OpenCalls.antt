@@ -278,7 +278,7 @@ module _ (g : Given) (n : NodeState) (s : Stepped) (is : IsNodeOf g n) (now : Is
 
   node-carries : NodeMove n s → AreCarried s.node
   node-carries (still desk same) q other = subst (λ d. CarriesOpen d q (proc_of s.node q).doing) (sym desk) (same-carries n.desk q (proc_of n q).doing (proc_of s.node q).doing (same q other) (carried q other))
-  node-carries (moved p o m proc made desk doing others) q other = elim (cases_eq q p) [
+  node-carries (moved p o m proc continues made desk doing others) q other = elim (cases_eq q p) [
     | inl there ↦ subst (λ r. CarriesOpen s.node.desk r (proc_of s.node r).doing) (sym there) (subst (CarriesOpen s.node.desk p) (sym doing) (own-carries p proc o m made desk doing))
     | inr beside ↦ subst (λ (x : ProcState). CarriesOpen s.node.desk q x.doing) (sym (others q other beside)) (subst (λ d. CarriesOpen d q (proc_of n q).doing) (sym desk) (other-carries p proc o m made q other beside))
   ]

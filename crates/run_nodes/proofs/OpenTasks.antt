@@ -115,13 +115,24 @@ module _ (c : Cause) (turn : Turn) (p : ℕ) (proc : IsProc p) (q : ℕ) (other 
   task-moves d e dropped desk (Moves.next {e = f} before change) is = task-change f e [] (moves-desk c turn p proc d f dropped desk before) change (task-moves d f dropped desk before is)
   task-moves d e dropped desk (Moves.dropping {e = f} before change) is = task-change f e dropped (moves-desk c turn p proc d f [] desk before) change (task-moves d f [] desk before is)
 
+-- where no load or store is open none is kept
+pub closed-task : (e : DeskState) (p : ℕ) → IsProc p → IsDesk e → is_access (open_call_of e p) ≡ false → task_of e p ≡ None
+closed-task e p proc desk none = FitsOpen-no_task e.cache.pages e.entries p (is_access (open_call_of e p)) (task_of e p) (moving_of e p) none (desk.calls p proc)
+
+pub lock-access : (call : LockCall) → is_access (Some (open_call call)) ≡ false
+lock-access (LockCall.Lock u m) = refl
+lock-access (LockCall.PageOut u k delete) = refl
+lock-access (LockCall.AttrOut u n delete) = refl
+lock-access (LockCall.Unlock u) = refl
+lock-access (LockCall.Remove u) = refl
+
 -- the load or store that an answer is to is the open one
-abbrev open_task_of : PageAnswer → Task
+abbrev pub open_task_of : PageAnswer → Task
 open_task_of (PageAnswer.Came task stamp bytes) = task
 open_task_of (PageAnswer.Taken task r stamp) = task
 open_task_of (PageAnswer.NotTaken task r stamp) = task
 
-answer-task : (pages : List Resident) (o : Option Task) (t : Option Transit) (x : Answer) (a : PageAnswer) → answer_with pages o t x ≡ Some a → o ≡ Some (open_task_of a)
+pub answer-task : (pages : List Resident) (o : Option Task) (t : Option Transit) (x : Answer) (a : PageAnswer) → answer_with pages o t x ≡ Some a → o ≡ Some (open_task_of a)
 answer-task pages None t x a e = absurd (cc)
 answer-task pages (Some task) None x a e = absurd (cc)
 answer-task pages (Some task) (Some t) x a e = by t.inward e
@@ -176,14 +187,7 @@ module _ (d e : DeskState) (p : ℕ) (proc : IsProc p) (desk : IsDesk e) (was : 
   IsTaskOfTurn (Turn.Waits u k) = Unit {0}
 
   no-task : is_access (open_call_of e p) ≡ false → IfSome (task_of e p) (IsTaskWithin e.known)
-  no-task none = subst (λ o. IfSome o (IsTaskWithin e.known)) (sym (FitsOpen-no_task e.cache.pages e.entries p (is_access (open_call_of e p)) (task_of e p) (moving_of e p) none (desk.calls p proc))) tt
-
-  lock-access : (call : LockCall) → is_access (Some (open_call call)) ≡ false
-  lock-access (LockCall.Lock u m) = refl
-  lock-access (LockCall.PageOut u k delete) = refl
-  lock-access (LockCall.AttrOut u n delete) = refl
-  lock-access (LockCall.Unlock u) = refl
-  lock-access (LockCall.Remove u) = refl
+  no-task none = subst (λ o. IfSome o (IsTaskWithin e.known)) (sym (closed-task e p proc desk none)) tt
 
   lock-none : (call : LockCall) → open_call_of e p ≡ Some (open_call call) → IfSome (task_of e p) (IsTaskWithin e.known)
   lock-none call opened = no-task (ap is_access opened ∙ lock-access call)
@@ -221,7 +225,7 @@ module _ (g : Given) (n : NodeState) (s : Stepped) (is : IsNodeOf g n) (now : Is
 
   node-within : NodeMove n s → AreTasksWithin s.node.desk
   node-within (still desk same) q other = subst (λ (d : DeskState). IfSome (task_of d q) (IsTaskWithin d.known)) (sym desk) (within q other)
-  node-within (moved p o m proc made desk doing others) q other = elim (cases_eq q p) [
+  node-within (moved p o m proc continues made desk doing others) q other = elim (cases_eq q p) [
     | inl there ↦ subst (λ r. IfSome (task_of s.node.desk r) (IsTaskWithin s.node.desk.known)) (sym there) (own-within p proc o m made desk doing)
     | inr beside ↦ subst (λ (d : DeskState). IfSome (task_of d q) (IsTaskWithin d.known)) (sym desk) (other-within p proc o m made q other beside)
   ]

@@ -42,9 +42,14 @@ IsSameDoing None None = Unit {0}
 IsSameDoing (Some o) (Some r) = (r.began ≡ o.began) × IsSameAwait o.awaits r.awaits
 IsSameDoing o r = ⊥
 
+-- the operation begins, or is the open one
+abbrev pub IsContinued : Option OpenOp → BegunOp → Type 0
+IsContinued None o = Unit {0}
+IsContinued (Some r) o = o ≡ r.began
+
 -- an event that leaves the desk and what processes await; or one process's operation moves the desk, and the others await
 -- what they did
 pub data NodeMove (n : NodeState) (s : Stepped) : Type 0 where
   still : s.node.desk ≡ n.desk → ((q : ℕ) → IsProc q → IsSameDoing (proc_of n q).doing (proc_of s.node q).doing) → NodeMove n s
-  moved : (p : ℕ) (o : BegunOp) (m : Moved) → IsProc p → OpMove n.desk p o.op m → s.node.desk ≡ m.desk → (proc_of s.node p).doing ≡ doing_after o (proc_of n p) m.turn
+  moved : (p : ℕ) (o : BegunOp) (m : Moved) → IsProc p → IsContinued (proc_of n p).doing o → OpMove n.desk p o.op m → s.node.desk ≡ m.desk → (proc_of s.node p).doing ≡ doing_after o (proc_of n p) m.turn
       → ((q : ℕ) → IsProc q → q ≢ p → proc_of s.node q ≡ proc_of n q) → NodeMove n s

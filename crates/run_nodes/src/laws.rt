@@ -18,7 +18,7 @@ ghost use Rattle.run_nodes.specs.DeskSteps.{NodeMove};
 ghost use Rattle.run_nodes.specs.AskedHomes.{AreCallsAtHomes};
 ghost use Rattle.run_nodes.specs.OpenCalls.{AreCarried};
 ghost use Rattle.run_nodes.specs.Released.{AreReleased};
-ghost use Rattle.run_nodes.specs.OpenTasks.{AreTasksWithin, AreTransits};
+ghost use Rattle.run_nodes.specs.OpenTasks.{AreTasksWithin, AreTasksPlaced, AreTransits};
 
 /// Each event of a node leaves its desk, and what its processes await, as they were; or one process's operation begins, goes
 /// on, is answered or fails, and moves the desk by the changes that a desk knows, while the others await what they did. The
@@ -69,4 +69,15 @@ pub fn open_loads_and_stores_lie_within_what_is_known()
 /// In every run in which no tick is above 2^40 each call about an object asks the object's home.
 pub fn each_call_asks_the_home_of_its_object()
     ensures { (s : Setup) → IsSetup s → (cs : List Choice) (w : World) → world_after s cs ≡ Some w → IsTimely w → AreCallsAtHomes w }
+{}
+
+/// Wherever a node's events led, each open load or store is one of its process's open operation, at the place that its spot
+/// names.
+pub fn open_loads_and_stores_are_at_their_spots()
+    ensures step { (g : Given) (n : NodeState) (what : What) (incoming : Incoming) (dropped : List (ObjectName × ℕ)) (s : Stepped) →
+        IsGiven g → IsNodeOf g n → IsIncoming incoming → AreTasksPlaced n → step_of g n what incoming dropped ≡ Some s → AreTasksPlaced s.node }
+    ensures reached { (g : Given) → IsGiven g → (n : NodeState) → Reached g n → AreTasksPlaced n }
+
+    // So at each node of every run in which no tick is above 2^40.
+    ensures runs { (s : Setup) → IsSetup s → (cs : List Choice) (w : World) → world_after s cs ≡ Some w → IsTimely w → (n : ℕ) → is_node s.opening n ≡ true → AreTasksPlaced (w.nodes n) }
 {}
