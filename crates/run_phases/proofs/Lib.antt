@@ -7,3 +7,4 @@ pub mod InPhases
 pub mod Phased
 pub mod Ending
 pub mod DecisionOrder
+pub mod PacedSample

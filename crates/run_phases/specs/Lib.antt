@@ -3,3 +3,4 @@ pub mod SingleActs
 pub mod Phases
 pub mod Paced
 pub mod DecisionOrder
+pub mod PacedSample

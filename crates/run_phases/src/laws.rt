@@ -1,11 +1,11 @@
 //! Laws of answers, acts and phases. Each stands on a function without a body, so that the check proves it.
-ghost use Rattle.std.specs.Prelude.{◌≡◌, Some, List};
+ghost use Rattle.std.specs.Prelude.{◌≡◌, true, Some, List};
 ghost use Rattle.dom_history.specs.Events.{Happening};
 ghost use Rattle.dom_history.specs.Follows.{IsEnded, IsPhased};
 ghost use Rattle.dom_history.specs.Histories.{entries};
 ghost use Rattle.node_runs.specs.Setups.{Setup, IsSetup};
 ghost use Rattle.node_runs.specs.NodesKeep.{IsTimely};
-ghost use Rattle.node_runs.specs.Runs.{Choice, World, world_after, world_of, HasEnded};
+ghost use Rattle.node_runs.specs.Runs.{Choice, World, world_after, world_of, IsRun, HasEnded};
 ghost use Rattle.node_runs.specs.RunHistories.{all_told, history_in, history_of};
 ghost use Rattle.node_runs.specs.CallsKeep.{HasProcs};
 ghost use Rattle.run_phases.specs.FittingAnswers.{AreFittingAnswers};
@@ -13,6 +13,8 @@ ghost use Rattle.run_phases.specs.DecisionOrder.{AreDecisionsRising};
 ghost use Rattle.run_phases.specs.SingleActs.{AreToldRising, AreSingleActs};
 ghost use Rattle.run_phases.specs.Phases.{AreInPhase};
 ghost use Rattle.run_phases.specs.Paced.{ArePaced};
+ghost use Rattle.run_phases.specs.PacedSample as sample;
+ghost use Rattle.node_runs.specs.FirstRun as one;
 
 /// In every run, whatever becomes of frames: what a home decides on a call, what it keeps as its last answer, and what a
 /// frame tells, is an answer that the call can have: a page or no object to a page-in, stored, stale, no grant or no object
@@ -52,4 +54,11 @@ pub fn phases_never_overlap()
 /// phase behind the last one.
 pub fn ended_runs_have_ended_histories()
     ensures { (s : Setup) → IsSetup s → ArePaced s → (es : List Happening) (w : World) → world_of s es ≡ Some w → IsTimely w → HasEnded s w → IsEnded s.asks (history_of s es) }
+{}
+
+/// A run of paced programs that ends.
+pub fn a_paced_run_ends()
+    ensures paced { ArePaced sample.setup }
+    ensures run { IsRun sample.setup one.events }
+    ensures ends { sample.has_ended_after 1 one.events ≡ Some true }
 {}
