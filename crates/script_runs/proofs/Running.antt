@@ -1,7 +1,7 @@
 -- The run of a script, as one of nodes.
 use Rattle.std.proofs.Common.{◌≡◌, ℕ, ◌≤◌, List, Option, Some, sym, ap, subst, ◌∙◌, arith}
 use Rattle.std.specs.Prelude.{◌^◌, map}
-use Rattle.uid_names.specs.Names.{ProcName, IsProcNumber}
+use Rattle.uid_names.specs.Names.{ProcName}
 use Rattle.uid_names.proofs.Orders.{same_proc_is}
 use Rattle.dom_history.specs.declared.op.Entry.{Entry}
 use Rattle.dom_history.specs.Events.{Happening}
@@ -14,10 +14,10 @@ use Rattle.node_runs.specs.NodeStates.{NodeState, proc_of}
 use Rattle.node_runs.specs.NodesKeep.{IsTimely}
 use Rattle.node_runs.specs.Runs.{World, world_of}
 use Rattle.node_runs.specs.RunHistories.{history_in, history_if}
-use Rattle.world_runs.specs.ByPlace.{by_place, IsLike}
+use Rattle.world_runs.specs.ByPlace.{IsLike}
 use Rattle.world_runs.specs.Draws.{EndsIn}
 use Rattle.run_calls.specs.DecidedReplies.{proc_at}
-use Rattle.run_calls.specs.Entries.{replies_in} 
+use Rattle.run_calls.specs.Entries.{replies_in}
 use Rattle.run_calls.specs.Entries as calls
 use Rattle.script_runs.specs.Setups.{setup_of}
 use Rattle.script_runs.specs.Runs.{IsRunOf, heard_in}
@@ -57,10 +57,9 @@ module _ (s : Content) (seed last : ℕ) (most : last ≤ 2 ^ 40) (events : List
 
   pub asked-heard : calls.AreAskedHeard (setup_of s) led.0 → AreAskedHeard s events run.picked.world
   asked-heard asked p proc =
-      let is = asked p.node p.number proc in
-      (
+      let is = asked p.node p.number proc in (
         is.0,
         subst (λ h. Reaches (ask s p) (own_entries s events p) h is.0) (heard-is p)
-        (subst (λ es. Reaches (ask s p) es (proc_of (led.0.nodes p.node) p.number).heard is.0) (entries-are p)
-        (subst (λ q. Reaches (ask s q) (calls.own_entries (setup_of s) led.0 p.node p.number) (proc_of (led.0.nodes p.node) p.number).heard is.0) (name p) is.1)),
+            (subst (λ es. Reaches (ask s p) es (proc_of (led.0.nodes p.node) p.number).heard is.0) (entries-are p)
+            (subst (λ q. Reaches (ask s q) (calls.own_entries (setup_of s) led.0 p.node p.number) (proc_of (led.0.nodes p.node) p.number).heard is.0) (name p) is.1)),
       )

@@ -1,10 +1,7 @@
-use Rattle.std.proofs.Common.{◌≡◌, ℕ, List, inl, inr, refl}
-use Rattle.dom_history.specs.Events.{Happening}
+use Rattle.std.proofs.Common.{inl, inr, refl}
 use Rattle.world_runs.specs.ByPlace.{by_place}
 use Rattle.world_runs.specs.Picked.{IsPicked}
-use Rattle.script_reader.specs.Scripts.{Content}
 use Rattle.script_runs.specs.Setups.{setup_of}
-use Rattle.script_runs.specs.Runs.{IsRunOf}
 use Rattle.script_runs.proofs.Running.{one-report}
 use Rattle.script_runs.proofs.laws.a_seed_picks_one_run_of_a_script.Goals as goal
 
