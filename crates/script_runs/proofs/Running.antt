@@ -1,5 +1,5 @@
 -- The run of a script, as one of nodes.
-use Rattle.std.proofs.Common.{◌≡◌, ℕ, ◌≤◌, List, Option, Some, sym, ap, subst, ◌∙◌, arith}
+use Rattle.std.proofs.Common.{◌≡◌, ℕ, ◌≤◌, List, Option, Some, refl, sym, ap, subst, ◌∙◌, arith}
 use Rattle.std.specs.Prelude.{◌^◌, map}
 use Rattle.uid_names.specs.Names.{ProcName}
 use Rattle.uid_names.proofs.Orders.{same_proc_is}
@@ -12,10 +12,12 @@ use Rattle.script_reader.specs.Scripts.{Content}
 use Rattle.aegis_shell.specs.Asking.{ask}
 use Rattle.node_runs.specs.NodeStates.{NodeState, proc_of}
 use Rattle.node_runs.specs.NodesKeep.{IsTimely}
+use Rattle.node_runs.specs.Deliveries.{IsPlanned}
 use Rattle.node_runs.specs.Runs.{World, world_of}
 use Rattle.node_runs.specs.RunHistories.{history_in, history_if}
-use Rattle.world_runs.specs.ByPlace.{IsLike}
+use Rattle.world_runs.specs.ByPlace.{by_place, IsLike}
 use Rattle.world_runs.specs.Draws.{EndsIn}
+use Rattle.world_runs.specs.Picked.{IsPicked}
 use Rattle.run_calls.specs.DecidedReplies.{proc_at}
 use Rattle.run_calls.specs.Entries.{replies_in}
 use Rattle.run_calls.specs.Entries as calls
@@ -23,6 +25,17 @@ use Rattle.script_runs.specs.Setups.{setup_of}
 use Rattle.script_runs.specs.Runs.{IsRunOf, heard_in}
 use Rattle.script_runs.specs.Reports.{report, report_of}
 use Rattle.script_runs.specs.Histories.{own_entries, AreRepliesHeard, AreAskedHeard}
+
+-- the events that a seed picks are a run by the plan
+abbrev pub PicksPlanned : Content → ℕ → ℕ → Type 0
+PicksPlanned s seed last = (events : List Happening) → IsPicked (setup_of s) s.plan seed last events → IsPlanned (setup_of s) s.plan events
+
+-- the run of a script whose turns end in a world
+abbrev pub picked_in : (s : Content) (seed last : ℕ) (w : World) → EndsIn (setup_of s) s.plan seed last w → IsPicked (setup_of s) s.plan seed last (by_place w.done)
+picked_in s seed last w ends = record { world = w; ends = ends; events = refl }
+
+abbrev pub run_in : (s : Content) (seed last : ℕ) → PicksPlanned s seed last → (w : World) → EndsIn (setup_of s) s.plan seed last w → IsRunOf s seed last (by_place w.done)
+run_in s seed last planned w ends = record { picked = picked_in s seed last w ends; planned = planned (by_place w.done) (picked_in s seed last w ends) }
 
 -- the turns of a seed end in one world
 abbrev pub OneEnd : Content → ℕ → ℕ → Type 0
