@@ -1,7 +1,7 @@
 -- The run of a script, as one of nodes.
-use Rattle.std.proofs.Common.{◌≡◌, ℕ, ◌≤◌, List, Option, Some, sym, ap, subst, ◌∙◌, arith}
+use Rattle.std.proofs.Common.{◌≡◌, ℕ, ◌≤◌, List, Option, Some, refl, sym, ap, subst, ◌∙◌, arith}
 use Rattle.std.specs.Prelude.{◌^◌, map}
-use Rattle.uid_names.specs.Names.{ProcName, IsProcNumber}
+use Rattle.uid_names.specs.Names.{ProcName}
 use Rattle.uid_names.proofs.Orders.{same_proc_is}
 use Rattle.dom_history.specs.declared.op.Entry.{Entry}
 use Rattle.dom_history.specs.Events.{Happening}
@@ -12,17 +12,30 @@ use Rattle.script_reader.specs.Scripts.{Content}
 use Rattle.aegis_shell.specs.Asking.{ask}
 use Rattle.node_runs.specs.NodeStates.{NodeState, proc_of}
 use Rattle.node_runs.specs.NodesKeep.{IsTimely}
+use Rattle.node_runs.specs.Deliveries.{IsPlanned}
 use Rattle.node_runs.specs.Runs.{World, world_of}
 use Rattle.node_runs.specs.RunHistories.{history_in, history_if}
 use Rattle.world_runs.specs.ByPlace.{by_place, IsLike}
 use Rattle.world_runs.specs.Draws.{EndsIn}
+use Rattle.world_runs.specs.Picked.{IsPicked}
 use Rattle.run_calls.specs.DecidedReplies.{proc_at}
-use Rattle.run_calls.specs.Entries.{replies_in} 
+use Rattle.run_calls.specs.Entries.{replies_in}
 use Rattle.run_calls.specs.Entries as calls
 use Rattle.script_runs.specs.Setups.{setup_of}
 use Rattle.script_runs.specs.Runs.{IsRunOf, heard_in}
 use Rattle.script_runs.specs.Reports.{report, report_of}
 use Rattle.script_runs.specs.Histories.{own_entries, AreRepliesHeard, AreAskedHeard}
+
+-- the events that a seed picks are a run by the plan
+abbrev pub PicksPlanned : Content → ℕ → ℕ → Type 0
+PicksPlanned s seed last = (events : List Happening) → IsPicked (setup_of s) s.plan seed last events → IsPlanned (setup_of s) s.plan events
+
+-- the run of a script whose turns end in a world
+abbrev pub picked_in : (s : Content) (seed last : ℕ) (w : World) → EndsIn (setup_of s) s.plan seed last w → IsPicked (setup_of s) s.plan seed last (by_place w.done)
+picked_in s seed last w ends = record { world = w; ends = ends; events = refl }
+
+abbrev pub run_in : (s : Content) (seed last : ℕ) → PicksPlanned s seed last → (w : World) → EndsIn (setup_of s) s.plan seed last w → IsRunOf s seed last (by_place w.done)
+run_in s seed last planned w ends = record { picked = picked_in s seed last w ends; planned = planned (by_place w.done) (picked_in s seed last w ends) }
 
 -- the turns of a seed end in one world
 abbrev pub OneEnd : Content → ℕ → ℕ → Type 0
@@ -57,10 +70,9 @@ module _ (s : Content) (seed last : ℕ) (most : last ≤ 2 ^ 40) (events : List
 
   pub asked-heard : calls.AreAskedHeard (setup_of s) led.0 → AreAskedHeard s events run.picked.world
   asked-heard asked p proc =
-      let is = asked p.node p.number proc in
-      (
+      let is = asked p.node p.number proc in (
         is.0,
         subst (λ h. Reaches (ask s p) (own_entries s events p) h is.0) (heard-is p)
-        (subst (λ es. Reaches (ask s p) es (proc_of (led.0.nodes p.node) p.number).heard is.0) (entries-are p)
-        (subst (λ q. Reaches (ask s q) (calls.own_entries (setup_of s) led.0 p.node p.number) (proc_of (led.0.nodes p.node) p.number).heard is.0) (name p) is.1)),
+            (subst (λ es. Reaches (ask s p) es (proc_of (led.0.nodes p.node) p.number).heard is.0) (entries-are p)
+            (subst (λ q. Reaches (ask s q) (calls.own_entries (setup_of s) led.0 p.node p.number) (proc_of (led.0.nodes p.node) p.number).heard is.0) (name p) is.1)),
       )

@@ -6,6 +6,9 @@ ghost use Rattle.dom_history.specs.Follows.{Follows};
 ghost use Rattle.script_reader.specs.Scripts.{Content, IsContent};
 ghost use Rattle.aegis_shell.specs.Asking.{ask};
 ghost use Rattle.node_runs.specs.Setups.{IsSetup};
+ghost use Rattle.node_runs.specs.Runs.{World};
+ghost use Rattle.world_runs.specs.ByPlace.{by_place};
+ghost use Rattle.world_runs.specs.Draws.{EndsIn};
 ghost use Rattle.world_runs.specs.Picked.{IsPicked};
 ghost use Rattle.world_runs.specs.NamedNodes.{NamesNodes};
 ghost use Rattle.script_runs.specs.Setups.{setup_of};
@@ -25,12 +28,15 @@ pub fn scripts_set_nodes_up()
 }
 
 /// The turns of a seed end in a run of the script, planned by its faults, or else give a node the last tick, and never do
-/// both. There is no other run of that seed, and no other report.
+/// both. The run is what the turns did, by place, and keeps the nodes in which they ended. There is no other run of that seed,
+/// and no other report.
 pub fn a_seed_picks_one_run_of_a_script()
     ensures planned { (s : Content) (seed last : ℕ) → IsContent s → IsStart s.opening → last ≤ 2 ^ 40 → (events : List Happening) →
         IsPicked (setup_of s) s.plan seed last events → IsRunOf s seed last events }
     ensures either { (s : Content) (seed last : ℕ) → IsContent s → IsStart s.opening → 1 ≤ last → last ≤ 2 ^ 40 →
         ((events : List Happening) × IsRunOf s seed last events) ⊎ ((node : ℕ) × ComesToTick s seed last node) }
+    ensures ends { (s : Content) (seed last : ℕ) → IsContent s → IsStart s.opening → last ≤ 2 ^ 40 → (w : World) →
+        EndsIn (setup_of s) s.plan seed last w → (run : IsRunOf s seed last (by_place w.done)) × (run.picked.world ≡ w) }
     ensures not_both { (s : Content) (seed last node : ℕ) (events : List Happening) → IsRunOf s seed last events → ComesToTick s seed last node → ⊥ }
     ensures one { (s : Content) (seed last : ℕ) (events others : List Happening) → IsRunOf s seed last events → IsRunOf s seed last others → events ≡ others }
     ensures report { (s : Content) (seed last : ℕ) (events others : List Happening) (run : IsRunOf s seed last events) (other : IsRunOf s seed last others) →

@@ -1,4 +1,4 @@
-use Rattle.std.proofs.Common.{ℕ, subst}
+use Rattle.std.proofs.Common.{subst}
 use Rattle.std.specs.Prelude.{All}
 use Rattle.world_runs.specs.NamedNodes.{NamesNodes}
 use Rattle.script_runs.specs.Setups.{setup_of}
