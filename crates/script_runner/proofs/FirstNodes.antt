@@ -1,11 +1,12 @@
 -- The nodes of a script, as they are made.
-use Rattle.std.proofs.Common.{◌≡◌, ℕ, zero, suc, ◌+◌, ◌-◌, ◌<◌, ◌≤◌, ◌==◌, Bool, true, false, Option, Some, None, List, [], ◌∷◌, length, take, map, slice_index_or, refl, sym, ◌∙◌, ap, subst, arith}
-use Rattle.std.specs.Prelude.{All, filter, if◌then◌else◌, is_some, ◌||◌, ◌&&◌, IfSome}
+use Rattle.std.proofs.Common.{◌≡◌, ℕ, zero, suc, ◌+◌, ◌-◌, ◌<◌, ◌≤◌, ◌==◌, Bool, true, false, Option, Some, None, Result, Ok, Err, List, [], ◌∷◌, ◌++◌, length, take, map, slice_index_or, refl, sym, ◌∙◌, ap, subst, arith}
+use Rattle.std.specs.Prelude.{All, filter, if◌then◌else◌, is_some, ◌||◌, IfSome, IfOk, slice_get}
 use Rattle.std.specs.List.{list_any}
 use Rattle.std.proofs.lemmas.Bool.Decides.{nat_tests}
-use Rattle.std.proofs.lemmas.List.{length-take, get_or-map, get_or-take, length-map}
+use Rattle.std.proofs.lemmas.List.{length-take, get_or-map, get_or-take}
 use Rattle.std.proofs.lemmas.List.Elements.{All-get_or}
 use Rattle.uid_names.specs.Names.{ProcName, same_proc}
+use Rattle.uid_names.specs.Openings.{Start}
 use Rattle.dom_history.specs.declared.op.Want.TheVariants.{Phase}
 use Rattle.dom_history.specs.Follows.{Heard}
 use Rattle.dom_history.specs.Programs.{asked_by}
@@ -14,14 +15,15 @@ use Rattle.script_reader.specs.Scripts.{Content, IsContent}
 use Rattle.aegis_shell.specs.Asking.{ask}
 use Rattle.aegis_shell.specs.Shells.{Shelled, shell_of, shell_wants, shell_after}
 use Rattle.node_runs.specs.Doings.{node_numbers}
-use Rattle.node_runs.specs.Setups.{given, IsSetup, ArePrograms}
+use Rattle.node_runs.specs.Setups.{Given, given, IsSetup, ArePrograms}
+use Rattle.node_runs.specs.NodeStates.{first_node}
 use Rattle.node_core.specs.declared.setup.NodeSetup.{NodeSetup}
 use Rattle.node_core.specs.Programs.{program_in, program_by, numbers_in}
-use Rattle.node_core.specs.Nodes.{IsGivenBy}
+use Rattle.node_core.specs.Nodes.{Noted, Stands, IsGivenBy}
 use Rattle.script_runs.specs.Processes.{processes_of}
 use Rattle.script_runs.specs.Setups.{numbers_at, programs_of, setup_of}
 use Rattle.script_runs.proofs.ProcsWith.{proc_from_same}
-use Rattle.script_runner.specs.Nodes.{shells_among}
+use Rattle.script_runner.specs.Nodes.{shells_among, IsFirstNode}
 
 -- processes of one node and one number are one
 pub proc_is : (p q : ProcName) → p.node == q.node ≡ true → p.number == q.number ≡ true → p ≡ q
@@ -96,7 +98,7 @@ module _ (s : Content) (content : IsContent s) (n : ℕ) (low : 1 ≤ n) (high :
   -- the processes of a node that have a program
   programs_at : slice_index_or (programs_of s) (n - 1) [] ≡ numbers_at (processes_of s.commands) n
   programs_at =
-      let few = content.draft.few_nodes in
+      let few : length s.nodes ≤ 8 = content.draft.few_nodes in
       let short : n - 1 < length (take (length s.nodes) node_numbers) = omega (arith, length-take (length s.nodes) node_numbers) in
       let is : slice_index_or (take (length s.nodes) node_numbers) (n - 1) 0 ≡ n = get_or-take (length s.nodes) node_numbers (n - 1) 0 (omega arith) ∙ (node_number (n - 1) (omega arith) ∙ omega arith) in
       get_or-map (numbers_at (processes_of s.commands)) (take (length s.nodes) node_numbers) (n - 1) 0 [] short
@@ -137,3 +139,32 @@ shells_fresh s n p procs = by_shell (program_in (shells_among s n procs) p) refl
     by_shell : (o : Option Shelled) → program_in (shells_among s n procs) p ≡ o → IfSome o (λ y. shell_wants y ≡ Phase)
     by_shell None is = tt
     by_shell (Some y) is = ap shell_wants (sym (shell_made s n p procs y is))
+
+-- the frames of a node are those of its row
+pub frames_at : (s : Content) (n : ℕ) → 1 ≤ n → n ≤ length s.nodes → (nodes : List NodeRow) (i : ℕ) (row : NodeRow) → nodes ≡ s.nodes → i ≡ n - 1 → row ≡ slice_index_or nodes i row → row.frames ≡ slice_index_or (map (λ (r : NodeRow). r.frames) s.nodes) (n - 1) 0
+frames_at s n low high nodes i row are at is =
+    let short : n - 1 < length s.nodes = omega arith in
+    ap (λ (r : NodeRow). r.frames) (is ∙ (ap (λ (rows : List NodeRow). slice_index_or rows i row) are ∙ ap (λ k. slice_index_or s.nodes k row) at))
+    ∙ sym (get_or-map (λ (r : NodeRow). r.frames) s.nodes (n - 1) row 0 short)
+
+-- a node that was made of what its script gives it
+pub first_node_is : {E : Type 0} (s : Content) (n : ℕ) (setup : NodeSetup) (opening : Start) (shells : List (ℕ × Shelled)) (r : Result (Noted Shelled) E) → setup.node ≡ n → opening ≡ s.opening → shells ≡ shells_among s n (processes_of s.commands)
+    → IsGivenBy shell_wants shell_after setup s.opening (shells_among s n (processes_of s.commands)) (given (setup_of s) n)
+    → IfOk r (λ x. (g : Given) → IsGivenBy shell_wants shell_after setup opening shells g → Stands shell_wants shell_after (program_in shells) g x (first_node g))
+    → IfOk r (λ x. x.log ≡ record { node = setup.node; events = [] }) → IfOk r (IsFirstNode s n)
+first_node_is s n setup opening shells (Err e) node opens are gives stands log = tt
+first_node_is s n setup opening shells (Ok x) node opens are gives stands log =
+    let same : IsGivenBy shell_wants shell_after setup opening shells (given (setup_of s) n) =
+        subst (λ (o : Start). IsGivenBy shell_wants shell_after setup o shells (given (setup_of s) n)) (sym opens)
+        (subst (λ (all : List (ℕ × Shelled)). IsGivenBy shell_wants shell_after setup s.opening all (given (setup_of s) n)) (sym are) gives) in
+    record {
+      stands = subst (λ (all : List (ℕ × Shelled)). Stands shell_wants shell_after (program_in all) (given (setup_of s) n) x (first_node (given (setup_of s) n))) are (stands (given (setup_of s) n) same);
+      log = subst (λ (k : ℕ). x.log ≡ record { node = k; events = [] }) node log;
+    }
+
+-- what holds of each element by its place holds with one more
+pub push_each : {X : Type 0} (P : ℕ → X → Type 0) (xs : List X) (x : X) → ((n : ℕ) (y : X) → slice_get xs n ≡ Some y → P n y) → P (length xs) x → (n : ℕ) (y : X) → slice_get (xs ++ x ∷ []) n ≡ Some y → P n y
+push_each P [] x each last zero y is = let same : x ≡ y = cc in subst (P 0) same last
+push_each P [] x each last (suc n) y is = absurd (cc)
+push_each P (z ∷ xs) x each last zero y is = each zero y is
+push_each P (z ∷ xs) x each last (suc n) y is = push_each (λ k. P (suc k)) xs x (λ k w e. each (suc k) w e) last n y is

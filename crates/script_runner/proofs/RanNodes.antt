@@ -1,12 +1,14 @@
 -- What comes of a script's nodes.
-use Rattle.std.proofs.Common.{◌≡◌, ℕ, zero, suc, ◌+◌, ◌-◌, ◌<◌, ◌≤◌, ◌==◌, Option, Some, None, List, [], ◌∷◌, length, map, reverse, slice_index_or, refl, sym, ◌∙◌, ap, subst, arith}
-use Rattle.std.specs.Prelude.{◌^◌, All, IsSome, IfSome, slice_get}
+use Rattle.std.proofs.Common.{◌≡◌, ℕ, zero, suc, ◌+◌, ◌-◌, ◌<◌, ◌≤◌, ◌==◌, Option, Some, None, Result, Ok, Err, List, [], ◌∷◌, length, map, reverse, slice_index_or, refl, sym, ◌∙◌, ap, subst, arith}
+use Rattle.std.specs.Prelude.{◌^◌, All, IsSome, IfSome, IfOk, IfErr, IsErrOf}
 use Rattle.std.specs.Option.{option_map}
 use Rattle.std.proofs.lemmas.List.{length-map, length-reverse, get_or-reverse}
 use Rattle.std.proofs.lemmas.List.Elements.{All-cons, All-nil, All-head, All-tail, All-weaker, All-get_or}
 use Rattle.std.proofs.lemmas.Option.{slice_get-get_or}
 use Rattle.uid_names.specs.Names.{ProcName}
+use Rattle.uid_names.specs.Openings.{IsStart}
 use Rattle.dom_history.specs.Events.{Happening}
+use Rattle.dom_history.specs.declared.plan.FateRow.{FateRow}
 use Rattle.dom_history.specs.declared.event.What.{What}
 use Rattle.dom_history.specs.declared.event.What.TheVariants.{Begin, Go, Take, Notice, Ready, Mark}
 use Rattle.dom_history.specs.declared.event.Sent.{Sent}
@@ -19,20 +21,28 @@ use Rattle.aegis_shell.specs.Asking.{answers}
 use Rattle.aegis_shell.specs.Shells.{Shelled, shell_of, shell_wants, shell_after, shell_answers}
 use Rattle.journal_text.specs.Lines.{Names, NamesWhat, IsNamed}
 use Rattle.fault_handler.specs.Desks.{IsNode}
-use Rattle.node_runs.specs.Runs.{World}
-use Rattle.node_runs.specs.Deliveries.{IsPlanned}
+use Rattle.node_runs.specs.Setups.{Setup}
+use Rattle.node_runs.specs.Runs.{first_world}
+use Rattle.world_runs.specs.Draws.{ComesToLast}
 use Rattle.world_runs.specs.ByPlace.{by_place}
 use Rattle.world_runs.specs.Picked.{IsPicked}
 use Rattle.world_runs.specs.NamedNodes.{NamesNodes, NamesNodesIn}
+use Rattle.world_core.specs.declared.run.RunFault.{RunFault}
+use Rattle.world_core.specs.declared.run.RunFault.TheVariants.{TickLimit, NoMemory}
+use Rattle.world_core.specs.declared.world.World.{World as Whole}
 use Rattle.world_core.specs.Ended.{named}
 use Rattle.world_core.specs.Stands as worlds
 use Rattle.script_runs.specs.Processes.{processes_of}
 use Rattle.script_runs.specs.Setups.{setup_of}
 use Rattle.script_runs.specs.Runs.{IsRunOf, heard_in}
-use Rattle.script_runs.specs.Reports.{ProcAnswers, names_of, rows_of}
+use Rattle.script_runs.specs.Reports.{names_of, rows_of}
+use Rattle.script_runs.specs.Histories.{AreRepliesHeard}
 use Rattle.script_runs.proofs.ProcsWith.{processes_of-All}
+use Rattle.script_runner.specs.declared.run.AnswerRow.{AnswerRow}
 use Rattle.script_runner.specs.Answered.{answers_by, row_in}
+use Rattle.script_runner.specs.Faults.{IsFaultOf}
 use Rattle.script_runner.specs.Nodes.{made_shell}
+use Rattle.script_runner.specs.Reports.{IsRan, answers_in}
 use Rattle.script_runner.proofs.FirstNodes.{shell_found}
 
 -- each process of a script is one of its nodes
@@ -87,12 +97,27 @@ events-named s events all = All-reverse (Names (names_of s)) events
       sent = named_sent s e.effects.sent names.sent;
     }) events all)
 
-module _ (s : Content) (content : IsContent s) (seed last : ℕ) (events : List Happening) (programs : List (ProcName × Shelled)) (ended : worlds.IsRunOf shell_wants shell_after (made_shell s) (setup_of s) s.plan seed last events programs) where
-  -- the events, the last one first
-  pub places : List Happening
-  places = by_place ended.world.done
+-- the turns of a script's nodes end in a run, or come to the last tick
+pub run_found : {G R : Type 0} (events : R → List Happening) (programs : R → List (ProcName × Shelled)) (s : Content) (seed last : ℕ) (x : Whole Shelled G) (r : Result R RunFault)
+    → worlds.Stands shell_wants shell_after (made_shell s) (setup_of s) x (first_world (setup_of s)) → x.plan ≡ s.plan
+    → IfOk r (λ y. (made : ℕ → ℕ → Option Shelled) (t : Setup) → worlds.Stands shell_wants shell_after made t x (first_world t) → worlds.IsRunOf shell_wants shell_after made t x.plan seed last (events y) (programs y))
+    → IfOk r (λ y. worlds.IsRunOf shell_wants shell_after (made_shell s) (setup_of s) s.plan seed last (events y) (programs y))
+run_found events programs s seed last x (Err e) stands plan found = tt
+run_found events programs s seed last x (Ok y) stands plan found =
+    subst (λ (rows : List FateRow). worlds.IsRunOf shell_wants shell_after (made_shell s) (setup_of s) rows seed last (events y) (programs y)) plan (found (made_shell s) (setup_of s) stands)
 
-  pub picked : IsPicked (setup_of s) s.plan seed last (by_place ended.world.done)
+pub limit_found : {G R : Type 0} (s : Content) (seed last : ℕ) (x : Whole Shelled G) (r : Result R RunFault)
+    → worlds.Stands shell_wants shell_after (made_shell s) (setup_of s) x (first_world (setup_of s)) → x.plan ≡ s.plan
+    → ((n : ℕ) → IsErrOf r (TickLimit n) → (made : ℕ → ℕ → Option Shelled) (t : Setup) → worlds.Stands shell_wants shell_after made t x (first_world t) → ComesToLast t x.plan seed last n)
+    → IfErr r (IsFaultOf s seed last)
+limit_found s seed last x (Ok y) stands plan found = tt
+limit_found s seed last x (Err NoMemory) stands plan found = tt
+limit_found s seed last x (Err (TickLimit n)) stands plan found =
+    subst (λ (rows : List FateRow). ComesToLast (setup_of s) rows seed last n) plan (found n refl (made_shell s) (setup_of s) stands)
+
+module _ (s : Content) (content : IsContent s) (seed last : ℕ) (events : List Happening) (programs : List (ProcName × Shelled)) (ended : worlds.IsRunOf shell_wants shell_after (made_shell s) (setup_of s) s.plan seed last events programs) where
+  -- the events are the run that the seed picks
+  abbrev pub picked : IsPicked (setup_of s) s.plan seed last (by_place ended.world.done)
   picked = record { world = ended.world; ends = ended.ends; events = refl }
 
   -- the shell of each process is what it became by what its program heard
@@ -116,3 +141,35 @@ module _ (s : Content) (content : IsContent s) (seed last : ℕ) (events : List 
       (λ i d below.
           let p = slice_index_or (processes_of s.commands) i d in
           ap (λ (texts : List (List ℕ)). record { proc = p; answers = texts }) (ap answers_by (shells-are i d below) ∙ law p (heard_in ended.world p)))
+
+-- laws of a script's run
+abbrev pub ArePlanned : Type 0
+ArePlanned = (s : Content) (seed last : ℕ) → IsContent s → IsStart s.opening → last ≤ 2 ^ 40 → (events : List Happening) → IsPicked (setup_of s) s.plan seed last events → IsRunOf s seed last events
+
+abbrev pub NameTheirNodes : Type 0
+NameTheirNodes = (s : Content) (seed last : ℕ) → IsContent s → IsStart s.opening → last ≤ 2 ^ 40 → (events : List Happening) → IsRunOf s seed last events → All (NamesNodes (length s.nodes)) events
+
+abbrev pub HaveRepliesHeard : Type 0
+HaveRepliesHeard = (s : Content) (seed last : ℕ) → IsContent s → IsStart s.opening → last ≤ 2 ^ 40 → (events : List Happening) (run : IsRunOf s seed last events) → AreRepliesHeard s events run.picked.world
+
+module _ (s : Content) (content : IsContent s) (start : IsStart s.opening) (seed last : ℕ) (most : last ≤ 2 ^ 40) (events : List Happening) (programs : List (ProcName × Shelled)) (ended : worlds.IsRunOf shell_wants shell_after (made_shell s) (setup_of s) s.plan seed last events programs) (planned : ArePlanned) where
+  abbrev run_of : IsRunOf s seed last (by_place ended.world.done)
+  run_of = record {
+    picked = picked s content seed last events programs ended;
+    planned = (planned s seed last content start most (by_place ended.world.done) (picked s content seed last events programs ended)).planned;
+  }
+
+  -- what came of the script
+  pub ran_is : HaveRepliesHeard → ((p : ProcName) (heard : Heard) → shell_answers (program_after shell_after (shell_of s p) heard) ≡ answers s p heard)
+      → (procs : List ProcName) → procs ≡ processes_of s.commands → (rows : List AnswerRow) → map answers_in rows ≡ map (row_in programs) procs → IsRan s seed last (record { events = events; answers = rows })
+  ran_is heard answered procs are rows same = record {
+    events = by_place ended.world.done;
+    run = run_of;
+    heard = heard s seed last content start most (by_place ended.world.done) run_of;
+    by_place = ended.events_are;
+    answers = same ∙ rows-are s content seed last events programs ended answered procs are;
+  }
+
+  -- each node that an event names has a name
+  pub names_are : NameTheirNodes → All (Names (names_of s)) events
+  names_are named = subst (All (Names (names_of s))) (sym ended.events_are) (events-named s (by_place ended.world.done) (named s seed last content start most (by_place ended.world.done) run_of))

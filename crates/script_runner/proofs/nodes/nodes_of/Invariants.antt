@@ -6,7 +6,5 @@ use Rattle.script_runner.specs.Nodes.{IsFirstNode}
 use Rattle.script_runner.proofs.nodes.nodes_of.Given as goal
 
 abbrev pub invariant-loop-i : goal.invariant-loop-i
-invariant-loop-i l = record {
-  count = length l.nodes.items ≡ l.i;
-  node = (n : ℕ) (x : Noted Shelled) → slice_get l.nodes.items n ≡ Some x → IsFirstNode l.script (n + 1) x;
-}
+invariant-loop-i l =
+    (length l.nodes.items ≡ l.i) × ((n : ℕ) (x : Noted Shelled) → slice_get l.nodes.items n ≡ Some x → IsFirstNode l.script (n + 1) x)
