@@ -1,33 +1,34 @@
-use Rattle.std.proofs.Common.{◌≡◌, ◌∙◌, ◌++◌, ℕ, List, ap, sym, take, drop, length}
-use Rattle.std.proofs.Math.Seq.{take-append_seam}
-use Rattle.script_runner.proofs.Reported.{beginning_unbegun, beginning_listed, beginning_few, reported}
+use Rattle.std.proofs.Common.{◌≡◌, ◌∙◌, ap, sym, subst}
+use Rattle.std.specs.Prelude.{All, IsSome, map}
+use Rattle.uid_names.specs.Openings.{IsStart}
+use Rattle.world_core.specs.Ended.{named}
+use Rattle.script_runs.specs.Processes.{processes_of}
+use Rattle.script_runner.specs.Answered.{row_in}
+use Rattle.script_runner.specs.Reports.{IsRan}
+use Rattle.script_runner.proofs.RanNodes.{shells-there, ran_is, names_are}
 use Rattle.script_runner.proofs.run.run_script.Goals as goal
 
-pub serve_in_rounds-requires-clause-unbegun : goal.serve_in_rounds-requires-clause-unbegun
-serve_in_rounds-requires-clause-unbegun c =
-    rw (c.as_mut_slice.ensures.value, c.in_ok-processes.ensures, c.as_slice.ensures.value, c.in_ok-procs.ensures, c.commands.ensures.value)
-    (beginning_unbegun c.args.script.now c.processes_come_to_their_end.ensures c.answers_only_become_more.ensures c.shells_go_by_all_they_heard.ensures.asks c.shells_go_by_all_they_heard.ensures.answers c.opening.ensures.content)
+pub answers-requires : goal.answers-requires
+answers-requires c =
+    let s = c.args.script.now in
+    let procs : c.as_slice-2.result.now ≡ processes_of c.args.script.now.commands = c.as_slice-2.ensures.value ∙ (c.in_ok-procs.ensures ∙ ap processes_of c.commands.ensures.value) in
+    subst (λ shells. All (λ p. IsSome (named shells p)) c.as_slice-2.result.now) (sym c.as_slice.ensures.value)
+    (shells-there s c.commands.ensures.content c.unwrap_or.result c.args.last_tick c.in_ok-events.events c.in_ok-events.shells.items c.in_ok-events.ensures.run c.as_slice-2.result.now procs)
 
-pub serve_in_rounds-requires-clause-listed : goal.serve_in_rounds-requires-clause-listed
-serve_in_rounds-requires-clause-listed c =
-    rw (c.as_mut_slice.ensures.value, c.in_ok-processes.ensures, c.as_slice.ensures.value, c.in_ok-procs.ensures, c.commands.ensures.value)
-    (beginning_listed c.args.script.now)
+pub returns-clause-named : goal.returns-clause-named
+returns-clause-named c =
+    let s = c.args.script.now in
+    names_are s c.commands.ensures.content (subst IsStart c.opening.ensures.value c.nodes-start.ensures.start) c.unwrap_or.result c.args.last_tick c.requires.few
+    c.in_ok-events.events c.in_ok-events.shells.items c.in_ok-events.ensures.run
+    c.a_seed_picks_one_run_of_a_script.ensures.planned c.runs_of_scripts_name_their_nodes.ensures
 
-pub serve_in_rounds-requires-clause-few : goal.serve_in_rounds-requires-clause-few
-serve_in_rounds-requires-clause-few c =
-    rw (c.as_mut_slice.ensures.value, c.in_ok-processes.ensures, c.as_slice.ensures.value, c.in_ok-procs.ensures, c.commands.ensures.value)
-    (beginning_few c.args.script.now c.opening.ensures.content)
-
--- the list that was served is what the Vec has
-served_items : {X : Type 0} (now old served : List X) (len : ℕ) → now ≡ take len (served ++ drop (length served) old) → len ≡ length served → now ≡ served
-served_items now old served len is same = is ∙ (ap (λ n. take n (served ++ drop (length served) old)) same ∙ take-append_seam served (drop (length served) old))
-
-pub returns : goal.returns
-returns c =
-    let script = c.args.script.now in
-    let served = rw (c.as_mut_slice.ensures.value, c.in_ok-processes.ensures, c.as_slice.ensures.value, c.in_ok-procs.ensures, c.commands.ensures.value, c.in_ok-store.ensures, c.opening.ensures.value) at c.in_ok-serve_in_rounds.ensures in
-    let done = c.serve_in_rounds.new.processes in
-    let length_is : c.in_ok-processes.processes.len ≡ length done = sym c.as_mut_slice.ensures.len ∙ sym c.serve_in_rounds.auto.processes in
-    let items = served_items c.as_slice-2.result.now c.in_ok-processes.processes.items done c.in_ok-processes.processes.len c.as_slice-2.ensures.value length_is in
-    let written = rw (c.nodes.ensures.value, items) at c.in_ok-text.ensures in
-    reported script done c.serve_in_rounds.new.store.deeds c.in_ok-text.text c.the_run_is_one.ensures c.shells_go_by_all_they_heard.ensures.asks c.shells_go_by_all_they_heard.ensures.answers served written
+pub returns-clause-ran : goal.returns-clause-ran
+returns-clause-ran c =
+    let s = c.args.script.now in
+    let procs : c.as_slice-2.result.now ≡ processes_of c.args.script.now.commands = c.as_slice-2.ensures.value ∙ (c.in_ok-procs.ensures ∙ ap processes_of c.commands.ensures.value) in
+    subst (λ seed. IsRan c.args.script.now seed c.args.last_tick (record { events = c.in_ok-events.events; answers = c.in_ok-answers.answers })) c.unwrap_or.ensures
+    (ran_is s c.commands.ensures.content (subst IsStart c.opening.ensures.value c.nodes-start.ensures.start) c.unwrap_or.result c.args.last_tick c.requires.few
+    c.in_ok-events.events c.in_ok-events.shells.items c.in_ok-events.ensures.run c.a_seed_picks_one_run_of_a_script.ensures.planned
+    c.entries_are_what_scripts_heard.ensures.replies (c.shells_go_by_all_they_heard.ensures.answers s)
+    c.as_slice-2.result.now procs c.in_ok-answers.answers
+    (c.in_ok-answers.ensures ∙ ap (λ shells. map (row_in shells) c.as_slice-2.result.now) c.as_slice.ensures.value))
