@@ -22,3 +22,4 @@ pub mod ByPathsLeft
 pub mod Ready
 pub mod RecordsRead
 pub mod SlotsPut
+pub mod WalksBounded

@@ -20,3 +20,4 @@ pub mod Tasks
 pub mod ByPaths
 pub mod Turns
 pub mod Walking
+pub mod Bounds

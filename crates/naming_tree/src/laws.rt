@@ -7,12 +7,15 @@ ghost use Rattle.dom_history.specs.declared.op.Reply.{Reply};
 ghost use Rattle.naming_tree.specs.declared.addition.Addition.{Addition};
 ghost use Rattle.naming_tree.specs.declared.site.Site.{Site};
 ghost use Rattle.naming_tree.specs.declared.row.DirRow.{DirRow};
+ghost use Rattle.naming_tree.specs.declared.step.Walked.{Walked};
+ghost use Rattle.naming_tree.specs.declared.step.NameResult.TheVariants.{LinkLoop};
 ghost use Rattle.naming_tree.specs.Records.{Slot, row_bytes, slot_of, IsRow};
 ghost use Rattle.naming_tree.specs.Directories.{directory_of, are_apart, row_named, placed_row, first_free, with_slot, IsDirectory};
-ghost use Rattle.naming_tree.specs.Dialogues.{says, after, FitsHeard};
+ghost use Rattle.naming_tree.specs.Dialogues.{Dialogue, Ends, says, after, FitsHeard};
 ghost use Rattle.naming_tree.specs.Turns.{machine_says};
 ghost use Rattle.naming_tree.specs.Paths.{route_of};
-ghost use Rattle.naming_tree.specs.Walks.{walk};
+ghost use Rattle.naming_tree.specs.Walks.{walk, follow};
+ghost use Rattle.naming_tree.specs.Bounds.{IsBounded, names_along};
 ghost use Rattle.naming_tree.specs.Walking.{walk_of, walking_asks, walking_after};
 ghost use Rattle.naming_tree.specs.Additions.{add_at, IsAddition, IsText};
 ghost use Rattle.naming_tree.specs.Adding.{adding_of, adding_asks, adding_after};
@@ -25,6 +28,13 @@ ghost use Rattle.naming_tree.specs.ByPaths.{list_dir_of, add_name_of, drop_name_
 #[tactic(auto, using(crate::proofs::WalksLive::walk_says))]
 pub fn walks_go_by_all_they_heard()
     ensures { (site : Site) (path : List ℕ) (working : ObjectName) (last : Bool) (heard : List Reply) → IsSome (route_of path) → FitsHeard (walk site path working last) heard → machine_says walking_asks walking_after (walk_of site last (route_of path) working) heard ≡ Some (says (after (walk site path working last) heard)) }
+{}
+
+/// A walk follows at most eight links, and looks up at most as many names as its path and the texts of those links have.
+/// A ninth link is a link loop.
+pub fn walks_go_no_further()
+    ensures bounded { (site : Site) (path : List ℕ) (working : ObjectName) (last : Bool) → IsBounded 8 (names_along (route_of path)) (walk site path working last) }
+    ensures ninth { (site : Site) (last : Bool) (found : Walked → Dialogue) (link dir : ObjectName) (names : List (List ℕ)) → follow site last found 0 link dir names ≡ Ends LinkLoop }
 {}
 
 /// So does an addition to a directory, and a removal from one.
