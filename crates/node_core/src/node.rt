@@ -24,6 +24,9 @@ use std::alloc::Global;
 use std::marker::Model;
 use uid_names::{NoMemory, Opening, Place};
 
+// A journal has one of these for each event.
+const _: () = prove!(size_of::<Event>() <= 112);
+
 /// A frame that is sent, with its index on its link.
 fn indexed(frame: Option<Frame>, sent: Option<Sent>) -> Option<(u64, Frame)>
     ensures { result ≡ indexed frame sent }
