@@ -1,9 +1,9 @@
 -- How a machine begins.
-use Rattle.std.proofs.Common.{◌≡◌, ◌≢◌, ℕ, zero, suc, ◌+◌, ◌-◌, ◌^◌, ◌<◌, ◌≤◌, inl, inr, Bool, true, false, List, [], ◌∷◌, map, length, Option, Some, None, IfSome, refl, sym, ap, subst, ◌∙◌, arith}
-use Rattle.std.specs.Prelude.{All, AllPairs}
+use Rattle.std.proofs.Common.{◌≡◌, ◌≢◌, ℕ, zero, suc, ◌+◌, ◌-◌, ◌≤◌, inl, inr, Bool, true, false, List, [], ◌∷◌, map, Option, Some, None, IfSome, refl, sym, ap, subst, ◌∙◌, arith}
+use Rattle.std.specs.Prelude.{All}
 use Rattle.std.specs.Option.{option_map}
 use Rattle.std.proofs.lemmas.Bool.{cases_eq}
-use Rattle.std.proofs.lemmas.List.{length-map, set-get_or}
+use Rattle.std.proofs.lemmas.List.{set-get_or}
 use Rattle.std.proofs.lemmas.List.Elements.{All-nil}
 use Rattle.uid_names.specs.Names.{IsProcNumber}
 use Rattle.dom_history.specs.declared.event.NodeLog.{NodeLog}
@@ -13,14 +13,14 @@ use Rattle.uid_names.specs.declared.limits.TheConstants.{VOLUME_ROOM, MAX_PHASES
 use Rattle.dom_history.specs.declared.op.Reply.{Reply}
 use Rattle.dom_history.specs.declared.op.Want.{Want}
 use Rattle.dom_history.specs.declared.op.Want.TheVariants.{Phase}
-use Rattle.dom_history.specs.Programs.{FitsWant, program_after, asked_by}
-use Rattle.dom_history.specs.Ranges.{IsWant, IsNamedReply}
+use Rattle.dom_history.specs.Programs.{program_after}
+use Rattle.dom_history.specs.Ranges.{IsWant}
 use Rattle.object_store.specs.Beginnings.{first_home}
 use Rattle.object_store.proofs.Begun.{IsHome-first_home}
 use Rattle.page_server.proofs.Begun.{IsBegun-first_home}
 use Rattle.page_server.proofs.Sides.{IsSide-first}
 use Rattle.fault_handler.specs.Invariant.{IsProc}
-use Rattle.fault_handler.specs.Desks.{DeskState, at, put_at}
+use Rattle.fault_handler.specs.Desks.{DeskState, put_at}
 use Rattle.node_runs.specs.Setups.{Given, IsGiven, IsFrames, ArePrograms}
 use Rattle.node_runs.specs.NodeStates.{NodeState, ProcState, first_proc, first_node, proc_of, with_proc}
 use Rattle.node_runs.specs.NodesKeep.{IsNodeOf, IsCounted}
@@ -32,7 +32,7 @@ use Rattle.node_core.specs.declared.processes.Proc.{Proc}
 use Rattle.node_core.specs.declared.setup.NodeSetup.{NodeSetup}
 use Rattle.node_core.specs.Processes.{proc_seen, want_at}
 use Rattle.node_core.specs.Programs.{program_in, numbers_in, AreRising}
-use Rattle.node_core.specs.Nodes.{IsTold, AreTold, Noted, Stands, IsGivenBy}
+use Rattle.node_core.specs.Nodes.{IsTold, Stands, IsGivenBy}
 use Rattle.node_core.specs.Machines.{inner_of, given_of, state_of, IsKept}
 use Rattle.node_core.specs.Outcomes.{Told, FirstAsked, AllAsked}
 use Rattle.node_core.proofs.Seen.{seen-silent}
@@ -49,7 +49,7 @@ use Rattle.page_server.specs.Serving.{HomeSide, first_side}
 use Rattle.fault_handler.proofs.Fours.{by_proc, first, second, third, fourth}
 use Rattle.dom_history.specs.Follows.{Heard}
 use Rattle.node_core.specs.Programs.{one_of, rising_in}
-use Rattle.node_core.proofs.Rising.{rising-program, rising-rises}
+use Rattle.node_core.proofs.Rising.{rising-rises}
 
 lt-differs : (a b : ℕ) → nat_lt a b ≡ true → a ≢ b
 lt-differs a b is same = grind (arith, nat_tests, is, same)

@@ -1,5 +1,5 @@
 -- The call of an operation that a desk answers, and what a reply says to it.
-use Rattle.std.proofs.Common.{◌≡◌, ◌≢◌, ℕ, Bool, true, false, Option, Some, None, is_some, refl, sym, ap, subst, ◌∙◌}
+use Rattle.std.proofs.Common.{◌≡◌, ◌≢◌, ℕ, true, false, Option, Some, None, is_some, refl, sym, ap, subst, ◌∙◌}
 use Rattle.std.specs.Option.{option_map}
 use Rattle.uid_names.specs.Steps.{◌>>=◌}
 use Rattle.dom_history.specs.declared.op.Op.{Op}
@@ -10,10 +10,10 @@ use Rattle.ring_messages.specs.declared.body.Body.{Body}
 use Rattle.ring_messages.specs.Bodies.{Ask, Answer, answer_of}
 use Rattle.fault_handler.specs.declared.open_call.OpenCall.{OpenCall}
 use Rattle.fault_handler.specs.declared.open_call.OpenCall.TheVariants as calls
-use Rattle.fault_handler.specs.Desks.{DeskState, open_call_of, moving_of}
+use Rattle.fault_handler.specs.Desks.{DeskState, open_call_of}
 use Rattle.fault_handler.specs.PageReplies.{PageAnswer, page_answer}
 use Rattle.fault_handler.specs.LockCalls.{LockCall, LockAnswer, lock_call, lock_answer, fits_lock_call, fits_call, fits_by, answers}
-use Rattle.lock_validate.specs.Answers.{lock_call_of, answer_at, lock_answer_of}
+use Rattle.lock_validate.specs.Answers.{answer_at, lock_answer_of}
 use Rattle.node_runs.specs.Agreements.{IsCallOpen, IsCalling}
 use Rattle.node_runs.specs.Operations.{Said, said_to_lock, said_to_call, said_by, said_of, call_failed, failed}
 use Rattle.node_runs.proofs.Keeping.{IsDeskOp}

@@ -1,9 +1,9 @@
 -- What an enabled event says of a process.
-use Rattle.std.proofs.Common.{◌≡◌, ℕ, ◌≤◌, Bool, true, false, not, ◌&&◌, nat_lt, ◌==◌, Option, Some, None, IsSome, is_none, List, refl, sym, ap, subst, ◌∙◌, arith}
+use Rattle.std.proofs.Common.{◌≡◌, ℕ, ◌≤◌, Bool, true, false, not, ◌&&◌, nat_lt, ◌==◌, None, IsSome, is_none, List, refl, sym, ap, ◌∙◌, arith}
 use Rattle.std.proofs.lemmas.Bool.Decides.{nat_tests}
 use Rattle.std.specs.List.{list_any}
 use Rattle.node_runs.specs.Setups.{Given}
-use Rattle.node_runs.specs.NodeStates.{OpenOp, NodeState, proc_of, is_at_end}
+use Rattle.node_runs.specs.NodeStates.{NodeState, proc_of, is_at_end}
 use Rattle.node_runs.specs.Incomings.{has_program, may_begin}
 use Rattle.node_runs.proofs.Doing.{no-op}
 use Rattle.node_core.specs.Programs.{program_in, numbers_in}

@@ -1,8 +1,7 @@
 -- The first program of a process in a list of programs.
-use Rattle.std.proofs.Common.{◌≡◌, ◌≢◌, ℕ, zero, suc, ◌+◌, ◌<◌, ◌==◌, Bool, true, false, ◌||◌, is_some, List, [], ◌∷◌, Option, Some, None, length, take, drop, ◌++◌, get_or, set, map, sym, ◌∙◌, ap, subst, refl, arith, rules}
+use Rattle.std.proofs.Common.{◌≡◌, ◌≢◌, ℕ, zero, suc, ◌+◌, ◌<◌, ◌==◌, Bool, true, false, ◌||◌, is_some, List, [], ◌∷◌, Option, Some, length, take, drop, ◌++◌, get_or, set, sym, ◌∙◌, ap, refl, arith, rules}
 use Rattle.std.proofs.lemmas.List.{drop_more}
 use Rattle.std.specs.List.{list_any}
-use Rattle.std.specs.Option.{option_map}
 use Rattle.node_core.specs.Programs.{program_by, program_in, numbers_in, IsFirstAt}
 
 -- an item, and what is behind it

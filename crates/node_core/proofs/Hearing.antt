@@ -7,18 +7,14 @@ use Rattle.uid_names.specs.declared.lock_row.LockRow.{LockRow}
 use Rattle.dom_history.specs.declared.op.Op.{Op}
 use Rattle.dom_history.specs.declared.op.Op.TheVariants as ops
 use Rattle.dom_history.specs.declared.op.Reply.{Reply}
-use Rattle.dom_history.specs.declared.op.Reply.TheVariants as replies
 use Rattle.dom_history.specs.declared.op.Want.{Want}
 use Rattle.dom_history.specs.declared.op.Want.TheVariants.{Do}
-use Rattle.dom_history.specs.declared.event.Effects.{Effects}
 use Rattle.ring_messages.specs.declared.body.Body.{Body}
 use Rattle.ring_messages.specs.declared.body.Body.TheVariants as bodies
 use Rattle.ring_messages.specs.Bodies.{ask_of, answer_of, is_request}
-use Rattle.ring_messages.specs.Frames.{Message}
 use Rattle.fault_handler.specs.Desks.{DeskState}
 use Rattle.fault_handler.specs.Outcomes.{Turn}
-use Rattle.node_runs.specs.Setups.{Given}
-use Rattle.node_runs.specs.NodeStates.{BegunOp, NodeState}
+use Rattle.node_runs.specs.NodeStates.{BegunOp}
 use Rattle.node_runs.specs.Notes.{Note}
 use Rattle.node_runs.specs.Operations.{Said, said_to_new, said_to_list, said_of, answered}
 use Rattle.node_runs.specs.Outcomes.{Stepped, Stage, quiet, dropping, turned, moved}

@@ -1,13 +1,12 @@
 -- What a machine keeps: as its event begins, and after it.
-use Rattle.std.proofs.Common.{◌≡◌, ℕ, zero, suc, ◌+◌, ◌-◌, ◌^◌, ◌<◌, ◌≤◌, Bool, List, [], ◌∷◌, map, length, Option, Some, None, IfSome, refl, sym, ap, subst, ◌∙◌, arith}
-use Rattle.std.specs.Prelude.{slice_index_or, true, not, ◌&&◌, Result, Ok, Err, IfOk, OnOk}
+use Rattle.std.proofs.Common.{◌≡◌, ℕ, zero, suc, ◌-◌, ◌^◌, ◌<◌, ◌≤◌, Bool, List, [], ◌∷◌, map, Option, Some, None, IfSome, refl, sym, ap, subst, ◌∙◌, arith}
+use Rattle.std.specs.Prelude.{slice_index_or, true, not, Result, Ok, Err, IfOk, OnOk}
 use Rattle.std.proofs.lemmas.List.{length-map}
 use Rattle.std.proofs.lemmas.List.Elements.{All-nil}
-use Rattle.uid_names.specs.Names.{IsProcNumber}
 use Rattle.uid_names.specs.Openings.{Start, IsStart}
 use Rattle.uid_names.specs.declared.limits.TheConstants.{MAX_PHASES}
 use Rattle.dom_history.specs.declared.event.What.{What}
-use Rattle.dom_history.specs.declared.event.What.TheVariants.{Begin, Go, Take, Notice, Ready, Mark}
+use Rattle.dom_history.specs.declared.event.What.TheVariants.{Begin, Go, Notice, Ready, Mark}
 use Rattle.dom_history.specs.declared.op.Reply.{Reply}
 use Rattle.dom_history.specs.declared.op.Want.{Want}
 use Rattle.dom_history.specs.declared.op.Want.TheVariants.{Do, Phase, Done as AllDone}
@@ -15,7 +14,7 @@ use Rattle.dom_history.specs.Events.{AreEffects}
 use Rattle.dom_history.specs.Ranges.{IsNamedReply}
 use Rattle.fault_handler.specs.Desks.{DeskState, at}
 use Rattle.node_runs.specs.Setups.{Given, IsGiven, ArePrograms, IsFrames}
-use Rattle.node_runs.specs.NodeStates.{OpenOp, ProcState, NodeState, first_proc, proc_of, is_ended}
+use Rattle.node_runs.specs.NodeStates.{OpenOp, NodeState, first_proc, is_ended}
 use Rattle.node_runs.specs.Incomings.{Incoming, has_program, may_happen, enabled}
 use Rattle.node_runs.specs.Outcomes.{Stepped}
 use Rattle.node_runs.specs.SentFrames.{IsIncoming}
@@ -31,7 +30,7 @@ use Rattle.node_core.specs.declared.processes.Open.{Open}
 use Rattle.node_core.specs.declared.processes.Proc.{Proc}
 use Rattle.node_core.specs.declared.turns.Done.{Done}
 use Rattle.node_core.specs.Processes.{doing_of, open_seen, proc_seen, want_at}
-use Rattle.node_core.specs.Programs.{numbers_in, AreRising}
+use Rattle.node_core.specs.Programs.{AreRising}
 use Rattle.node_core.specs.Machines.{given_of, state_of, IsKept, IsBefore}
 use Rattle.node_core.specs.Outcomes.{Led}
 use Rattle.node_core.proofs.Seen.{seen-silent}

@@ -12,7 +12,6 @@ use Rattle.dom_history.specs.declared.op.Want.TheVariants.{Do, Phase}
 use Rattle.dom_history.specs.Programs.{FitsWant}
 use Rattle.dom_history.specs.Ranges.{IsWant}
 use Rattle.dom_history.specs.Follows.{Heard}
-use Rattle.fault_handler.specs.Desks.{at, put_at}
 use Rattle.node_runs.specs.NodeStates.{NodeState, ProcState, first_proc, proc_of, with_proc}
 use Rattle.uid_names.specs.Names.{ObjectName}
 use Rattle.ring_messages.specs.declared.body.Body.{Body}

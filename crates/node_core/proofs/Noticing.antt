@@ -1,6 +1,6 @@
 -- A process is told that a frame of its open call was lost or is late.
-use Rattle.std.proofs.Common.{◌≡◌, ℕ, ◌+◌, ◌-◌, ◌<◌, ◌≤◌, Bool, List, [], zero, suc, ◌∷◌, length, get_or, set, map, Option, Some, None, refl, sym, ap, subst, ◌∙◌, arith}
-use Rattle.std.specs.Option.{option_map, ForSome}
+use Rattle.std.proofs.Common.{◌≡◌, ℕ, ◌+◌, ◌-◌, ◌<◌, ◌≤◌, Bool, List, [], zero, suc, ◌∷◌, length, get_or, set, Option, Some, None, refl, sym, ap, subst, ◌∙◌}
+use Rattle.std.specs.Option.{ForSome}
 use Rattle.uid_names.specs.Names.{ObjectName, IsProcNumber}
 use Rattle.uid_names.specs.Steps.{◌>>=◌}
 use Rattle.uid_names.specs.declared.ids.Place.{Place}
@@ -10,17 +10,15 @@ use Rattle.dom_history.specs.declared.op.Want.{Want}
 use Rattle.dom_history.specs.declared.op.Want.TheVariants.{Do}
 use Rattle.call_once.specs.Notices.{noticed}
 use Rattle.call_once.specs.declared.asking.Noticed.{Noticed}
-use Rattle.ring_messages.specs.declared.body.Body.{Body}
 use Rattle.ring_messages.specs.Bodies.{body_of_ask}
 use Rattle.ring_messages.specs.Frames.{Message}
 use Rattle.ring_messages.specs.Ranges.{IsBody}
-use Rattle.fault_handler.specs.Outcomes.{Moved}
 use Rattle.fault_handler.specs.Accesses.{Accessed}
-use Rattle.node_runs.specs.NodeStates.{Asked, Await, BegunOp, OpenOp, ProcState, NodeState, first_proc, proc_of, with_proc}
+use Rattle.node_runs.specs.NodeStates.{Asked, Await, BegunOp, OpenOp, proc_of, with_proc}
 use Rattle.node_runs.specs.Notes.{Note}
 use Rattle.node_runs.specs.Operations.{failed}
-use Rattle.node_runs.specs.Outcomes.{Stepped, Stage, sending, dropping, request, moved}
-use Rattle.node_runs.specs.Doings.{Doing, noticed_call, resends, gives_up, notices_as, notices}
+use Rattle.node_runs.specs.Outcomes.{Stepped, Stage, request, moved}
+use Rattle.node_runs.specs.Doings.{noticed_call, resends, gives_up, notices_as, notices}
 use Rattle.node_runs.specs.Dones.{asking}
 use Rattle.node_runs.specs.Steps.{stepped_as_named}
 use Rattle.node_runs.proofs.Somes.{some-is, map-some, bind-some}
@@ -29,9 +27,9 @@ use Rattle.node_core.specs.declared.processes.Again.{Again}
 use Rattle.node_core.specs.declared.processes.Proc.{Proc}
 use Rattle.node_core.specs.declared.turns.Done.{Done}
 use Rattle.node_core.specs.Processes.{IsAnswer, IsCalling, IsAgain, again_sent, proc_seen, want_at}
-use Rattle.node_core.specs.Machines.{given_of, state_of, IsBefore, IsAtEvent}
+use Rattle.node_core.specs.Machines.{given_of, state_of, IsBefore}
 use Rattle.node_core.specs.Outcomes.{Sent, Led, Moves}
-use Rattle.node_core.proofs.Seen.{put-seen, seen-at, wants-kept}
+use Rattle.node_core.proofs.Seen.{put-seen, wants-kept}
 use Rattle.node_core.proofs.Leading.{led-sent, same-frame}
 use Rattle.node_core.proofs.Opening.{wanted-open, call-stands}
 

@@ -4,17 +4,14 @@ use Rattle.uid_names.specs.Names.{IsProcNumber}
 use Rattle.dom_history.specs.declared.op.Op.{Op}
 use Rattle.dom_history.specs.declared.op.Want.{Want}
 use Rattle.dom_history.specs.declared.op.Want.TheVariants.{Do, Phase, Done}
-use Rattle.dom_history.specs.Ranges.{IsOp}
 use Rattle.fault_handler.specs.Desks.{at}
 use Rattle.node_runs.specs.NodeStates.{Asked, Await, OpenOp, first_proc, proc_of}
 use Rattle.node_runs.specs.Agreements.{Agrees, IsDoing, IsCalling, IsOpenCall}
 use Rattle.node_runs.specs.Following.{IsWanted as WantedIn}
 use Rattle.node_core.specs.declared.machine.Machine.{Machine}
 use Rattle.node_core.specs.declared.processes.Open.{Open}
-use Rattle.node_core.specs.declared.processes.Call.{Call}
-use Rattle.node_core.specs.declared.processes.Await.TheVariants as awaits
 use Rattle.node_core.specs.declared.processes.Proc.{Proc}
-use Rattle.node_core.specs.Processes.{open_in, open_seen, doing_of, call_seen, await_seen, proc_seen, want_at, IsWanted}
+use Rattle.node_core.specs.Processes.{open_in, open_seen, doing_of, proc_seen, want_at, IsWanted}
 use Rattle.node_core.specs.Programs.{program_in}
 use Rattle.node_core.specs.Machines.{state_of, IsBefore}
 use Rattle.node_core.specs.Calls.{IsInCall}

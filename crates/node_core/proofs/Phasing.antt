@@ -1,12 +1,11 @@
 -- A node comes to the end of its phase, or takes a mark.
-use Rattle.std.proofs.Common.{◌≡◌, ℕ, Bool, true, false, List, [], refl, sym, ap, subst, ◌∙◌}
+use Rattle.std.proofs.Common.{◌≡◌, ℕ, Bool, true, false, List, refl, ap, subst}
 use Rattle.std.specs.Prelude.{◌==◌, nat_le, not, ◌&&◌, ◌||◌}
 use Rattle.node_runs.specs.Setups.{Given}
-use Rattle.node_runs.specs.NodeStates.{ProcState, NodeState, proc_of}
+use Rattle.node_runs.specs.NodeStates.{NodeState}
 use Rattle.node_runs.specs.Doings.{node_numbers, others_marked, in_next_phase, after_marks}
 use Rattle.node_runs.specs.Alikes.{AreAlike}
 use Rattle.node_runs.proofs.AlikeProcs.{all-same}
-use Rattle.node_runs.proofs.Forgetting.{alike-itself}
 use Rattle.node_core.specs.Marks.{is_taken}
 
 next-procs : (b : Bool) (n : NodeState) → (in_next_phase b n).procs ≡ n.procs

@@ -1,16 +1,13 @@
 -- What definitions see of the processes that a node keeps.
 use Rattle.std.proofs.Common.{◌≡◌, ◌≢◌, ℕ, zero, suc, inl, inr, ◌-◌, ◌<◌, List, [], ◌∷◌, map, length, get_or, set, Option, Some, None, refl, sym, ap, subst, ◌∙◌, arith}
-use Rattle.std.proofs.Math.ListN.{get_or-map}
 use Rattle.std.proofs.lemmas.Bool.{cases_eq}
-use Rattle.std.proofs.lemmas.List.{get_or-set_same, get_or-set_other, length-map, length-set, map-set}
-use Rattle.uid_names.specs.Names.{IsProcNumber}
+use Rattle.std.proofs.lemmas.List.{get_or-set_same, get_or-set_other, length-map, map-set}
 use Rattle.dom_history.specs.declared.op.Op.{Op}
 use Rattle.dom_history.specs.declared.op.Want.{Want}
 use Rattle.dom_history.specs.declared.op.Want.TheVariants.{Do, Phase, Done}
 use Rattle.dom_history.specs.Ranges.{IsWant}
 use Rattle.fault_handler.specs.Desks.{at, put_at}
-use Rattle.fault_handler.proofs.Fours.{at-put_same, at-put_other}
-use Rattle.node_runs.specs.NodeStates.{OpenOp, ProcState, first_proc}
+use Rattle.node_runs.specs.NodeStates.{ProcState, first_proc}
 use Rattle.node_runs.specs.Alikes.{AreAlikeProcs}
 use Rattle.node_core.specs.declared.processes.Open.{Open}
 use Rattle.node_core.specs.declared.processes.Proc.{Proc}

@@ -4,14 +4,13 @@ use Rattle.std.specs.Option.{option_map}
 use Rattle.uid_names.specs.Names.{ObjectName}
 use Rattle.dom_history.specs.declared.op.Reply.{Reply}
 use Rattle.dom_history.specs.declared.op.Want.{Want}
-use Rattle.dom_history.specs.declared.event.Effects.{Effects}
 use Rattle.call_once.specs.Calls.{looked, last_of}
 use Rattle.call_once.specs.declared.served.Looked.{Looked}
 use Rattle.ring_messages.specs.Bodies.{Ask, Answer, ask_of}
 use Rattle.ring_messages.specs.Frames.{Message, caller_of}
 use Rattle.page_server.specs.Serving.{Serving, serve_asked, serve_frame, serve_of, reply_to}
 use Rattle.page_server.specs.ServerStates.{ServerState}
-use Rattle.node_runs.specs.NodeStates.{NodeState, proc_of}
+use Rattle.node_runs.specs.NodeStates.{NodeState}
 use Rattle.node_runs.specs.Notes.{Note}
 use Rattle.node_runs.specs.Outcomes.{Stepped, quiet, sending, dropping}
 use Rattle.node_runs.specs.Doings.{served_note, replies, serves, takes}

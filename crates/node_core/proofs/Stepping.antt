@@ -1,6 +1,6 @@
 -- An event of a node is an event of each state that it stands for.
-use Rattle.std.proofs.Common.{◌≡◌, ℕ, Bool, true, false, List, [], ◌∷◌, ◌++◌, Option, Some, None, is_some, not, refl, sym, ap, subst, ◌∙◌}
-use Rattle.std.specs.Prelude.{◌==◌, ◌&&◌}
+use Rattle.std.proofs.Common.{◌≡◌, ℕ, Bool, true, false, List, [], ◌∷◌, ◌++◌, Option, Some, None, is_some, refl, sym, ap, subst, ◌∙◌}
+use Rattle.std.specs.Prelude.{◌==◌}
 use Rattle.std.specs.List.{list_any}
 use Rattle.std.specs.Option.{option_map}
 use Rattle.std.proofs.lemmas.List.{append-nil}
@@ -15,20 +15,20 @@ use Rattle.dom_history.specs.Events.{Happening}
 use Rattle.dom_history.specs.declared.event.Effects.{Effects}
 use Rattle.dom_history.specs.declared.event.NodeLog.{NodeLog}
 use Rattle.ring_messages.specs.Frames.{Message}
-use Rattle.dom_history.specs.Programs.{program_after, asked_by}
+use Rattle.dom_history.specs.Programs.{program_after}
 use Rattle.node_runs.specs.Setups.{Given}
 use Rattle.node_runs.specs.NodeStates.{NodeState, proc_of}
 use Rattle.node_runs.specs.Incomings.{Incoming, has_program, enabled}
 use Rattle.node_runs.specs.Outcomes.{Stepped}
 use Rattle.node_runs.specs.SentFrames.{IsIncoming}
 use Rattle.node_runs.specs.Steps.{named_step, step_of}
-use Rattle.node_runs.specs.Alikes.{AreAlikeGiven, AreAlike, HeardMore, AreAlikeSteps}
+use Rattle.node_runs.specs.Alikes.{AreAlikeGiven, AreAlikeSteps}
 use Rattle.node_runs.proofs.AlikeSteps.{enabled-alike, step-alike}
 use Rattle.node_runs.proofs.SettingUp.{given-procs}
 use Rattle.node_runs.proofs.Forgetting.{alike-on}
 use Rattle.node_core.specs.Processes.{want_at}
 use Rattle.node_core.specs.Programs.{program_in, numbers_in, told_all}
-use Rattle.node_core.specs.Nodes.{Noted, IsTold, IsKept, line_of, given_of, state_of, program_of, Stands, Happened}
+use Rattle.node_core.specs.Nodes.{Noted, IsTold, IsKept, line_of, given_of, state_of, Stands, Happened}
 use Rattle.node_core.specs.Machines as machine
 use Rattle.node_core.specs.Machines.{inner_of}
 use Rattle.node_core.specs.Outcomes.{Led}

@@ -1,6 +1,5 @@
 -- A reply is taken: which operation it is for, if it is for one.
-use Rattle.std.proofs.Common.{◌≡◌, ℕ, ◌-◌, ◌<◌, ◌==◌, Bool, true, false, List, [], length, get_or, Option, Some, None, IsSome, refl, sym, ap, subst, ◌∙◌}
-use Rattle.std.specs.Option.{ForSome}
+use Rattle.std.proofs.Common.{◌≡◌, ℕ, ◌-◌, ◌<◌, ◌==◌, Bool, true, false, List, [], get_or, Option, Some, None, IsSome, refl, sym, ap, subst, ◌∙◌}
 use Rattle.uid_names.specs.Names.{ObjectName, IsProcNumber}
 use Rattle.dom_history.specs.declared.op.Op.{Op}
 use Rattle.dom_history.specs.declared.op.Reply.{Reply}
@@ -8,10 +7,10 @@ use Rattle.dom_history.specs.declared.op.Want.{Want}
 use Rattle.dom_history.specs.declared.op.Want.TheVariants.{Do}
 use Rattle.ring_messages.specs.declared.body.Body.{Body}
 use Rattle.ring_messages.specs.Frames.{Message}
-use Rattle.node_runs.specs.NodeStates.{Asked, Await, BegunOp, OpenOp, ProcState, NodeState, first_proc, proc_of}
+use Rattle.node_runs.specs.NodeStates.{BegunOp, OpenOp, ProcState, proc_of}
 use Rattle.node_runs.specs.Operations.{said_of}
 use Rattle.node_runs.specs.Outcomes.{Stepped}
-use Rattle.node_runs.specs.Doings.{Doing, passed, hears_said, hears_if, hears_at, hears}
+use Rattle.node_runs.specs.Doings.{hears_said, hears_if, hears_at, hears}
 use Rattle.node_runs.specs.Steps.{stepped_as_named}
 use Rattle.node_core.specs.declared.machine.Machine.{Machine}
 use Rattle.node_core.specs.declared.processes.Open.{Open}

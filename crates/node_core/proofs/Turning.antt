@@ -1,5 +1,5 @@
 -- What is known of an operation by what its desk says.
-use Rattle.std.proofs.Common.{◌≡◌, ℕ, Bool, Option, Some, None, IsSome, IfSome, List, refl, sym, ap, subst, ◌∙◌}
+use Rattle.std.proofs.Common.{◌≡◌, ℕ, Bool, Option, Some, None, IsSome, IfSome, refl, sym, ap, subst, ◌∙◌}
 use Rattle.std.specs.Option.{option_map, ForSome}
 use Rattle.dom_history.specs.declared.op.Op.{Op}
 use Rattle.dom_history.specs.declared.op.Reply.{Reply}
@@ -11,7 +11,7 @@ use Rattle.uid_names.specs.declared.ids.Place.{Place}
 use Rattle.fault_handler.specs.declared.access.Access.{Access}
 use Rattle.fault_handler.specs.declared.tasks.Task.{Task}
 use Rattle.fault_handler.specs.Desks.{DeskState}
-use Rattle.fault_handler.specs.Outcomes.{Moved, Outcome, Turn, Gives, as_access, seen_access}
+use Rattle.fault_handler.specs.Outcomes.{Moved, Outcome, Gives, as_access, seen_access}
 use Rattle.fault_handler.specs.Victims.{Victim, named_victim}
 use Rattle.uid_names.specs.Openings.{Start}
 use Rattle.dom_history.specs.declared.op.Op.TheVariants as ops

@@ -1,4 +1,4 @@
-use Rattle.std.proofs.Common.{◌≡◌, Some, ap, sym, ◌∙◌}
+use Rattle.std.proofs.Common.{ap, sym, ◌∙◌}
 use Rattle.uid_names.specs.Steps.{◌>>=◌}
 use Rattle.dom_history.specs.declared.op.Reply.TheVariants.{LinkFault}
 use Rattle.fault_handler.specs.Desks.{DeskState, moving_of}

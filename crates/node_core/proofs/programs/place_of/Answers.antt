@@ -1,4 +1,4 @@
-use Rattle.std.proofs.Common.{◌≡◌, ◌≢◌, ℕ, ◌+◌, ◌==◌, false, zero, suc, subst, sym, ◌∙◌, ap, arith, rules, drop, List}
+use Rattle.std.proofs.Common.{◌≡◌, ◌≢◌, ℕ, ◌+◌, ◌==◌, false, suc, subst, sym, ◌∙◌, ap, arith, rules, drop}
 use Rattle.node_core.specs.Programs.{program_by, program_in, IsFirstAt}
 use Rattle.node_core.proofs.FirstPrograms.{item-front}
 use Rattle.node_core.proofs.programs.place_of.Goals as goal

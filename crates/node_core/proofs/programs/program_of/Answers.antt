@@ -1,4 +1,4 @@
-use Rattle.std.proofs.Common.{◌≡◌, ℕ, Some, get_or, sym, ap, ◌∙◌, List}
+use Rattle.std.proofs.Common.{ℕ, Some, sym, ap, ◌∙◌}
 use Rattle.node_core.proofs.FirstPrograms.{first-program}
 use Rattle.node_core.proofs.programs.program_of.Goals as goal
 

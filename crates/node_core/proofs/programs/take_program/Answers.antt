@@ -1,4 +1,4 @@
-use Rattle.std.proofs.Common.{◌≡◌, ◌≢◌, ℕ, ◌<◌, length, get_or, List, Some, sym, ap, subst, ◌∙◌}
+use Rattle.std.proofs.Common.{ℕ, ◌<◌, length, List, Some, sym, ap, subst, ◌∙◌}
 use Rattle.std.specs.Option.{option_map}
 use Rattle.node_core.specs.Programs.{program_in, IsFirstAt}
 use Rattle.node_core.proofs.FirstPrograms.{first-program, first-number, remove-others}

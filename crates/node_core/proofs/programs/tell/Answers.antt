@@ -1,8 +1,6 @@
 use Rattle.std.proofs.Common.{◌≡◌, ℕ, ◌<◌, false, Some, IfSome, option_copied, length, subst, sym, ap, ◌∙◌, List}
 use Rattle.std.specs.Option.{option_map}
-use Rattle.dom_history.specs.Programs.{FitsWant}
-use Rattle.dom_history.specs.declared.op.Want.{Want}
-use Rattle.node_core.specs.Programs.{program_in, IsFirstAt}
+use Rattle.node_core.specs.Programs.{IsFirstAt}
 use Rattle.node_core.proofs.FirstPrograms.{first-program, first-number, set-program, set-others, set-numbers}
 use Rattle.node_core.proofs.programs.tell.Goals as goal
 

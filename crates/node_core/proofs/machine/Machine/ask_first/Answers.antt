@@ -1,4 +1,4 @@
-use Rattle.std.proofs.Common.{◌≡◌, ℕ, [], Option, None, IfSome, ap, subst}
+use Rattle.std.proofs.Common.{◌≡◌, [], Option, None, IfSome, ap, subst}
 use Rattle.std.proofs.lemmas.List.Elements.{All-nil}
 use Rattle.dom_history.specs.declared.op.Reply.{Reply}
 use Rattle.dom_history.specs.Ranges.{IsNamedReply}

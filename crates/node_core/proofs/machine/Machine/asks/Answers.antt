@@ -1,15 +1,11 @@
-use Rattle.std.proofs.Common.{◌≡◌, ℕ, ◌+◌, ◌-◌, ◌<◌, ◌≤◌, Some, None, IfSome, length, get_or, set, map, refl, sym, ap, subst, ◌∙◌}
+use Rattle.std.proofs.Common.{◌≡◌, ◌+◌, ◌-◌, ◌<◌, Some, IfSome, length, get_or, set, map, sym, ap, subst, ◌∙◌}
 use Rattle.dom_history.specs.declared.op.Op.{Op}
-use Rattle.dom_history.specs.declared.op.Want.TheVariants.{Do, Phase}
+use Rattle.dom_history.specs.declared.op.Want.TheVariants.{Do}
 use Rattle.ring_messages.specs.Bodies.{ask_of, body_of_ask}
-use Rattle.ring_messages.specs.Frames.{Message}
 use Rattle.ring_messages.proofs.Asking.{asked-body}
-use Rattle.node_runs.specs.NodeStates.{Await, BegunOp, OpenOp, ProcState, NodeState, first_proc, proc_of, with_proc}
-use Rattle.node_runs.specs.Notes.{Note}
-use Rattle.node_runs.specs.Outcomes.{next_call, request, sending, dropping}
-use Rattle.node_core.specs.declared.machine.Machine.{Machine}
-use Rattle.node_core.specs.declared.processes.Proc.{Proc}
-use Rattle.node_core.specs.Processes.{proc_seen, want_at}
+use Rattle.node_runs.specs.NodeStates.{Await, ProcState, first_proc, proc_of, with_proc}
+use Rattle.node_runs.specs.Outcomes.{next_call, request}
+use Rattle.node_core.specs.Processes.{proc_seen}
 use Rattle.node_core.specs.Machines.{state_of}
 use Rattle.node_core.proofs.Seen.{put-seen, wants-kept, want-here, seen-at}
 use Rattle.node_core.proofs.Leading.{led-sent, same-frame, if-some}

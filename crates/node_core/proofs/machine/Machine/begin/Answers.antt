@@ -1,11 +1,11 @@
-use Rattle.std.proofs.Common.{◌≡◌, ◌<◌, ℕ, length, get_or, Some, sym, subst, refl, ap, ◌∙◌}
+use Rattle.std.proofs.Common.{◌≡◌, ◌<◌, length, sym, subst, refl, ◌∙◌}
 use Rattle.std.specs.Option.{ForSome}
 use Rattle.std.proofs.lemmas.Result.{IfOk-weaker}
 use Rattle.uid_names.specs.declared.ids.Place.{Place}
 use Rattle.dom_history.specs.declared.op.Want.{Want}
 use Rattle.dom_history.specs.declared.op.Want.TheVariants.{Do, Phase, Done}
 use Rattle.dom_history.specs.Ranges.{IsWant}
-use Rattle.node_runs.specs.Incomings.{has_program, may_begin}
+use Rattle.node_runs.specs.Incomings.{has_program}
 use Rattle.node_runs.specs.Doings.{begins}
 use Rattle.node_runs.specs.Operations.{begun}
 use Rattle.node_runs.specs.Outcomes.{Stage}

@@ -1,10 +1,7 @@
-use Rattle.std.proofs.Common.{◌≡◌, [], Some, Option, IsSome, sym, subst, refl, ap, ◌∙◌}
+use Rattle.std.proofs.Common.{[], sym, subst, refl}
 use Rattle.std.proofs.lemmas.Result.{IfOk-weaker}
 use Rattle.uid_names.specs.Openings.{Start}
-use Rattle.dom_history.specs.Ranges.{IsOp}
-use Rattle.dom_history.specs.declared.op.Op.{Op}
-use Rattle.dom_history.specs.declared.op.Want.TheVariants.{Do}
-use Rattle.fault_handler.specs.Accesses.{Accessed, DeskOp, desk_op, access_of}
+use Rattle.fault_handler.specs.Accesses.{Accessed, desk_op, access_of}
 use Rattle.fault_handler.proofs.Outcomes.{Holds}
 use Rattle.node_runs.proofs.Keeping.{IsMoved, begun-moved}
 use Rattle.node_core.specs.Processes.{IsWanted, want_at}

@@ -1,4 +1,4 @@
-use Rattle.std.proofs.Common.{◌≡◌, IsSome, Some, [], sym, subst, refl}
+use Rattle.std.proofs.Common.{IsSome, [], sym, subst, refl}
 use Rattle.std.proofs.lemmas.Result.{IfOk-weaker}
 use Rattle.lock_validate.specs.Releases.{begin_delete_of}
 use Rattle.uid_names.specs.Openings.{Start}

@@ -1,12 +1,11 @@
-use Rattle.std.proofs.Common.{◌≡◌, sym, subst, refl, ap, ◌∙◌, true, false, Bool, List, [], ◌&&◌, nat_le, ℕ}
+use Rattle.std.proofs.Common.{sym, subst, refl, ◌∙◌, List, [], ℕ}
 use Rattle.std.proofs.lemmas.Result.{IfOk-weaker}
 use Rattle.uid_names.specs.Names.{ObjectName}
-use Rattle.dom_history.specs.Objects.{is_node}
-use Rattle.dom_history.specs.declared.op.Reply.TheVariants.{NoSpace, Locks}
+use Rattle.dom_history.specs.declared.op.Reply.TheVariants.{NoSpace}
 use Rattle.ring_messages.specs.Bodies.{Ask}
 use Rattle.fault_handler.specs.Outcomes.{Turn, ended}
 use Rattle.fault_handler.specs.Accesses.{Accessed}
-use Rattle.node_runs.specs.Operations.{new_by, list_by, asking_home}
+use Rattle.node_runs.specs.Operations.{new_by, asking_home}
 use Rattle.node_core.specs.Outcomes.{Turns, Moves}
 use Rattle.uid_names.specs.Openings.{Start}
 use Rattle.dom_history.specs.declared.op.Op.{Op}

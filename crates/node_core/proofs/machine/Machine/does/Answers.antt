@@ -1,9 +1,7 @@
 use Rattle.std.proofs.Common.{◌≡◌, Some, ap, sym, subst, ◌∙◌}
 use Rattle.std.proofs.lemmas.Result.{IfOk-weaker}
 use Rattle.dom_history.specs.declared.event.What.TheVariants.{Begin, Go, Take, Notice, Ready, Mark}
-use Rattle.ring_messages.specs.Bodies.{ask_of}
 use Rattle.node_runs.specs.NodeStates.{proc_of}
-use Rattle.node_runs.specs.Incomings.{Incoming}
 use Rattle.node_runs.specs.Doings.{begins, goes_on, notices, event_of}
 use Rattle.node_runs.specs.Steps.{stepped_as_named}
 use Rattle.node_runs.proofs.SettingUp.{given-procs}

@@ -1,5 +1,5 @@
-use Rattle.std.proofs.Common.{◌≡◌, ℕ, List, ◌≤◌, true, None, ap, sym, subst, refl, ◌∙◌}
-use Rattle.node_runs.specs.NodeStates.{NodeState, ProcState, first_proc}
+use Rattle.std.proofs.Common.{ℕ, List, ◌≤◌, true, None, ap, sym, subst, ◌∙◌}
+use Rattle.node_runs.specs.NodeStates.{first_proc}
 use Rattle.node_runs.specs.Alikes.{AreAlike}
 use Rattle.node_runs.specs.Doings.{after_marks}
 use Rattle.node_runs.proofs.Somes.{some-is}

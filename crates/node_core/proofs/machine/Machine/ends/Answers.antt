@@ -1,8 +1,7 @@
-use Rattle.std.proofs.Common.{◌≡◌, ℕ, ◌≤◌, ◌<◌, length, get_or, map, List, [], ◌∷◌, Option, Some, None, refl, sym, ap, subst, ◌∙◌}
-use Rattle.uid_names.specs.Names.{IsProcNumber, ObjectName}
+use Rattle.std.proofs.Common.{◌≡◌, ℕ, ◌≤◌, ◌<◌, length, get_or, map, ◌∷◌, Some, None, refl, sym, ap, subst, ◌∙◌}
+use Rattle.uid_names.specs.Names.{IsProcNumber}
 use Rattle.dom_history.specs.declared.end_word.EndWord.{EndWord}
 use Rattle.dom_history.specs.declared.event.Effects.{Effects}
-use Rattle.dom_history.specs.EndWords.{word_of}
 use Rattle.node_runs.specs.NodeStates.{ProcState, first_proc, proc_of}
 use Rattle.node_core.specs.declared.machine.Machine.{Machine}
 use Rattle.node_core.specs.Processes.{proc_seen}

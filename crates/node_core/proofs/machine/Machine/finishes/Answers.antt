@@ -1,6 +1,6 @@
-use Rattle.std.proofs.Common.{◌≡◌, ◌+◌, ◌-◌, ◌<◌, ◌≤◌, Some, None, [], length, get_or, sym, subst, refl, ap, ◌∙◌}
+use Rattle.std.proofs.Common.{◌+◌, ◌-◌, ◌<◌, None, length, get_or, sym, subst, refl, ap, ◌∙◌}
 use Rattle.dom_history.specs.declared.op.Want.TheVariants.{Phase}
-use Rattle.node_runs.specs.NodeStates.{NodeState, ProcState}
+use Rattle.node_runs.specs.NodeStates.{ProcState}
 use Rattle.node_runs.specs.Doings.{finishes}
 use Rattle.node_core.specs.Machines.{given_of, state_of}
 use Rattle.node_core.proofs.Seen.{put-seen, wants-kept}

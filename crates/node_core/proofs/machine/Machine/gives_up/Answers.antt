@@ -1,4 +1,4 @@
-use Rattle.std.proofs.Common.{◌≡◌, sym, subst, refl, ◌∙◌}
+use Rattle.std.proofs.Common.{sym, subst, refl}
 use Rattle.std.proofs.lemmas.Result.{IfOk-weaker}
 use Rattle.fault_handler.specs.Outcomes.{Turn, ended}
 use Rattle.fault_handler.specs.Accesses.{Accessed}

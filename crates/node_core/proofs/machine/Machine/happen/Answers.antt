@@ -1,4 +1,4 @@
-use Rattle.std.proofs.Common.{◌≡◌, ◌+◌, Some, ap, sym, subst, ◌∙◌, arith}
+use Rattle.std.proofs.Common.{◌≡◌, ◌+◌, subst, arith}
 use Rattle.std.specs.Prelude.{max}
 use Rattle.std.proofs.lemmas.Result.{IfOk-weaker}
 use Rattle.std.specs.Option.{ForSome}
@@ -9,7 +9,7 @@ use Rattle.node_runs.specs.Steps.{stepped_as_named}
 use Rattle.node_runs.proofs.Happening.{enabled-happens}
 use Rattle.node_core.specs.Receivings.{seen}
 use Rattle.node_core.specs.Machines.{given_of, state_of, IsKept}
-use Rattle.node_core.specs.Outcomes.{Led, Does}
+use Rattle.node_core.specs.Outcomes.{Led}
 use Rattle.node_core.proofs.Keeping.{before-event, kept-after, effects-after, on-ok}
 use Rattle.node_core.proofs.machine.Machine.happen.Goals as goal
 

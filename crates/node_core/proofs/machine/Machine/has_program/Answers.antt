@@ -1,4 +1,4 @@
-use Rattle.std.proofs.Common.{◌≡◌, true, is_some, ap, sym, ◌∙◌}
+use Rattle.std.proofs.Common.{is_some, ap, sym, ◌∙◌}
 use Rattle.node_runs.proofs.SettingUp.{given-procs}
 use Rattle.node_core.specs.Programs.{program_in}
 use Rattle.node_core.specs.Machines.{given_of}

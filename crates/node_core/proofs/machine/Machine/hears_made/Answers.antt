@@ -1,4 +1,4 @@
-use Rattle.std.proofs.Common.{◌≡◌, ap, sym, ◌∙◌}
+use Rattle.std.proofs.Common.{ap, ◌∙◌}
 use Rattle.std.proofs.lemmas.Result.{IfOk-weaker}
 use Rattle.uid_names.specs.Steps.{◌>>=◌}
 use Rattle.dom_history.specs.declared.op.Reply.TheVariants.{Made, NoSpace}

@@ -1,4 +1,4 @@
-use Rattle.std.proofs.Common.{◌≡◌, ℕ, ◌≤◌, false, [], ◌∷◌, refl, sym, ap, subst, ◌∙◌}
+use Rattle.std.proofs.Common.{◌≤◌, false, [], ◌∷◌, refl, sym, ap, subst, ◌∙◌}
 use Rattle.uid_names.specs.Beginnings.{at_home}
 use Rattle.uid_names.specs.declared.limits.TheConstants.{VOLUME_ROOM}
 use Rattle.dom_history.specs.declared.op.Want.TheVariants.{Phase}

@@ -1,7 +1,7 @@
-use Rattle.std.proofs.Common.{◌≡◌, ℕ, ◌+◌, ◌<◌, ◌≤◌, List, [], ◌∷◌, Option, Some, None, length, get_or, map, refl, sym, ap, subst, ◌∙◌, arith, Fits, w32}
+use Rattle.std.proofs.Common.{◌≡◌, ◌+◌, ◌<◌, ◌≤◌, ◌∷◌, None, length, get_or, map, refl, sym, ap, subst, ◌∙◌, arith}
 use Rattle.uid_names.specs.Names.{IsProcNumber}
 use Rattle.node_runs.specs.NodeStates.{ProcState, first_proc, proc_of}
-use Rattle.node_runs.specs.Incomings.{has_program, may_begin}
+use Rattle.node_runs.specs.Incomings.{has_program}
 use Rattle.node_runs.specs.Doings.{pauses}
 use Rattle.node_core.specs.declared.machine.Machine.{Machine}
 use Rattle.node_core.specs.Processes.{proc_seen}

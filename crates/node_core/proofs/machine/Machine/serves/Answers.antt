@@ -1,7 +1,6 @@
-use Rattle.std.proofs.Common.{◌≡◌, ℕ, List, None, ap, sym, ◌∙◌}
+use Rattle.std.proofs.Common.{ℕ, List, None, ap, sym, ◌∙◌}
 use Rattle.ring_messages.proofs.Asking.{asked-of}
 use Rattle.uid_names.specs.Names.{ObjectName}
-use Rattle.dom_history.specs.declared.event.Effects.{Effects}
 use Rattle.node_core.specs.declared.turns.Done.{Done}
 use Rattle.node_core.proofs.Serving.{there, serves-sent, serves-none}
 use Rattle.node_core.proofs.machine.Machine.serves.Goals as goal

@@ -1,6 +1,6 @@
-use Rattle.std.proofs.Common.{◌≡◌, Some, refl}
+use Rattle.std.proofs.Common.{refl}
 use Rattle.std.proofs.lemmas.Result.{IfOk-weaker}
-use Rattle.fault_handler.specs.Outcomes.{Turn, Outcome}
+use Rattle.fault_handler.specs.Outcomes.{Turn}
 use Rattle.node_core.specs.Processes.{want_at}
 use Rattle.node_core.proofs.Turning.{fits-wanted}
 use Rattle.node_core.proofs.machine.Machine.stepped.Goals as goal

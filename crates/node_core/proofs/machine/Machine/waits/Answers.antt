@@ -1,8 +1,6 @@
-use Rattle.std.proofs.Common.{◌≡◌, ℕ, ◌-◌, ◌<◌, Some, length, get_or, set, map, refl, sym, ap, subst, ◌∙◌}
-use Rattle.dom_history.specs.declared.op.Op.{Op}
+use Rattle.std.proofs.Common.{◌-◌, ◌<◌, Some, length, get_or, refl, sym, ap, subst}
 use Rattle.dom_history.specs.declared.op.Want.TheVariants.{Do, Phase}
-use Rattle.node_runs.specs.NodeStates.{Await, BegunOp, OpenOp, ProcState, NodeState}
-use Rattle.node_core.specs.Processes.{proc_seen, want_at}
+use Rattle.node_runs.specs.NodeStates.{Await}
 use Rattle.node_core.specs.Machines.{state_of}
 use Rattle.node_core.proofs.Seen.{put-seen, wants-kept, want-here}
 use Rattle.node_core.proofs.Leading.{led-still}

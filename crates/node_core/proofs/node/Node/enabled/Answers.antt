@@ -1,4 +1,4 @@
-use Rattle.std.proofs.Common.{◌≡◌, sym, subst, ◌∙◌}
+use Rattle.std.proofs.Common.{sym, subst, ◌∙◌}
 use Rattle.node_core.specs.Machines.{inner_of}
 use Rattle.node_core.specs.Nodes.{Stands}
 use Rattle.node_core.specs.Receivings.{seen}

@@ -1,4 +1,4 @@
-use Rattle.std.proofs.Common.{◌≡◌, ap, ◌∙◌}
+use Rattle.std.proofs.Common.{ap, ◌∙◌}
 use Rattle.node_core.specs.Nodes.{Noted}
 use Rattle.node_core.proofs.node.Node.into_parts.Goals as goal
 

@@ -1,4 +1,4 @@
-use Rattle.std.proofs.Common.{◌≡◌, ℕ, ◌-◌, IfSome, refl, sym, ap, subst, ◌∙◌}
+use Rattle.std.proofs.Common.{◌≡◌, ◌-◌, IfSome, refl, sym, ap, subst, ◌∙◌}
 use Rattle.uid_names.specs.declared.limits.TheConstants.{NODE_PROCESSES}
 use Rattle.dom_history.specs.declared.op.Want.TheVariants.{Phase}
 use Rattle.node_runs.specs.Setups.{Given}

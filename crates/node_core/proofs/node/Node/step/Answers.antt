@@ -1,11 +1,11 @@
-use Rattle.std.proofs.Common.{◌≡◌, true, false, not, sym, subst, ◌∙◌}
+use Rattle.std.proofs.Common.{◌≡◌, true, false, not, sym, subst}
 use Rattle.node_runs.specs.Incomings.{enabled}
 use Rattle.node_runs.specs.Outcomes.{Stepped}
 use Rattle.node_runs.proofs.Bools.{left-true, right-true, not-true}
 use Rattle.node_runs.proofs.Happening.{enabled-happens}
 use Rattle.node_core.specs.Machines as machine
 use Rattle.node_core.specs.Machines.{inner_of}
-use Rattle.node_core.specs.Nodes.{Noted, is_enabled, Stands, Happened}
+use Rattle.node_core.specs.Nodes.{is_enabled, Stands, Happened}
 use Rattle.node_core.specs.Receivings.{seen}
 use Rattle.node_core.proofs.Stepping.{happened}
 use Rattle.node_core.proofs.node.Node.step.Goals as goal
