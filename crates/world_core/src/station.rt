@@ -6,6 +6,7 @@ ghost use Rattle.std.specs.List.{flat_map};
 ghost use Rattle.std.specs.Option.{option_copied};
 ghost use Rattle.node_core.specs.Receivings.{seen};
 ghost use Rattle.node_core.specs.Nodes.{state_of};
+ghost use Rattle.node_runs.specs.Incomings.Incoming.{Nothing as received_nothing};
 ghost use Rattle.world_core.specs.Firsts.{first_links};
 ghost use Rattle.world_core.specs.Stations.{comings, candidates, start, starts_of, notice_at, noticed, oldest, oldest_of, what_of, is_open_notice, open_ones};
 
@@ -53,16 +54,18 @@ fn put_enabled<P: Program, G: Pages>(
     Ok(())
 }
 
-/// The same of an event that receives nothing.
+/// The same of an event that receives nothing, which is made once for all: it has room for a frame.
 fn put_start<P: Program, G: Pages>(
     node: &Node<P, G>,
     list: &mut Vec<Coming>,
     what: What,
+    nothing: &Incoming,
 ) -> Result<(), NoMemory>
+    requires { seen nothing.now ≡ received_nothing }
     ensures { OnOk result (list.new.items ≡ list.old.items ++ comings node.now (start what ∷ [])) }
 {
     let source = Source::Nothing;
-    put_enabled(node, list, Coming { what, source }, &Incoming::Nothing)
+    put_enabled(node, list, Coming { what, source }, nothing)
 }
 
 /// The events of a process.
@@ -71,24 +74,28 @@ fn put_process<P: Program, G: Pages>(
     node: &Node<P, G>,
     list: &mut Vec<Coming>,
     p: u8,
+    nothing: &Incoming,
 ) -> Result<(), NoMemory>
+    requires { seen nothing.now ≡ received_nothing }
     ensures { OnOk result (list.new.items ≡ list.old.items ++ comings node.now (starts_of p)) }
 {
-    put_start(node, list, What::Begin(p))?;
-    put_start(node, list, What::Go(p))
+    put_start(node, list, What::Begin(p), nothing)?;
+    put_start(node, list, What::Go(p), nothing)
 }
 
 /// The events of all processes.
 fn put_starts<P: Program, G: Pages>(
     node: &Node<P, G>,
     list: &mut Vec<Coming>,
+    nothing: &Incoming,
 ) -> Result<(), NoMemory>
+    requires { seen nothing.now ≡ received_nothing }
     ensures { OnOk result (list.new.items ≡ list.old.items ++ comings node.now (flat_map starts_of procs)) }
 {
-    put_process(node, list, 1)?;
-    put_process(node, list, 2)?;
-    put_process(node, list, 3)?;
-    put_process(node, list, 4)
+    put_process(node, list, 1, nothing)?;
+    put_process(node, list, 2, nothing)?;
+    put_process(node, list, 3, nothing)?;
+    put_process(node, list, 4, nothing)
 }
 
 /// The notice at a place.
@@ -208,15 +215,18 @@ impl<P: Program, G: Pages> Station<P, G> {
     {
         self.keep_open(alloc)?;
         self.enabled.clear();
-        put_starts(&self.node, &mut self.enabled)?;
+        let nothing = Incoming::Nothing;
+        put_starts(&self.node, &mut self.enabled, &nothing)?;
         put_notices(&self.node, &mut self.enabled, self.notices.as_slice())?;
         put_links(&self.node, &mut self.enabled, self.ins.as_slice())?;
         put_start(
             &self.node,
             &mut self.enabled,
             What::Ready(self.node.phase()),
+            &nothing,
         )
     }
+
     /// A notice comes. The events are listed anew, unless the event that sends the frame is the node's own.
     pub(crate) fn tell(&mut self, alloc: Global, notice: Notice, own: bool) -> Result<(), NoMemory>
         ensures node { OnOk result (self.new.node ≡ self.old.node) }
