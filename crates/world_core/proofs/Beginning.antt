@@ -1,6 +1,6 @@
 -- Nodes as they were made stand for the first world.
-use Rattle.std.proofs.Common.{◌≡◌, ℕ, zero, suc, ◌+◌, ◌<◌, ◌≤◌, false, ◌⊎◌, Option, Some, None, List, [], ◌∷◌, ◌++◌, map, length, inl, inr, refl, sym, ap, subst, ◌∙◌, arith}
-use Rattle.std.specs.Prelude.{slice_get, All, IsSomeAnd, ◌^◌}
+use Rattle.std.proofs.Common.{◌≡◌, ℕ, zero, suc, ◌+◌, false, ◌⊎◌, Option, Some, None, List, [], ◌∷◌, ◌++◌, map, length, inl, inr, refl, sym, ap, subst, ◌∙◌, arith}
+use Rattle.std.specs.Prelude.{slice_get, All, IsSomeAnd}
 use Rattle.std.proofs.lemmas.List.Elements.{All-nil}
 use Rattle.dom_history.specs.declared.op.Reply.{Reply}
 use Rattle.dom_history.specs.declared.op.Want.{Want}
@@ -10,8 +10,6 @@ use Rattle.node_runs.specs.Setups.{Setup, given}
 use Rattle.node_runs.specs.NodeStates.{first_node}
 use Rattle.node_runs.specs.Runs.{first_world}
 use Rattle.ring_links.specs.Carried.{empty_link}
-use Rattle.ring_links.specs.declared.entry.Entry.{Entry}
-use Rattle.node_core.specs.declared.setup.Incoming as code
 use Rattle.node_core.specs.Nodes.{Noted}
 use Rattle.node_core.specs.Nodes as nodes
 use Rattle.world_core.specs.declared.notices.Notice.{Notice}
@@ -21,7 +19,6 @@ use Rattle.world_core.specs.declared.world.World.{World}
 use Rattle.world_core.specs.Stations.{notice_what}
 use Rattle.world_core.specs.Firsts.{first_links, IsFirst}
 use Rattle.world_core.specs.Stands.{AreNodes, Stands, IsStation, IsLink, IsNoticeOf}
-use Rattle.world_core.proofs.Elements.{some_at}
 
 one_more : {A : Type 0} (xs : List A) (y x : A) (k : ℕ) → slice_get (xs ++ y ∷ []) k ≡ Some x → (slice_get xs k ≡ Some x) ⊎ ((k ≡ length xs) × (x ≡ y))
 one_more [] y x zero e = inr (refl, cc)

@@ -1,6 +1,6 @@
 -- The events of all nodes, one node after the other, are the enabled ones of the world.
-use Rattle.std.proofs.Common.{◌≡◌, ℕ, zero, suc, ◌+◌, ◌-◌, ◌<◌, ◌≤◌, Bool, true, false, cond, Option, Some, None, List, [], ◌∷◌, ◌++◌, map, take, length, refl, sym, ap, subst, ◌∙◌, length-append, arith}
-use Rattle.std.specs.Prelude.{filter, flat_map, slice_get, sum, nat_le, ◌&&◌}
+use Rattle.std.proofs.Common.{◌≡◌, ℕ, zero, suc, ◌+◌, ◌-◌, ◌<◌, ◌≤◌, Bool, true, false, cond, Option, Some, List, [], ◌∷◌, ◌++◌, map, take, length, refl, sym, ap, subst, ◌∙◌, length-append, arith}
+use Rattle.std.specs.Prelude.{filter, flat_map, slice_get, sum}
 use Rattle.std.proofs.lemmas.List.{length-map, append-nil}
 use Rattle.std.proofs.lemmas.List.Elements.{filter-append}
 use Rattle.std.proofs.lemmas.List.Sums.{sum_by-cons}
@@ -9,7 +9,6 @@ use Rattle.std.proofs.lemmas.Option.{slice_get-map}
 use Rattle.std.specs.Option.{option_map}
 use Rattle.dom_history.specs.declared.op.Reply.{Reply}
 use Rattle.dom_history.specs.declared.op.Want.{Want}
-use Rattle.dom_history.specs.declared.plan.FateRow.{FateRow}
 use Rattle.dom_history.specs.Objects.{is_node}
 use Rattle.uid_names.specs.Openings.{Start}
 use Rattle.node_runs.specs.Setups.{Setup}
@@ -22,7 +21,7 @@ use Rattle.world_runs.proofs.Linking.{turns-link}
 use Rattle.world_core.specs.declared.coming.Coming.{Coming}
 use Rattle.world_core.specs.declared.station.Station.{Station}
 use Rattle.world_core.specs.declared.world.World.{World}
-use Rattle.world_core.specs.Stands.{act_of, IsStation, Stands}
+use Rattle.world_core.specs.Stands.{act_of, Stands}
 use Rattle.world_core.specs.Places.{enabled_counts, IsPlace}
 use Rattle.world_core.proofs.Listing.{listed-enabled, count_up, count-parts}
 

@@ -1,6 +1,6 @@
 -- The event that a turn does, and the world that it leads to.
-use Rattle.std.proofs.Common.{◌≡◌, ℕ, ◌+◌, ◌<◌, ◌≤◌, ◌%◌, true, List, map, length, Option, Some, None, refl, sym, ap, subst, ◌∙◌, arith}
-use Rattle.std.specs.Prelude.{◌^◌, max, slice_get, sum}
+use Rattle.std.proofs.Common.{◌≡◌, ℕ, ◌+◌, ◌<◌, ◌≤◌, ◌%◌, true, List, length, Option, Some, refl, sym, ap, ◌∙◌, arith}
+use Rattle.std.specs.Prelude.{◌^◌, slice_get, sum}
 use Rattle.std.proofs.lemmas.List.{length-map}
 use Rattle.std.proofs.lemmas.Option.{get_or_from_slice_get, slice_get_within}
 use Rattle.dom_history.specs.declared.op.Reply.{Reply}
@@ -19,13 +19,11 @@ use Rattle.node_runs.specs.Runs as runs
 use Rattle.node_runs.proofs.Calls.{put-same}
 use Rattle.node_runs.proofs.Happening.{enabled-happens}
 use Rattle.node_runs.proofs.SettingUp.{setup-gives}
-use Rattle.world_runs.specs.Draws as seeds
-use Rattle.world_runs.specs.Turns.{Act, enabled_events, turn}
+use Rattle.world_runs.specs.Turns.{enabled_events, turn}
 use Rattle.world_runs.proofs.Ending.{turn-low}
 use Rattle.world_runs.proofs.Happening.{nodes-kept, received-kept}
 use Rattle.world_runs.proofs.Merging.{Merged, turns-merge}
 use Rattle.world_runs.proofs.Turning.{named-tick}
-use Rattle.node_core.specs.Nodes.{is_enabled}
 use Rattle.world_core.specs.declared.coming.Coming.{Coming}
 use Rattle.world_core.specs.declared.station.Station.{Station}
 use Rattle.world_core.specs.declared.world.World.{World}

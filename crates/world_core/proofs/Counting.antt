@@ -1,18 +1,16 @@
 -- All nodes together have few enabled events.
-use Rattle.std.proofs.Common.{◌≡◌, ℕ, zero, suc, ◌+◌, ◌*◌, ◌<◌, ◌≤◌, Bool, true, false, Option, Some, None, List, [], ◌∷◌, ◌++◌, map, length, refl, sym, ap, subst, ◌∙◌, arith}
-use Rattle.std.specs.Prelude.{slice_get, All, filter, flat_map, not, ◌==◌, ◌^◌, sum}
+use Rattle.std.proofs.Common.{◌≡◌, ℕ, suc, ◌+◌, ◌*◌, ◌<◌, ◌≤◌, Bool, true, false, Option, Some, None, List, [], ◌∷◌, ◌++◌, map, length, refl, sym, ap, arith}
+use Rattle.std.specs.Prelude.{All, filter, flat_map, not, ◌==◌, ◌^◌, sum}
 use Rattle.std.proofs.lemmas.Grind.{common_steps}
 use Rattle.std.proofs.lemmas.List.Elements.{All-head, All-tail}
 use Rattle.std.proofs.lemmas.List.Filters.{length-filter_both}
 use Rattle.dom_history.specs.declared.op.Reply.{Reply}
 use Rattle.dom_history.specs.declared.op.Want.{Want}
-use Rattle.dom_history.specs.declared.event.What.{What}
 use Rattle.dom_history.specs.declared.event.What.TheVariants.{Notice as Told, Ready}
 use Rattle.dom_history.specs.declared.event.Sent.{Sent}
 use Rattle.dom_history.specs.declared.plan.FateRow.{FateRow}
 use Rattle.dom_history.specs.Events.{Happening}
 use Rattle.ring_messages.specs.Frames.{Message, caller_of}
-use Rattle.fault_handler.specs.Desks.{procs}
 use Rattle.node_runs.specs.Setups.{Setup}
 use Rattle.node_runs.specs.Deliveries.{is_gone}
 use Rattle.node_runs.specs.Doings.{node_numbers}
@@ -24,7 +22,6 @@ use Rattle.world_runs.specs.Sendings.{frames_on}
 use Rattle.world_runs.specs.Gone.{FrameName, frame_if, gone_by, gone_in, was_told, notice_if, notice_of, notices_at}
 use Rattle.world_runs.specs.Turns.{turn, after_turns, is_enabled}
 use Rattle.world_runs.specs.OpenNotices.{open_notices}
-use Rattle.world_runs.specs.Draws.{ticks_in}
 use Rattle.world_runs.proofs.Turning.{turn-is}
 use Rattle.world_runs.proofs.Ending.{turns-few}
 use Rattle.ring_links.specs.declared.entry.Entry.{Entry}
@@ -34,7 +31,7 @@ use Rattle.world_core.specs.declared.notices.Notice.{Notice}
 use Rattle.world_core.specs.declared.station.LinkFrom.{LinkFrom}
 use Rattle.world_core.specs.declared.station.Station.{Station}
 use Rattle.world_core.specs.declared.world.World.{World}
-use Rattle.world_core.specs.Stations.{Candidate, notice_what, noticed, oldest, oldest_of, start, starts_of, passes, comings, candidates}
+use Rattle.world_core.specs.Stations.{Candidate, notice_what, noticed, oldest, oldest_of, start, passes, comings, candidates}
 use Rattle.world_core.specs.Places.{enabled_counts}
 use Rattle.world_core.specs.Stands.{Stands}
 use Rattle.world_core.proofs.Elements.{map_at, all_at}

@@ -1,15 +1,15 @@
 -- The programs of a world's nodes are those that heard what the run says.
-use Rattle.std.proofs.Common.{◌≡◌, ◌≢◌, ℕ, zero, suc, ◌+◌, ◌-◌, ◌<◌, ◌≤◌, Bool, true, false, Option, Some, None, List, [], ◌∷◌, map, length, inl, inr, refl, sym, ap, subst, ◌∙◌, arith}
-use Rattle.std.specs.Prelude.{◌==◌, slice_get, All, IsSome, is_some}
+use Rattle.std.proofs.Common.{◌≡◌, ◌≢◌, ℕ, zero, suc, ◌+◌, ◌-◌, ◌<◌, Bool, true, false, Option, Some, None, List, [], ◌∷◌, map, length, inl, inr, refl, sym, ap, subst, ◌∙◌, arith}
+use Rattle.std.specs.Prelude.{slice_get, All, IsSome, is_some}
 use Rattle.std.specs.Option.{option_map}
 use Rattle.std.proofs.lemmas.Bool.{eq-eqb, ne_eqb, cases_lt, false≢true}
 use Rattle.std.proofs.lemmas.Option.{slice_get_within}
-use Rattle.uid_names.specs.Names.{ProcName, IsProcNumber}
+use Rattle.uid_names.specs.Names.{ProcName}
 use Rattle.dom_history.specs.declared.op.Reply.{Reply}
 use Rattle.dom_history.specs.declared.op.Want.{Want}
 use Rattle.dom_history.specs.Programs.{program_after}
 use Rattle.fault_handler.specs.Desks.{IsNode}
-use Rattle.node_runs.specs.Setups.{Setup, given}
+use Rattle.node_runs.specs.Setups.{Setup}
 use Rattle.node_runs.specs.NodeStates.{proc_of}
 use Rattle.node_runs.specs.Runs as runs
 use Rattle.node_runs.proofs.SettingUp.{setup-procs}

@@ -1,5 +1,5 @@
 -- An enabled event is done at a node.
-use Rattle.std.proofs.Common.{◌≡◌, ℕ, ◌<◌, Option, Some, None, IfSome, List, map, length, get_or, refl, sym, ap, subst, ◌∙◌}
+use Rattle.std.proofs.Common.{◌≡◌, ℕ, ◌<◌, Option, Some, None, IfSome, List, length, get_or, refl, sym, ap, subst, ◌∙◌}
 use Rattle.std.specs.Prelude.{filter, slice_get, true, IsSomeAnd}
 use Rattle.std.specs.Option.{option_map}
 use Rattle.std.proofs.lemmas.Option.{slice_get-map, slice_get_read}
@@ -14,12 +14,11 @@ use Rattle.node_core.specs.declared.setup.Emitted.{Emitted}
 use Rattle.node_core.specs.Nodes.{Noted, is_enabled}
 use Rattle.world_core.specs.declared.coming.Coming.{Coming}
 use Rattle.world_core.specs.declared.coming.Source as source
-use Rattle.world_core.specs.declared.notices.Notice.{Notice}
 use Rattle.world_core.specs.declared.station.LinkFrom.{LinkFrom}
 use Rattle.world_core.specs.declared.station.Station.{Station}
 use Rattle.world_core.specs.Stations.{Candidate, passes, candidates}
 use Rattle.world_core.specs.Listed.{IsListed, event_at, Does, IsDone, notices_less, ins_less}
-use Rattle.world_core.proofs.Found.{IsFoundAt, IsOldest, IsNotice, passes-there, found-there}
+use Rattle.world_core.proofs.Found.{IsFoundAt, IsOldest, passes-there, found-there}
 
 -- the listed event at a place, with what it receives
 pub record IsAt {P G : Type 0} (x : Station P G) (place : ℕ) (coming : Coming) : Type 0 where

@@ -2,19 +2,17 @@
 use Rattle.std.proofs.Common.{◌≡◌, ℕ, zero, suc, ◌+◌, ◌<◌, ◌≤◌, Bool, true, false, cond, Option, Some, None, List, [], ◌∷◌, ◌++◌, map, drop, length, refl, sym, ap, subst, ◌∙◌, arith}
 use Rattle.std.specs.Prelude.{◌==◌, filter, flat_map, slice_get, All, ◌-◌}
 use Rattle.std.specs.Option.{option_map}
-use Rattle.std.proofs.lemmas.List.{map-append, append_assoc, append-nil, length-map}
+use Rattle.std.proofs.lemmas.List.{append_assoc, append-nil, length-map}
 use Rattle.std.proofs.lemmas.List.Elements.{filter-append, All-nil, All-cons}
 use Rattle.dom_history.specs.declared.op.Reply.{Reply}
 use Rattle.dom_history.specs.declared.op.Want.{Want}
 use Rattle.dom_history.specs.declared.event.What.{What}
-use Rattle.dom_history.specs.declared.event.What.TheVariants.{Begin, Go, Take, Ready}
-use Rattle.dom_history.specs.declared.event.What.TheVariants as events
+use Rattle.dom_history.specs.declared.event.What.TheVariants.{Begin, Go, Ready}
 use Rattle.dom_history.specs.declared.plan.FateRow.{FateRow}
 use Rattle.ring_messages.specs.Frames.{Message}
 use Rattle.fault_handler.specs.Desks.{procs}
 use Rattle.node_runs.specs.Setups.{Setup, given}
 use Rattle.node_runs.specs.Doings.{node_numbers}
-use Rattle.node_runs.specs.Incomings.{Incoming, enabled}
 use Rattle.node_runs.specs.Runs.{World, SentMark, numbered, taken, marked, mark_of, incoming_of}
 use Rattle.ring_links.specs.declared.entry.Waiting.{Waiting}
 use Rattle.ring_links.specs.declared.entry.Waiting.TheVariants.{Copy, Mark}
@@ -32,14 +30,12 @@ use Rattle.world_runs.specs.Links as links
 use Rattle.world_runs.specs.Links.{link_of}
 use Rattle.world_runs.specs.Gone.{notices_at}
 use Rattle.world_runs.specs.Turns as turns
-use Rattle.world_core.specs.declared.coming.Coming.{Coming}
 use Rattle.world_core.specs.declared.notices.Notice.{Notice}
 use Rattle.world_core.specs.declared.station.LinkFrom.{LinkFrom}
 use Rattle.world_core.specs.declared.station.Station.{Station}
-use Rattle.world_core.specs.Stations.{Candidate, start, starts_of, notice_at, notice_what, notice_incoming, noticed, what_of, oldest_of, oldest, passes, comings, candidates}
+use Rattle.world_core.specs.Stations.{Candidate, start, starts_of, notice_at, notice_what, noticed, what_of, oldest_of, oldest, passes, candidates}
 use Rattle.world_core.specs.Stands.{act_of, IsMarkOf, IsLink, IsNoticeOf, IsStation}
 use Rattle.world_core.proofs.Standing.{enabled-stands}
-use Rattle.world_core.proofs.Comings.{comings_append}
 
 abbrev what_in : Candidate → What
 what_in c = c.coming.what

@@ -4,7 +4,6 @@ use Rattle.std.specs.Prelude.{◌==◌, ◌^◌, All}
 use Rattle.std.proofs.lemmas.List.Elements.{All-filter, All-head}
 use Rattle.uid_names.specs.Steps.{◌>>=◌}
 use Rattle.dom_history.specs.declared.event.What.{What}
-use Rattle.dom_history.specs.declared.event.Sent.{Sent}
 use Rattle.dom_history.specs.declared.plan.FateRow.{FateRow}
 use Rattle.dom_history.specs.Events.{Happening}
 use Rattle.ring_messages.specs.Frames.{Message}

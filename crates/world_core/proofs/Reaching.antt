@@ -1,6 +1,6 @@
 -- What comes to nodes, one thing after the other.
-use Rattle.std.proofs.Common.{◌≡◌, ◌≢◌, ℕ, Result, Ok, Err, OnOk, ◌+◌, ◌<◌, ◌≤◌, Bool, true, false, cond, Option, Some, None, List, [], ◌∷◌, ◌++◌, length, refl, sym, ap, subst, ◌∙◌, append-nil, inl, inr, arith}
-use Rattle.std.specs.Prelude.{◌==◌, ◌&&◌, ◌-◌, filter, slice_get, slice_set, All}
+use Rattle.std.proofs.Common.{◌≡◌, ◌≢◌, ℕ, Result, Ok, Err, OnOk, ◌+◌, ◌<◌, Bool, true, false, cond, Some, List, [], ◌∷◌, ◌++◌, length, refl, sym, ap, subst, ◌∙◌, append-nil, inl, inr, arith}
+use Rattle.std.specs.Prelude.{◌==◌, ◌&&◌, ◌-◌, filter, slice_get, slice_set}
 use Rattle.std.proofs.lemmas.Bool.{cases_eq}
 use Rattle.std.proofs.lemmas.Option.{slice_get_within}
 use Rattle.std.proofs.lemmas.List.{append_assoc}
@@ -22,7 +22,7 @@ use Rattle.dom_history.specs.Plans.{fate_of}
 use Rattle.ring_messages.specs.Frames.{caller_of}
 use Rattle.world_core.specs.Stations.{notice_for}
 use Rattle.world_core.proofs.Elements.{some_at}
-use Rattle.world_core.proofs.Marked.{set_there, set_else, set_many}
+use Rattle.world_core.proofs.Marked.{set_there, set_else}
 
 kept-one : {A : Type 0} (E : A → Bool) (x : A) (kept : List A) (b : Bool) → E x ≡ b → filter E kept ≡ kept → filter E (cond b (x ∷ kept) kept) ≡ cond b (x ∷ kept) kept
 kept-one E x kept true is same = ap (λ (b : Bool). cond b (x ∷ filter E kept) (filter E kept)) is ∙ ap (λ (xs : List _). x ∷ xs) same

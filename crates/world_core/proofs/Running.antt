@@ -1,12 +1,12 @@
 -- The turns of a seed, as far as a world went through them.
-use Rattle.std.proofs.Common.{◌≡◌, ◌≢◌, ℕ, zero, suc, ◌+◌, ◌*◌, ◌<◌, ◌≤◌, Option, Some, None, List, [], ◌∷◌, map, length, get_or, inl, inr, refl, sym, ap, subst, ◌∙◌, arith}
-use Rattle.std.specs.Prelude.{slice_get, All, IfSome, ◌^◌, sum}
+use Rattle.std.proofs.Common.{◌≡◌, ℕ, zero, suc, ◌+◌, ◌*◌, ◌<◌, ◌≤◌, Option, Some, List, [], map, length, inl, inr, refl, sym, ap, subst, ◌∙◌, arith}
+use Rattle.std.specs.Prelude.{slice_get, IfSome, ◌^◌, sum}
 use Rattle.std.proofs.lemmas.Bool.{cases_eq}
 use Rattle.uid_names.specs.Steps.{◌>>=◌}
 use Rattle.dom_history.specs.declared.op.Reply.{Reply}
 use Rattle.dom_history.specs.declared.op.Want.{Want}
 use Rattle.dom_history.specs.declared.plan.FateRow.{FateRow}
-use Rattle.node_runs.specs.Setups.{Setup, given}
+use Rattle.node_runs.specs.Setups.{Setup}
 use Rattle.node_runs.specs.NodeStates.{NodeState}
 use Rattle.node_runs.specs.Doings.{node_numbers}
 use Rattle.node_runs.specs.Runs as runs
@@ -15,7 +15,6 @@ use Rattle.world_runs.specs.Draws.{drawn, state_after, draws, turns, EndsIn, Com
 use Rattle.world_runs.specs.Draws as seeds
 use Rattle.world_runs.proofs.Ending.{turn-low, turns-few}
 use Rattle.node_core.specs.Nodes.{state_of}
-use Rattle.world_core.specs.declared.run.RunFault.{RunFault}
 use Rattle.world_core.specs.declared.run.RunFault.TheVariants as faults
 use Rattle.world_core.specs.declared.station.Station.{Station}
 use Rattle.world_core.specs.declared.world.World.{World}

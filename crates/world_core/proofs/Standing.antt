@@ -1,19 +1,18 @@
 -- What is enabled at a node is enabled in what it stands for.
-use Rattle.std.proofs.Common.{◌≡◌, ℕ, Bool, true, false, Option, Some, None, List, [], ◌∷◌, map, refl, sym, ap, subst, ◌∙◌}
+use Rattle.std.proofs.Common.{◌≡◌, ℕ, Bool, true, false, Option, Some, None, List, [], ◌∷◌, refl, sym, ap, ◌∙◌}
 use Rattle.std.specs.Prelude.{◌==◌, not, ◌&&◌, ◌||◌, is_some}
 use Rattle.std.specs.List.{list_any}
 use Rattle.std.specs.Option.{option_map}
 use Rattle.dom_history.specs.declared.op.Reply.{Reply}
 use Rattle.dom_history.specs.declared.op.Want.{Want}
 use Rattle.dom_history.specs.declared.event.What.{What}
-use Rattle.dom_history.specs.Follows.{Heard}
 use Rattle.node_runs.specs.Setups.{Given}
-use Rattle.node_runs.specs.NodeStates.{NodeState, proc_of}
+use Rattle.node_runs.specs.NodeStates.{NodeState}
 use Rattle.node_runs.specs.Incomings.{Incoming, has_program, enabled}
 use Rattle.node_runs.proofs.AlikeSteps.{enabled-alike}
 use Rattle.node_core.specs.Programs.{program_by, program_in, numbers_in}
 use Rattle.node_core.specs.Processes.{want_at}
-use Rattle.node_core.specs.Nodes.{Noted, given_of, state_of, program_of, is_enabled, Stands}
+use Rattle.node_core.specs.Nodes.{Noted, given_of, state_of, is_enabled, Stands}
 
 some-by : {P : Type 0} (b c : Bool) (y : P) (others : Option P) → c ≡ is_some others → (b || c) ≡ is_some (program_by b y others)
 some-by true c y others same = refl

@@ -1,5 +1,5 @@
 -- A node of a world after a turn stands for the node of the new world of the definitions.
-use Rattle.std.proofs.Common.{◌≡◌, ℕ, zero, suc, ◌+◌, ◌<◌, ◌≤◌, Bool, true, false, cond, Option, Some, None, List, [], ◌∷◌, ◌++◌, map, drop, length, refl, sym, ap, subst, ◌∙◌, arith}
+use Rattle.std.proofs.Common.{◌≡◌, ℕ, zero, suc, ◌+◌, ◌<◌, Bool, true, false, cond, Option, Some, None, List, [], ◌∷◌, ◌++◌, map, drop, length, refl, sym, ap, subst, ◌∙◌, arith}
 use Rattle.std.specs.Prelude.{◌==◌, not, filter, slice_get, All, reverse}
 use Rattle.std.specs.Option.{option_map}
 use Rattle.std.proofs.lemmas.List.{map-append}
@@ -14,7 +14,7 @@ use Rattle.dom_history.specs.Events.{Happening}
 use Rattle.dom_history.specs.Plans.{fate_of}
 use Rattle.ring_messages.specs.Frames.{Message}
 use Rattle.node_runs.specs.Setups.{Setup, given}
-use Rattle.node_runs.specs.Incomings.{Incoming, enabled}
+use Rattle.node_runs.specs.Incomings.{Incoming}
 use Rattle.node_runs.specs.Runs.{World, SentMark, marked, mark_of, incoming_of}
 use Rattle.world_runs.specs.Sendings.{Sending, sendings, sent_by}
 use Rattle.world_runs.specs.Waiting.{entry_by}
@@ -33,7 +33,6 @@ use Rattle.ring_links.proofs.Plain.{plain-frame, plain-mark, plain-less}
 use Rattle.ring_links.proofs.Carrying.{frame-carried, mark-carried, less-carried}
 use Rattle.node_core.specs.declared.setup.Incoming as code
 use Rattle.node_core.specs.declared.setup.Incoming.TheVariants as received
-use Rattle.node_core.specs.Receivings.{seen}
 use Rattle.node_core.specs.Nodes.{Noted}
 use Rattle.node_core.specs.Nodes as nodes
 use Rattle.world_core.specs.declared.notices.Notice.{Notice}

@@ -1,5 +1,5 @@
 -- A turn of a world.
-use Rattle.std.proofs.Common.{◌≡◌, ◌≢◌, ℕ, ◌≤◌, Bool, true, false, cond, Option, List, [], ◌∷◌, ◌++◌, length, refl, sym, ap, ◌∙◌, arith}
+use Rattle.std.proofs.Common.{◌≡◌, ◌≢◌, ℕ, Bool, true, false, cond, Option, List, [], ◌∷◌, ◌++◌, refl, sym, ap, ◌∙◌, arith}
 use Rattle.std.specs.Prelude.{sum, reverse, ◌==◌}
 use Rattle.std.proofs.lemmas.List.{reverse-append}
 use Rattle.dom_history.specs.Events.{Happening}
@@ -11,7 +11,7 @@ use Rattle.node_runs.specs.Setups.{Setup}
 use Rattle.node_runs.specs.Runs as runs
 use Rattle.world_runs.specs.Turns.{enabled_events}
 use Rattle.world_core.specs.declared.world.World.{World}
-use Rattle.world_core.specs.Stands.{Stands, IsTurnAt}
+use Rattle.world_core.specs.Stands.{Stands}
 use Rattle.world_core.specs.Places.{enabled_counts}
 use Rattle.world_core.proofs.Choosing.{all-places}
 use Rattle.world_core.proofs.Elements.{no_items}

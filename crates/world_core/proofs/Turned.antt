@@ -1,5 +1,5 @@
 -- A turn of a world of nodes is one of the world that it stands for.
-use Rattle.std.proofs.Common.{◌≡◌, ◌≢◌, ℕ, ◌+◌, ◌<◌, false, List, ◌∷◌, length, Option, Some, IfSome, inl, inr, refl, sym, ap, subst, ◌∙◌, arith}
+use Rattle.std.proofs.Common.{◌≡◌, ℕ, ◌+◌, ◌<◌, false, List, ◌∷◌, length, Option, Some, IfSome, refl, sym, ap, subst, ◌∙◌, arith}
 use Rattle.std.specs.Prelude.{slice_get, slice_set, ◌-◌}
 use Rattle.std.proofs.lemmas.Option.{slice_get_within}
 use Rattle.dom_history.specs.declared.op.Reply.{Reply}
@@ -21,8 +21,7 @@ use Rattle.world_runs.proofs.Inserting.{event_at}
 use Rattle.world_runs.proofs.Planning.{turns-deliver}
 use Rattle.world_runs.proofs.Sent.{step-sent}
 use Rattle.node_core.specs.declared.setup.Emitted.{Emitted}
-use Rattle.node_core.specs.Nodes.{Noted, Happened}
-use Rattle.node_core.specs.Receivings.{emitted_by}
+use Rattle.node_core.specs.Nodes.{Happened}
 use Rattle.world_core.specs.declared.station.Station.{Station}
 use Rattle.world_core.specs.declared.world.World.{World}
 use Rattle.world_core.specs.Stations.{open_ones}

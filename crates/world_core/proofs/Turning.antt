@@ -1,5 +1,5 @@
 -- The turn of a choice is the step of the node whose listed event it is.
-use Rattle.std.proofs.Common.{◌≡◌, ℕ, ◌+◌, ◌≤◌, Option, Some, List, length, refl, sym, ap, subst, ◌∙◌}
+use Rattle.std.proofs.Common.{◌≡◌, ℕ, ◌≤◌, Option, Some, List, length, ap, ◌∙◌}
 use Rattle.std.specs.Prelude.{◌%◌, slice_get}
 use Rattle.uid_names.specs.Steps.{◌>>=◌}
 use Rattle.dom_history.specs.declared.op.Reply.{Reply}

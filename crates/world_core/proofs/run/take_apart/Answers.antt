@@ -1,4 +1,4 @@
-use Rattle.std.proofs.Common.{◌≡◌, List, ap, ◌∙◌}
+use Rattle.std.proofs.Common.{List, ap, ◌∙◌}
 use Rattle.uid_names.specs.Names.{ProcName}
 use Rattle.dom_history.specs.declared.event.NodeLog.{NodeLog}
 use Rattle.world_core.specs.Ended.{named}

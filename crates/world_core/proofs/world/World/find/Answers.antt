@@ -1,6 +1,6 @@
-use Rattle.std.proofs.Common.{◌≡◌, ◌+◌, ◌<◌, ◌≤◌, ℕ, List, length, take, get_or, subst, arith}
+use Rattle.std.proofs.Common.{◌≡◌, ◌+◌, ◌<◌, length, take, get_or, subst, arith}
 use Rattle.std.specs.Prelude.{◌-◌, sum}
-use Rattle.world_core.specs.Places.{enabled_counts, IsPlace}
+use Rattle.world_core.specs.Places.{enabled_counts}
 use Rattle.world_core.proofs.Finding.{counts_step, count_at}
 use Rattle.world_core.proofs.world.World.find.Goals as goal
 

@@ -1,7 +1,6 @@
 -- The stations of the nodes that came so far.
 use Rattle.std.proofs.Common.{◌≡◌, ℕ, Some, length}
 use Rattle.std.specs.Prelude.{slice_get, IsSomeAnd}
-use Rattle.world_core.specs.declared.station.Station.{Station}
 use Rattle.world_core.specs.Firsts.{IsFirst}
 use Rattle.world_core.proofs.world.World.new.Given as goal
 

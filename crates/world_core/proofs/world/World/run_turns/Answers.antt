@@ -1,4 +1,4 @@
-use Rattle.std.proofs.Common.{◌≡◌, ℕ, suc, ◌+◌, ◌≤◌, Result, Ok, Err, Option, List, refl, sym, ap, subst, ◌∙◌, add-one, arith}
+use Rattle.std.proofs.Common.{◌≡◌, ℕ, ◌≤◌, Result, Ok, Err, Option, List, refl, sym, ap, subst, ◌∙◌, add-one, arith}
 use Rattle.std.specs.Prelude.{IfSome, IsErrAnd, slice_get}
 use Rattle.dom_history.specs.declared.plan.FateRow.{FateRow}
 use Rattle.world_runs.specs.Draws.{next_state, drawn, state_after, EndsIn, ComesToLast}

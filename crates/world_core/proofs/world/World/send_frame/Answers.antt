@@ -1,7 +1,6 @@
-use Rattle.std.proofs.Common.{◌≡◌, sym, ap, ◌∙◌}
+use Rattle.std.proofs.Common.{sym, ap, ◌∙◌}
 use Rattle.std.specs.Prelude.{◌==◌, ◌-◌}
 use Rattle.dom_history.specs.Plans.{fate_of}
-use Rattle.ring_messages.specs.Frames.{Message}
 use Rattle.world_core.specs.Sending.{delivered}
 use Rattle.world_core.specs.Reached.{ins_if}
 use Rattle.world_core.proofs.OnOks.{on_ok}

@@ -1,20 +1,13 @@
-use Rattle.std.proofs.Common.{◌≡◌, ◌<◌, ◌%◌, ℕ, Option, Some, IfSome, List, length, sum, false, refl, sym, ap, subst, ◌∙◌, arith}
-use Rattle.std.specs.Prelude.{◌-◌, slice_get, slice_set}
+use Rattle.std.proofs.Common.{◌≡◌, ◌<◌, ◌%◌, ℕ, Option, Some, IfSome, List, sum, false, refl, sym, ap, subst, ◌∙◌, arith}
+use Rattle.std.specs.Prelude.{◌-◌}
 use Rattle.std.specs.Vec.{with_item}
 use Rattle.std.proofs.lemmas.Option.{slice_get-get_or}
-use Rattle.dom_history.specs.declared.op.Reply.{Reply}
-use Rattle.dom_history.specs.declared.op.Want.{Want}
-use Rattle.node_runs.specs.Setups.{Setup}
 use Rattle.node_runs.specs.Incomings.{tick_of}
-use Rattle.node_runs.specs.Runs.{World as Done}
 use Rattle.ring_messages.specs.Frames.{caller_of}
-use Rattle.node_core.specs.declared.setup.Emitted.{Emitted}
 use Rattle.world_core.specs.declared.station.Station.{Station}
-use Rattle.world_core.specs.declared.world.World.{World}
 use Rattle.world_core.specs.Places.{enabled_counts, IsPlace}
 use Rattle.world_core.specs.Stations.{Candidate}
 use Rattle.world_core.specs.Listed.{event_at, IsDone}
-use Rattle.world_core.specs.Stands.{Stands}
 use Rattle.world_core.proofs.Chosen.{place-within, own-within, chosen-is}
 use Rattle.world_core.proofs.Counting.{counts-few}
 use Rattle.world_core.proofs.Elements.{if_some}

@@ -1,4 +1,4 @@
-use Rattle.std.proofs.Common.{◌≡◌, ℕ, Bool, Option, Some, None, sym, subst}
+use Rattle.std.proofs.Common.{ℕ, Bool, Option, Some, None, sym, subst}
 use Rattle.std.specs.Prelude.{is_some}
 use Rattle.dom_history.specs.declared.op.Reply.{Reply}
 use Rattle.dom_history.specs.declared.op.Want.{Want}
