@@ -1,12 +1,6 @@
-pub mod TurnOrder
-pub mod NextProcess
-pub mod HeardSoFar
-pub mod Listed
-pub mod Standing
-pub mod UnderWay
-pub mod OneRun
 pub mod ProcsWith
+pub mod SettingUp
 pub mod WrittenLines
-pub mod Shells
-pub mod Reported
 pub mod Sourced
+pub mod Due
+pub mod PlanRows

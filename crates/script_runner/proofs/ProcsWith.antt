@@ -1,5 +1,5 @@
 -- Processes in order, one by one.
-use Rattle.std.proofs.Common.{◌≡◌, ◌≤◌, ◌+◌, suc, Bool, true, false, List, [], ◌∷◌, length, refl, subst, arith, rules}
+use Rattle.std.proofs.Common.{◌≡◌, suc, Bool, true, false, List, [], ◌∷◌, refl, arith, rules}
 use Rattle.std.proofs.lemmas.List.Elements.{All-cons, All-nil, All-head, All-tail, All-weaker}
 use Rattle.std.proofs.lemmas.List.Kept.{AllPairs-cons}
 use Rattle.std.proofs.lemmas.Bool.Decides.{nat_tests}
@@ -7,16 +7,22 @@ use Rattle.std.specs.Prelude.{All, AllPairs, IsTrue, fold, if◌then◌else◌}
 use Rattle.uid_names.specs.Names.{ProcName, same_proc, proc_lt}
 use Rattle.script_reader.specs.declared.script.CommandRow.{CommandRow}
 use Rattle.script_runner.specs.Processes.{procs_with, processes_of}
-use Rattle.script_runner.proofs.Listed.{proc_from_same}
+
+-- processes that are the same are equal
+pub proc_from_same : (p q : ProcName) → same_proc p q ≡ true → p ≡ q
+proc_from_same p q e =
+    let node : p.node ≡ q.node = grind (arith, nat_tests, e) in
+    let number : p.number ≡ q.number = grind (arith, nat_tests, e) in
+    rw (node, number) refl
 
 -- processes in order
 abbrev pub Rise : List ProcName → Type 0
 Rise = AllPairs (λ p q. IsTrue (proc_lt p q))
 
-pairs-head : (p : ProcName) (procs : List ProcName) → Rise (p ∷ procs) → All (λ q. IsTrue (proc_lt p q)) procs
+pub pairs-head : (p : ProcName) (procs : List ProcName) → Rise (p ∷ procs) → All (λ q. IsTrue (proc_lt p q)) procs
 pairs-head p procs h k d below = h 0 (suc k) d (omega arith) (omega (arith, below))
 
-pairs-tail : (p : ProcName) (procs : List ProcName) → Rise (p ∷ procs) → Rise procs
+pub pairs-tail : (p : ProcName) (procs : List ProcName) → Rise (p ∷ procs) → Rise procs
 pairs-tail p procs h i j d under below = h (suc i) (suc j) d (omega (arith, under)) (omega (arith, below))
 
 proc_lt-trans : (p q r : ProcName) → IsTrue (proc_lt p q) → IsTrue (proc_lt q r) → IsTrue (proc_lt p r)
@@ -38,18 +44,6 @@ All-put P p q procs later false false here rest behind = All-cons P p (q ∷ pro
 procs_with-All : (P : ProcName → Type 0) (p : ProcName) (procs : List ProcName) → P p → All P procs → All P (procs_with p procs)
 procs_with-All P p [] here rest = All-cons P p [] here (All-nil P)
 procs_with-All P p (q ∷ procs) here rest = All-put P p q procs (procs_with p procs) (proc_lt q p) (same_proc q p) here rest (procs_with-All P p procs here (All-tail P q procs rest))
-
-All-taken : (P : ProcName → Type 0) (p q : ProcName) (procs later : List ProcName) (b c : Bool) → same_proc q p ≡ c → (All P later → P p × All P procs) → All P (if b then q ∷ later else (if c then q ∷ procs else p ∷ q ∷ procs)) → P p × All P (q ∷ procs)
-All-taken P p q procs later true c e behind all =
-    let rest = behind (All-tail P q later all) in
-    (rest.0, All-cons P q procs (All-head P q later all) rest.1)
-All-taken P p q procs later false true e behind all = (subst P (proc_from_same q p e) (All-head P q procs all), all)
-All-taken P p q procs later false false e behind all = (All-head P p (q ∷ procs) all, All-tail P p (q ∷ procs) all)
-
--- and the other way round
-procs_with-each : (P : ProcName → Type 0) (p : ProcName) (procs : List ProcName) → All P (procs_with p procs) → P p × All P procs
-procs_with-each P p [] all = (All-head P p [] all, All-nil P)
-procs_with-each P p (q ∷ procs) all = All-taken P p q procs (procs_with p procs) (proc_lt q p) (same_proc q p) refl (procs_with-each P p procs) all
 
 rises_by : (p q : ProcName) (procs later : List ProcName) (b c : Bool) → proc_lt q p ≡ b → same_proc q p ≡ c → Rise (q ∷ procs) → Rise later → (IsTrue (proc_lt q p) → All (λ r. IsTrue (proc_lt q r)) later) → Rise (if b then q ∷ later else (if c then q ∷ procs else p ∷ q ∷ procs))
 rises_by p q procs later true c e f rise later_rise behind = AllPairs-cons (λ a b. IsTrue (proc_lt a b)) q later (behind (search (rules, e))) later_rise
@@ -75,34 +69,15 @@ procs_from-rises : (procs : List ProcName) (rows : List CommandRow) → Rise pro
 procs_from-rises procs [] rise = rise
 procs_from-rises procs (row ∷ rows) rise = procs_from-rises (procs_with row.proc procs) rows (procs_with-rises row.proc procs rise)
 
-procs_from-each : (P : ProcName → Type 0) (procs : List ProcName) (rows : List CommandRow) → All P (procs_from procs rows) → All P procs × All (λ row. P row.proc) rows
-procs_from-each P procs [] all = (all, All-nil (λ row. P row.proc))
-procs_from-each P procs (row ∷ rows) all =
-    let rest = procs_from-each P (procs_with row.proc procs) rows all in
-    let own = procs_with-each P row.proc procs rest.0 in
-    (own.1, All-cons (λ r. P r.proc) row rows own.0 rest.1)
+procs_from-All : (P : ProcName → Type 0) (procs : List ProcName) (rows : List CommandRow) → All P procs → All (λ row. P row.proc) rows → All P (procs_from procs rows)
+procs_from-All P procs [] here rest = here
+procs_from-All P procs (row ∷ rows) here rest =
+    procs_from-All P (procs_with row.proc procs) rows (procs_with-All P row.proc procs (All-head (λ r. P r.proc) row rows rest) here) (All-tail (λ r. P r.proc) row rows rest)
 
 -- the processes of commands stand in order
 pub processes_of-rises : (rows : List CommandRow) → Rise (processes_of rows)
 processes_of-rises rows = procs_from-rises [] rows (λ i j d under below. absurd (omega (arith, below)))
 
--- what holds of each of them holds of the process of each command
-pub processes_of-each : (P : ProcName → Type 0) (rows : List CommandRow) → All P (processes_of rows) → All (λ row. P row.proc) rows
-processes_of-each P rows all = (procs_from-each P [] rows all).1
-
-procs_with-length : (p : ProcName) (procs : List ProcName) → length (procs_with p procs) ≤ length procs + 1
-procs_with-length p [] = omega arith
-procs_with-length p (q ∷ procs) = length_by (proc_lt q p) (same_proc q p) (procs_with-length p procs)
-  where
-    length_by : (b c : Bool) → length (procs_with p procs) ≤ length procs + 1 → length (if b then q ∷ procs_with p procs else (if c then q ∷ procs else p ∷ q ∷ procs)) ≤ length (q ∷ procs) + 1
-    length_by true c h = omega (arith, h)
-    length_by false true h = omega arith
-    length_by false false h = omega arith
-
-procs_from-length : (procs : List ProcName) (rows : List CommandRow) → length (procs_from procs rows) ≤ length procs + length rows
-procs_from-length procs [] = omega arith
-procs_from-length procs (row ∷ rows) = omega (arith, procs_from-length (procs_with row.proc procs) rows, procs_with-length row.proc procs)
-
--- there are no more of them than commands
-pub processes_of-length : (rows : List CommandRow) → length (processes_of rows) ≤ length rows
-processes_of-length rows = omega (arith, procs_from-length [] rows)
+-- what holds of the process of each command holds of each of them
+pub processes_of-All : (P : ProcName → Type 0) (rows : List CommandRow) → All (λ row. P row.proc) rows → All P (processes_of rows)
+processes_of-All P rows all = procs_from-All P [] rows (All-nil P) all

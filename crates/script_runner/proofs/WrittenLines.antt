@@ -1,8 +1,9 @@
 -- What was written of a report so far, with one part more.
-use Rattle.std.proofs.Common.{◌≡◌, ℕ, ◌+◌, ◌<◌, List, [], ◌∷◌, ◌++◌, take, length, slice_index_or, ap, ◌∙◌, sym, refl, append_assoc, append-nil, add-one, arith, map}
+use Rattle.std.proofs.Common.{◌≡◌, ℕ, ◌+◌, ◌<◌, List, [], ◌∷◌, ◌++◌, take, length, slice_index_or, ap, ◌∙◌, sym, append_assoc, append-nil, add-one, arith}
 use Rattle.std.proofs.Math.Seq.{take-suc}
 use Rattle.std.proofs.lemmas.List.{length-take}
-use Rattle.script_runner.specs.Reports.{AnswerRow, process_text, report_line, report_lines, lines_of}
+use Rattle.script_runner.specs.declared.run.AnswerRow.{AnswerRow}
+use Rattle.script_runner.specs.Reports.{process_text, report_line, report_lines, lines_of}
 
 report_lines-push : (process : List ℕ) (n : ℕ) (answers : List (List ℕ)) (a : List ℕ) → report_lines process n (answers ++ a ∷ []) ≡ report_lines process n answers ++ report_line process (n + length answers) a
 report_lines-push process n [] a = append-nil (report_line process n a) ∙ ap (λ k. report_line process k a) (omega arith)
@@ -25,16 +26,10 @@ lines_of-push names (x ∷ all) a =
     ap (λ r. report_lines (process_text names x.proc) 1 x.answers ++ r) (lines_of-push names all a)
     ∙ sym (append_assoc (report_lines (process_text names x.proc) 1 x.answers) (lines_of names all) (report_lines (process_text names a.proc) 1 a.answers))
 
-map-push : {X Y : Type 0} (f : X → Y) (xs : List X) (x : X) → map f (xs ++ x ∷ []) ≡ map f xs ++ f x ∷ []
-map-push f [] x = refl
-map-push f (y ∷ xs) x = ap (λ r. f y ∷ r) (map-push f xs x)
-
 -- the lines of one process more
-pub lines_of-more : {X : Type 0} (f : X → AnswerRow) (names : List (List ℕ)) (xs : List X) (i : ℕ) (d : X) → i < length xs → lines_of names (map f (take (i + 1) xs)) ≡ lines_of names (map f (take i xs)) ++ report_lines (process_text names (f (slice_index_or xs i d)).proc) 1 (f (slice_index_or xs i d)).answers
-lines_of-more f names xs i d h =
-    ap (λ ys. lines_of names (map f ys)) (ap (λ n. take n xs) (add-one i) ∙ take-suc xs i d h)
-    ∙ (ap (lines_of names) (map-push f (take i xs) (slice_index_or xs i d))
-    ∙ lines_of-push names (map f (take i xs)) (f (slice_index_or xs i d)))
+lines_of-more : (names : List (List ℕ)) (rows : List AnswerRow) (i : ℕ) (d : AnswerRow) → i < length rows → lines_of names (take (i + 1) rows) ≡ lines_of names (take i rows) ++ report_lines (process_text names (slice_index_or rows i d).proc) 1 (slice_index_or rows i d).answers
+lines_of-more names rows i d h =
+    ap (lines_of names) (ap (λ n. take n rows) (add-one i) ∙ take-suc rows i d h) ∙ lines_of-push names (take i rows) (slice_index_or rows i d)
 
 -- what was written, with one line more
 pub put_line-more : (to process : List ℕ) (answers : List (List ℕ)) (i : ℕ) (answer written after : List ℕ) → i < length answers → answer ≡ slice_index_or answers i answer → written ≡ to ++ report_lines process 1 (take i answers) → after ≡ written ++ report_line process (i + 1) answer → after ≡ to ++ report_lines process 1 (take (i + 1) answers)
@@ -44,7 +39,7 @@ put_line-more to process answers i answer written after h is so_far more =
     ∙ ap (λ r. to ++ r) (ap (λ a. report_lines process 1 (take i answers) ++ report_line process (i + 1) a) is ∙ sym (report_lines-more process answers i answer h))))
 
 -- what was written, with the lines of one process more
-pub put_lines-more : {X : Type 0} (f : X → AnswerRow) (names : List (List ℕ)) (xs : List X) (i : ℕ) (x : X) (written after : List ℕ) → i < length xs → x ≡ slice_index_or xs i x → written ≡ lines_of names (map f (take i xs)) → after ≡ written ++ report_lines (process_text names (f x).proc) 1 (f x).answers → after ≡ lines_of names (map f (take (i + 1) xs))
-put_lines-more f names xs i x written after h is so_far more =
-    more ∙ (ap (λ w. w ++ report_lines (process_text names (f x).proc) 1 (f x).answers) so_far
-    ∙ (ap (λ y. lines_of names (map f (take i xs)) ++ report_lines (process_text names (f y).proc) 1 (f y).answers) is ∙ sym (lines_of-more f names xs i x h)))
+pub put_lines-more : (names : List (List ℕ)) (rows : List AnswerRow) (i : ℕ) (row : AnswerRow) (written after : List ℕ) → i < length rows → row ≡ slice_index_or rows i row → written ≡ lines_of names (take i rows) → after ≡ written ++ report_lines (process_text names row.proc) 1 row.answers → after ≡ lines_of names (take (i + 1) rows)
+put_lines-more names rows i row written after h is so_far more =
+    more ∙ (ap (λ w. w ++ report_lines (process_text names row.proc) 1 row.answers) so_far
+    ∙ (ap (λ r. lines_of names (take i rows) ++ report_lines (process_text names r.proc) 1 r.answers) is ∙ sym (lines_of-more names rows i row h)))

@@ -1,28 +1,19 @@
--- What the program promises of its words, its source and its sink.
-use Rattle.std.specs.Prelude.{ℕ, Bool, ◌==◌, ◌||◌, ◌≡◌, ◌⊎◌, List, [], ◌∷◌, ◌++◌, codes, decimal, Option, Some, IfSome}
+-- What the program promises of its words, its source and its sinks.
+use Rattle.std.specs.Prelude.{ℕ, Bool, ◌==◌, ◌||◌, ◌≡◌, ◌⊎◌, List, ◌++◌, codes, decimal, Option, IfSome}
 use Rattle.std.specs.Io.KnownBytes.{append_known}
 use Rattle.dom_io.specs.Known.{AppendsPrefix}
-use Rattle.dom_text.specs.Numbers.{number_spelled}
+use Rattle.dom_history.specs.Events.{Happening}
 use Rattle.script_reader.specs.declared.cause.Cause.{Cause}
 use Rattle.script_reader.specs.Causes.{cause_text}
 use Rattle.script_reader.specs.Scripts.{Content}
 use Rattle.script_reader.specs.Grammar.{IsScript, IsBad}
-use Rattle.script_runner.specs.Reports.{IsReportOf}
+use Rattle.script_runner.specs.Words.{AskFor}
+use Rattle.script_runner.specs.Runs.{IsRunOf, ComesToTick, last_tick}
+use Rattle.script_runner.specs.Reports.{report_of, journal_of}
 
 -- the exit statuses
 abbrev pub is_status : ℕ → Bool
-is_status status = (status == 0) || ((status == 2) || ((status == 3) || ((status == 4) || ((status == 5) || (status == 7)))))
-
--- `run`, with a number of turns
-pub record AreTurns (words : List (List ℕ)) : Type 0 where
-  pub word : List ℕ
-  pub are : words ≡ codes "run" ∷ (codes "--turns" ∷ (word ∷ []))
-  pub turns : ℕ
-  pub number : number_spelled word ≡ Some turns
-
--- the words that are taken: `run` alone or with a number of turns, as they stand
-abbrev pub IsTaken : List (List ℕ) → Type 0
-IsTaken words = (words ≡ codes "run" ∷ []) ⊎ AreTurns words
+is_status status = (status == 0) || ((status == 2) || ((status == 3) || ((status == 4) || ((status == 5) || ((status == 6) || ((status == 7) || (status == 8)))))))
 
 abbrev pub usage : List ℕ
 usage = codes "usage: domain run [--turns N] | domain gen SEED [--turns N]\n"
@@ -35,13 +26,31 @@ refusal line cause = codes "line " ++ decimal line ++ codes ": " ++ cause_text c
 abbrev pub AreLeft : Option (List ℕ) → List ℕ → Type 0
 AreLeft left bytes = IfSome left (λ known. known ≡ bytes)
 
--- the bytes of a source are a script, and the text is the report of its one run
-pub record IsReportOfSource (left : Option (List ℕ)) (text : List ℕ) : Type 0 where
+-- the bytes of a source are this script
+pub record IsSourceOf (left : Option (List ℕ)) (script : Content) : Type 0 where
   pub bytes : List ℕ
   pub are_left : AreLeft left bytes
-  pub script : Content
   pub form : IsScript bytes script
-  pub reported : IsReportOf script text
+
+-- a run of the script of a source, the one that the seed picks
+pub record RunOfSource (left : Option (List ℕ)) (seed : ℕ) : Type 0 where
+  pub script : Content
+  pub source : IsSourceOf left script
+  pub events : List Happening
+  pub run : IsRunOf script seed last_tick events
+
+-- the turns of the seed give a node of the script of a source the last tick
+pub record LimitOfSource (left : Option (List ℕ)) (seed : ℕ) : Type 0 where
+  pub script : Content
+  pub source : IsSourceOf left script
+  pub node : ℕ
+  pub comes : ComesToTick script seed last_tick node
+
+abbrev pub report_in : {left : Option (List ℕ)} {seed : ℕ} → RunOfSource left seed → List ℕ
+report_in r = report_of r.script r.run
+
+abbrev pub journal_in : {left : Option (List ℕ)} {seed : ℕ} → RunOfSource left seed → List ℕ
+journal_in r = journal_of r.script r.events
 
 -- the bytes of a source are bad at this line, for this cause
 pub record IsBadSource (left : Option (List ℕ)) (line : ℕ) (cause : Cause) : Type 0 where
@@ -56,28 +65,56 @@ pub record IsRefusalOfSource (left : Option (List ℕ)) (text : List ℕ) : Type
   pub bad : IsBadSource left line cause
   pub written : text ≡ refusal line cause
 
+-- the text is the report of the run that the seed picks
+pub record IsReportOfSource (left : Option (List ℕ)) (seed : ℕ) (text : List ℕ) : Type 0 where
+  pub run : RunOfSource left seed
+  pub written : text ≡ report_in run
+
 -- the text that is due for the bytes of a source: the report, or what is said of their first bad line
-abbrev pub IsDue : Option (List ℕ) → List ℕ → Type 0
-IsDue left text = IsReportOfSource left text ⊎ IsRefusalOfSource left text
+abbrev pub IsDue : Option (List ℕ) → ℕ → List ℕ → Type 0
+IsDue left seed text = IsReportOfSource left seed text ⊎ IsRefusalOfSource left text
 
 -- a text was added at the end of what a sink holds, where it tells that
 abbrev pub Adds : Option (List ℕ) → Option (List ℕ) → List ℕ → Type 0
 Adds before after text = after ≡ append_known before text
 
--- the report was added
-pub record AddsReport (left before after : Option (List ℕ)) : Type 0 where
-  pub text : List ℕ
-  pub due : IsReportOfSource left text
-  pub added : Adds before after text
+-- what a sink holds, before and after, where it tells that
+pub record Held : Type 0 where
+  pub before : Option (List ℕ)
+  pub after : Option (List ℕ)
+
+-- the report and the journal of one run were added, each to its sink; the words ask for its turns
+pub record AddsRun (words : List (List ℕ)) (left : Option (List ℕ)) (out journal : Held) : Type 0 where
+  pub seed : ℕ
+  pub asked : AskFor words seed
+  pub run : RunOfSource left seed
+  pub reported : Adds out.before out.after (report_in run)
+  pub written : Adds journal.before journal.after (journal_in run)
+
+-- the report was added, and a first part of the journal of the same run, which may be all of it
+pub record AddsPartOfRun (words : List (List ℕ)) (left : Option (List ℕ)) (out journal : Held) : Type 0 where
+  pub seed : ℕ
+  pub asked : AskFor words seed
+  pub run : RunOfSource left seed
+  pub reported : Adds out.before out.after (report_in run)
+  pub part : AppendsPrefix journal.before journal.after (journal_in run)
 
 -- what is said of the first bad line was added
-pub record AddsRefusal (left before after : Option (List ℕ)) : Type 0 where
+pub record AddsRefusal (left : Option (List ℕ)) (out : Held) : Type 0 where
   pub text : List ℕ
   pub due : IsRefusalOfSource left text
-  pub added : Adds before after text
+  pub added : Adds out.before out.after text
 
 -- a first part of the text that was due was added, which may be all of it
-pub record AddsPart (left before after : Option (List ℕ)) : Type 0 where
+pub record AddsPart (words : List (List ℕ)) (left : Option (List ℕ)) (out : Held) : Type 0 where
+  pub seed : ℕ
+  pub asked : AskFor words seed
   pub text : List ℕ
-  pub due : IsDue left text
-  pub part : AppendsPrefix before after text
+  pub due : IsDue left seed text
+  pub part : AppendsPrefix out.before out.after text
+
+-- the turns that the words ask for come to the last tick
+pub record ComesToTheLimit (words : List (List ℕ)) (left : Option (List ℕ)) : Type 0 where
+  pub seed : ℕ
+  pub asked : AskFor words seed
+  pub limit : LimitOfSource left seed

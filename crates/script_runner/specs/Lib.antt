@@ -1,9 +1,9 @@
-pub mod Turns
-pub mod Steps
-pub mod Rounds
-pub mod Serving
 pub mod Processes
+pub mod Setups
+pub mod Runs
 pub mod Reports
+pub mod Words
 pub mod Domain
-pub mod Beginnings
 pub mod DueTexts
+pub mod Faults
+pub mod Answered

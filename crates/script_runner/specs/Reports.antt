@@ -1,13 +1,16 @@
--- The report of a script's run.
-use Rattle.std.specs.Prelude.{ℕ, ◌+◌, ◌≡◌, List, [], ◌∷◌, ◌++◌, codes, decimal, length, map}
+-- The report of a run of a script, and its journal.
+use Rattle.std.specs.Prelude.{ℕ, ◌+◌, ◌≡◌, List, [], ◌∷◌, ◌++◌, codes, decimal, map, reverse}
 use Rattle.uid_names.specs.Names.{ProcName}
-use Rattle.dom_history.specs.Histories.{History}
+use Rattle.dom_history.specs.Events.{Happening}
 use Rattle.dom_history.specs.Follows.{Heard}
 use Rattle.script_reader.specs.Scripts.{Content}
 use Rattle.aegis_shell.specs.AnswerTexts.{node_name}
-use Rattle.aegis_shell.specs.Asking.{ask, answers}
+use Rattle.aegis_shell.specs.Asking.{answers}
+use Rattle.journal_text.specs.Lines.{journal}
+use Rattle.script_runner.specs.declared.run.AnswerRow.{AnswerRow}
+use Rattle.script_runner.specs.declared.run.Ran.{Ran}
 use Rattle.script_runner.specs.Processes.{processes_of}
-use Rattle.script_runner.specs.Rounds.{IsRunInRounds}
+use Rattle.script_runner.specs.Runs.{IsRunOf, heard_in}
 
 -- a process by the name of its node
 abbrev pub process_text : List (List ℕ) → ProcName → List ℕ
@@ -22,32 +25,35 @@ abbrev pub report_lines : List ℕ → ℕ → List (List ℕ) → List ℕ
 report_lines process index [] = []
 report_lines process index (answer ∷ rest) = report_line process index answer ++ report_lines process (index + 1) rest
 
--- a process and its answers, in order
-pub record AnswerRow : Type 0 where
-  pub proc : ProcName
-  pub answers : List (List ℕ)
-
 -- the lines of processes, one after another
 abbrev pub lines_of : List (List ℕ) → List AnswerRow → List ℕ
 lines_of names [] = []
 lines_of names (a ∷ rest) = report_lines (process_text names a.proc) 1 a.answers ++ lines_of names rest
 
--- a line for each command of each process, in order of node and number; each process has heard this
+-- the names of a script's nodes, by number
+abbrev pub names_of : Content → List (List ℕ)
+names_of s = map (λ n. n.name) s.nodes
+
+-- the answers of each process, in order of node and number; each process has heard this
+abbrev pub rows_of : Content → (ProcName → Heard) → List AnswerRow
+rows_of s heard = map (λ p. record { proc = p; answers = answers s p (heard p) }) (processes_of s.commands)
+
+-- a line for each command that was answered
 abbrev pub report : Content → (ProcName → Heard) → List ℕ
-report s heard = lines_of (map (λ n. n.name) s.nodes) (map (λ p. record { proc = p; answers = answers s p (heard p) }) (processes_of s.commands))
+report s heard = lines_of (names_of s) (rows_of s heard)
 
--- how many commands a process of a script has finished
-abbrev pub counts : Content → ProcName → Heard → ℕ
-counts s p heard = length (answers s p heard)
+-- the report of a run: the answers over what each program heard in it
+abbrev pub report_of : (s : Content) {seed last : ℕ} {events : List Happening} → IsRunOf s seed last events → List ℕ
+report_of s run = report s (heard_in run.picked.world)
 
--- the history is what one store does for a script in rounds: legal, phased and ended, without acts and without
--- replies of link faults, at the ticks 1, 2 and so on, one command of each process in a round of its phase
-abbrev pub IsRunOf : Content → History → Type 0
-IsRunOf s h = IsRunInRounds s.opening (ask s) (counts s) h
+-- the journal of a run: a line for each event, by rising place
+abbrev pub journal_of : Content → List Happening → List ℕ
+journal_of s events = journal (names_of s) (reverse events)
 
--- the text is the report of the one run of a script, over what each process heard to the end of its program
-pub record IsReportOf (s : Content) (text : List ℕ) : Type 0 where
-  pub history : History
-  pub run : IsRunOf s history
-  pub only : (other : History) → IsRunOf s other → other ≡ history
-  pub written : text ≡ report s (λ p. (run.plain.ended.all_done p).heard)
+-- what came of a script: the events of the run that the seed picks, by rising place, and the answers over what each program
+-- heard in it
+pub record IsRan (s : Content) (seed last : ℕ) (ran : Ran) : Type 0 where
+  pub events : List Happening
+  pub run : IsRunOf s seed last events
+  pub by_place : ran.events ≡ reverse events
+  pub answers : ran.answers ≡ rows_of s (heard_in run.picked.world)

@@ -1,39 +1,49 @@
-//! The program: from its words and a script's bytes to the report.
-ghost use Rattle.std.specs.Prelude.{◌≡◌, ◌+◌, ◌⊎◌, ◌↔◌, ℕ, List, map, string_bytes, IsTrue, IsSome, IfOk, IsErrOf, Some, codes};
+//! The program: from its words and a script's bytes to the report and the journal.
+ghost use Rattle.std.specs.Prelude.{◌≡◌, ◌≢◌, ◌+◌, ◌^◌, ◌⊎◌, ℕ, List, map, string_bytes, IsTrue, IfOk, IfErr, IsErrOf, Some, codes};
 ghost use Rattle.dom_io.specs.Counts.{CountRose};
 ghost use Rattle.dom_io.specs.Known.{TakesAtMost, AppendsPrefix};
 ghost use Rattle.script_reader.specs.declared.cause.Cause.{Cause};
 ghost use Rattle.script_reader.specs.Scripts.{Content};
 ghost use Rattle.script_reader.specs.Grammar.{IsScript};
-ghost use Rattle.dom_text.specs.Numbers.{number_spelled};
-ghost use Rattle.script_runner.specs.Domain.{is_status, IsTaken, usage as usage_text, refusal as refusal_text, Adds, AddsReport, AddsRefusal, AddsPart};
-ghost use Rattle.script_runner.specs.DueTexts.{IsDueText};
+ghost use Rattle.script_runner.specs.Words.{IsTaken, seed_of};
+ghost use Rattle.script_runner.specs.Domain.{is_status, usage as usage_text, refusal as refusal_text, Adds, AddsRun, AddsPartOfRun, AddsRefusal, AddsPart, ComesToTheLimit, LimitOfSource};
+ghost use Rattle.script_runner.specs.DueTexts.{IsDueText, IsDueOf, IsEndOf};
 
-use crate::run::run_script;
+use crate::names::names_of;
+use crate::report::report;
+use crate::run::{Ran, run_script};
+use crate::words::words_asked;
 use dom_io::{ReadEnd, Sink, Source, read_all, write_all};
-use dom_text::{decimal, put_decimal};
+use dom_text::put_decimal;
+use journal_text::{LineBuffer, write_journal};
 use script_reader::laws::scripts_have_one_reading;
-use script_reader::{Cause, ScriptFault, read_script};
+use script_reader::{Cause, Script, ScriptFault, read_script};
 use std::alloc::Global;
 use thiserror::Error;
 use uid_names::{ByteList, NoMemory, SCRIPT_BYTES};
+use world_core::RunFault;
 
 const USAGE: &[u8; 60] = b"usage: domain run [--turns N] | domain gen SEED [--turns N]\n";
+
+/// No event gives a node this tick.
+const LAST_TICK: u64 = 1 << 40;
 
 /// What is due for the bytes of a source.
 #[derive(Drop)]
 pub(crate) enum Due {
-    /// The report of a script's run.
-    Report(ByteList),
+    /// The report and the journal of a script's run.
+    Run(ByteList, LineBuffer),
     /// What is said of the first bad line.
     Refusal(ByteList),
 }
 
 /// Why nothing is due.
 #[derive(Clone, Copy, Debug, PartialEq, Eq, Error)]
-enum RunEnd {
+pub(crate) enum RunEnd {
     #[error("a read failed")]
     ReadFault,
+    #[error("a node came to the last tick")]
+    TickLimit,
     #[error("no memory")]
     NoMemory,
 }
@@ -49,28 +59,6 @@ impl From<NoMemory> for RunEnd {
     }
 }
 
-fn is_run(word: &str) -> bool
-    ensures { IsTrue result ↔ (word.now ≡ codes "run") }
-{
-    word == "run"
-}
-
-fn is_turns(option: &str, turns: &str) -> bool
-    ensures { IsTrue result ↔ ((option.now ≡ codes "--turns") × IsSome (number_spelled turns.now)) }
-{
-    option == "--turns" && decimal(turns.as_bytes()).is_ok()
-}
-
-fn is_taken(words: &[String]) -> bool
-    ensures { IsTrue result ↔ IsTaken (map string_bytes words.now) }
-{
-    match words {
-        [run] => is_run(run.as_str()),
-        [run, option, turns] => is_run(run.as_str()) && is_turns(option.as_str(), turns.as_str()),
-        _ => false,
-    }
-}
-
 /// What is said of a bad line.
 fn refusal(alloc: Global, line: u32, cause: Cause) -> Result<ByteList, NoMemory>
     ensures { IfOk result (λ text. text ≡ refusal_text line cause) }
@@ -83,10 +71,27 @@ fn refusal(alloc: Global, line: u32, cause: Cause) -> Result<ByteList, NoMemory>
     Ok(text)
 }
 
+/// The report and the journal of a script's run, which are made whole.
+fn run_due(alloc: Global, script: &Script, turns: Option<u64>) -> Result<Due, RunEnd>
+    ensures due { IfOk result (IsDueOf script.now (seed_of turns)) }
+    ensures end { IfErr result (IsEndOf script.now (seed_of turns)) }
+{
+    let ran = match run_script(alloc, script, turns, LAST_TICK) {
+        Ok(ran) => ran,
+        Err(RunFault::TickLimit(_)) => return Err(RunEnd::TickLimit),
+        Err(RunFault::NoMemory) => return Err(RunEnd::NoMemory),
+    };
+    let text = report(alloc, script.nodes(), ran.answers.items())?;
+    let names = names_of(alloc, script.nodes())?;
+    let lines = write_journal(alloc, &ran.events, &names)?;
+    Ok(Due::Run(text, lines))
+}
+
 /// What is due for the bytes that a source has left.
-fn read_due<S: Source>(alloc: Global, script: &mut S) -> Result<Due, RunEnd>
-    ensures due { IfOk result (IsDueText (S.left script.old)) }
+fn read_due<S: Source>(alloc: Global, script: &mut S, turns: Option<u64>) -> Result<Due, RunEnd>
+    ensures due { IfOk result (IsDueText (S.left script.old) (seed_of turns)) }
     ensures read_fault { IsErrOf result RunEnd.ReadFault → CountRose (S.faults script.old) (S.faults script.new) }
+    ensures limit { IsErrOf result RunEnd.TickLimit → LimitOfSource (S.left script.old) (seed_of turns) }
     ensures taken { TakesAtMost (SCRIPT_BYTES + 1) (S.left script.old) (S.left script.new) }
 {
     let bytes = match read_all(alloc, script, SCRIPT_BYTES) {
@@ -96,7 +101,7 @@ fn read_due<S: Source>(alloc: Global, script: &mut S) -> Result<Due, RunEnd>
         Err(ReadEnd::NoMemory) => return Err(RunEnd::NoMemory),
     };
     match read_script(alloc, bytes.bytes()) {
-        Ok(read) => Ok(Due::Report(run_script(alloc, &read)?)),
+        Ok(read) => run_due(alloc, &read, turns),
         Err(ScriptFault::Bad { line, cause }) => Ok(Due::Refusal(refusal(alloc, line, cause)?)),
         Err(ScriptFault::NoMemory) => Err(RunEnd::NoMemory),
     }
@@ -113,15 +118,40 @@ fn write_text<O: Sink>(out: &mut O, text: &[u8], status: u8) -> u8
     }
 }
 
+/// Writes the report, and then the journal: 0, or 5 where a write of the report failed, 6 where one of the journal did.
+/// Takes no memory.
+fn write_run<O: Sink, J: Sink>(out: &mut O, journal: &mut J, text: &[u8], lines: &[u8]) -> u8
+    ensures status { (result ≡ 0) ⊎ ((result ≡ 5) ⊎ (result ≡ 6)) }
+    ensures reported { result ≢ 5 → Adds (O.held out.old) (O.held out.new) text.now }
+    ensures fault { result ≡ 5 → CountRose (O.faults out.old) (O.faults out.new) }
+    ensures report_cut { result ≡ 5 → AppendsPrefix (O.held out.old) (O.held out.new) text.now }
+    ensures no_journal { result ≡ 5 → journal.new ≡ journal.old }
+    ensures written { result ≡ 0 → Adds (J.held journal.old) (J.held journal.new) lines.now }
+    ensures journal_fault { result ≡ 6 → CountRose (J.faults journal.old) (J.faults journal.new) }
+    ensures lines_cut { result ≡ 6 → AppendsPrefix (J.held journal.old) (J.held journal.new) lines.now }
+{
+    if write_all(out, text).is_err() {
+        return 5;
+    }
+    match write_all(journal, lines) {
+        Ok(()) => 0,
+        Err(_) => 6,
+    }
+}
+
 /// Runs the program: `words` are those of the command line, `script` is standard input, `out` standard output and
 /// `journal` standard error. The answer is the exit status:
 ///
-/// - 0: the report of the script's one run was written;
+/// - 0: the report and the journal of a run of the script were written;
 /// - 2: the words are not taken, and the usage was written;
 /// - 3: the source has no script, and its first bad line was named with the cause;
 /// - 4: a read failed;
-/// - 5: a write failed;
-/// - 7: there was no memory.
+/// - 5: a write to `out` failed;
+/// - 6: the report was written, and a write to `journal` failed;
+/// - 7: there was no memory;
+/// - 8: a node came to the last tick.
+///
+/// Nothing takes memory once the report begins to be written.
 pub fn run_domain<S: Source, O: Sink, J: Sink>(
     alloc: Global,
     words: &[String],
@@ -131,42 +161,51 @@ pub fn run_domain<S: Source, O: Sink, J: Sink>(
 ) -> u8
     ensures statuses { IsTrue (is_status result) }
 
-    // The headline: what is written is the report of the one history of one store that follows the script.
-    ensures report { result ≡ 0 → AddsReport (S.left script.old) (O.held out.old) (O.held out.new) }
+    // The headline: what is written is the report and the journal of one run of the script's nodes, which is planned by its
+    // faults and which the turns of the words pick.
+    ensures run { result ≡ 0 → AddsRun (map string_bytes words.now) (S.left script.old)
+        (record { before = O.held out.old; after = O.held out.new }) (record { before = J.held journal.old; after = J.held journal.new }) }
 
     // Words, and then bytes, that are refused; both yield to a write fault.
-    ensures words_taken { result ≡ 0 → IsTaken (map string_bytes words.now) }
     ensures words_refused { (IsTaken (map string_bytes words.now) → ⊥) → (result ≡ 2) ⊎ (result ≡ 5) }
     ensures usage { result ≡ 2 → (IsTaken (map string_bytes words.now) → ⊥) × Adds (O.held out.old) (O.held out.new) usage_text }
-    ensures bytes_refused { result ≡ 3 → IsTaken (map string_bytes words.now) × AddsRefusal (S.left script.old) (O.held out.old) (O.held out.new) }
+    ensures bytes_refused { result ≡ 3 → IsTaken (map string_bytes words.now) × AddsRefusal (S.left script.old) (record { before = O.held out.old; after = O.held out.new }) }
+
+    // A node comes to the last tick only where the turns of the words give it that tick.
+    ensures limit { result ≡ 8 → ComesToTheLimit (map string_bytes words.now) (S.left script.old) }
 
     // Faults of the outside, only where their count rose.
     ensures read_fault { result ≡ 4 → CountRose (S.faults script.old) (S.faults script.new) }
     ensures write_fault { result ≡ 5 → CountRose (O.faults out.old) (O.faults out.new) }
+    ensures journal_fault { result ≡ 6 → CountRose (J.faults journal.old) (J.faults journal.new) }
     ensures usage_cut { result ≡ 5 → (IsTaken (map string_bytes words.now) → ⊥) → AppendsPrefix (O.held out.old) (O.held out.new) usage_text }
-    ensures text_cut { result ≡ 5 → IsTaken (map string_bytes words.now) → AddsPart (S.left script.old) (O.held out.old) (O.held out.new) }
+    ensures text_cut { result ≡ 5 → IsTaken (map string_bytes words.now) → AddsPart (map string_bytes words.now) (S.left script.old)
+        (record { before = O.held out.old; after = O.held out.new }) }
+    ensures journal_cut { result ≡ 6 → AddsPartOfRun (map string_bytes words.now) (S.left script.old)
+        (record { before = O.held out.old; after = O.held out.new }) (record { before = J.held journal.old; after = J.held journal.new }) }
 
     // What stays as it was.
-    ensures nothing_written { (result ≡ 4) ⊎ (result ≡ 7) → out.new ≡ out.old }
+    ensures nothing_written { (result ≡ 4) ⊎ ((result ≡ 7) ⊎ (result ≡ 8)) → out.new ≡ out.old }
+    ensures no_journal { result ≢ 0 → result ≢ 6 → journal.new ≡ journal.old }
     ensures nothing_read { (IsTaken (map string_bytes words.now) → ⊥) → script.new ≡ script.old }
     ensures source { TakesAtMost (SCRIPT_BYTES + 1) (S.left script.old) (S.left script.new) }
-    ensures journal { journal.new ≡ journal.old }
 
-    // Where nothing outside fails, a script is run, or there was no memory.
+    // Where nothing outside fails, a script is run to its end or to the last tick, or there was no memory.
     ensures complete { (bytes : List ℕ) → (s : Content) → IsTaken (map string_bytes words.now) → S.left script.old ≡ Some bytes → IsScript bytes s
         → (CountRose (S.faults script.old) (S.faults script.new) → ⊥) → (CountRose (O.faults out.old) (O.faults out.new) → ⊥)
-        → (result ≡ 0) ⊎ (result ≡ 7) }
+        → (CountRose (J.faults journal.old) (J.faults journal.new) → ⊥)
+        → (result ≡ 0) ⊎ ((result ≡ 7) ⊎ (result ≡ 8)) }
 {
-    let _ = journal;
-    if !is_taken(words) {
+    let Some(asked) = words_asked(words) else {
         return write_text(out, USAGE, 2);
-    }
+    };
     // So bytes that are a script have no bad line.
     scripts_have_one_reading();
-    match read_due(alloc, script) {
-        Ok(Due::Report(text)) => write_text(out, text.bytes(), 0),
+    match read_due(alloc, script, asked.turns) {
+        Ok(Due::Run(text, lines)) => write_run(out, journal, text.bytes(), lines.bytes()),
         Ok(Due::Refusal(text)) => write_text(out, text.bytes(), 3),
         Err(RunEnd::ReadFault) => 4,
         Err(RunEnd::NoMemory) => 7,
+        Err(RunEnd::TickLimit) => 8,
     }
 }

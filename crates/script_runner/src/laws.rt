@@ -1,18 +1,14 @@
-//! Laws of runs. Each stands on a function that does nothing, so that the check proves it.
-ghost use Rattle.std.specs.Prelude.{◌≡◌, ℕ};
-ghost use Rattle.uid_names.specs.Names.{ProcName};
-ghost use Rattle.uid_names.specs.Openings.{Start};
-ghost use Rattle.dom_history.specs.declared.op.Want.{Want};
-ghost use Rattle.dom_history.specs.Histories.{History};
-ghost use Rattle.dom_history.specs.Follows.{Heard};
-ghost use Rattle.script_runner.specs.Rounds.{IsRunInRounds};
+//! Laws of what a script gives its nodes.
+ghost use Rattle.uid_names.specs.Openings.{IsStart};
+ghost use Rattle.script_reader.specs.Scripts.{Content, IsContent};
+ghost use Rattle.node_runs.specs.Setups.{IsSetup};
+ghost use Rattle.script_runner.specs.Setups.{setup_of};
 
-use dom_history::laws::plain_runs_are_their_entries;
+use aegis_shell::laws::asks_are_in_range;
 
-/// Programs have at most one run in rounds.
-pub fn the_run_is_one()
-    ensures { (opening : Start) → (asks : ProcName → Heard → Want) → (counts : ProcName → Heard → ℕ) → (h k : History) →
-        IsRunInRounds opening asks counts h → IsRunInRounds opening asks counts k → h ≡ k }
+/// What a script gives its nodes is a set-up, of which runs can be spoken.
+pub fn scripts_set_nodes_up()
+    ensures { (s : Content) → IsContent s → IsStart s.opening → IsSetup (setup_of s) }
 {
-    plain_runs_are_their_entries();
+    asks_are_in_range();
 }

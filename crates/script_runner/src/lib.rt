@@ -1,13 +1,17 @@
-//! Runs a script: from its bytes to the report's.
+//! Runs a script on nodes: from its bytes to the report's and the journal's.
 #![tactic(auto)]
 
 mod domain;
 pub mod laws;
+mod names;
+mod nodes;
+mod plans;
 mod processes;
 mod report;
-mod rounds;
-mod run;
+pub mod run;
 #[cfg(test)]
 mod tests;
+mod words;
 
 pub use domain::run_domain;
+pub use run::{AnswerRow, AnswerRows, Ran, run_script};

@@ -2,10 +2,8 @@
 ghost use Rattle.std.specs.Prelude.{◌≡◌, ◌++◌, map, IfOk, OnOk};
 ghost use Rattle.script_runner.specs.Reports.{process_text, report_line, report_lines, lines_of};
 ghost use Rattle.aegis_shell.specs.AnswerTexts.{node_name};
-ghost use Rattle.aegis_shell.specs.Shells.{shell_answers};
 
-use crate::rounds::process::Process;
-use aegis_shell::Shell;
+use crate::run::AnswerRow;
 use dom_text::put_decimal;
 use script_reader::NodeRow;
 use std::alloc::Global;
@@ -53,17 +51,17 @@ fn put_lines(to: &mut ByteList, process: &[u8], answers: &[ByteList]) -> Result<
 }
 
 /// The report: the lines of each process, one process after another.
-pub fn report(
+pub(crate) fn report(
     alloc: Global,
     nodes: &[NodeRow],
-    processes: &[Process<Shell>],
+    rows: &[AnswerRow],
 ) -> Result<ByteList, NoMemory>
-    ensures { IfOk result (λ text. text ≡ lines_of (map (λ n. n.name) nodes.now) (map (λ p. record { proc = p.proc; answers = shell_answers p.program }) processes.now)) }
+    ensures { IfOk result (λ text. text ≡ lines_of (map (λ n. n.name) nodes.now) rows.now) }
 {
     let mut text = ByteList::new(alloc);
-    for process in processes {
-        let name = process_name(alloc, nodes, process.proc)?;
-        put_lines(&mut text, name.bytes(), process.program.answers())?;
+    for row in rows {
+        let name = process_name(alloc, nodes, row.proc)?;
+        put_lines(&mut text, name.bytes(), row.answers.items())?;
     }
     Ok(text)
 }

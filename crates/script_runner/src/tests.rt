@@ -1,5 +1,7 @@
 //! What no clause says: that runs find memory, and reports that were worked out by hand.
 mod examples;
+mod sinks;
+mod worlds;
 
 use super::run_domain;
 use dom_io::{MemSink, MemSource};
@@ -39,7 +41,7 @@ fn run(
     mut out: MemSink,
 ) -> Result<Outcome, Fail> {
     let words = words_of(alloc, words)?;
-    let mut journal = MemSink::new(alloc, 100, &[])?;
+    let mut journal = MemSink::new(alloc, 10_000, &[])?;
     let status = run_domain(alloc, words.as_slice(), &mut source, &mut out, &mut journal);
     Ok(Outcome {
         status,
@@ -49,12 +51,13 @@ fn run(
     })
 }
 
-/// What is written for a script with the word `run`, where the run ends with this status and no journal.
+/// What is written for a script with the word `run`, where the run ends with this status: with a journal, or with none
+/// where it is not 0.
 fn written(alloc: Global, script: &[u8], status: u8) -> Result<ByteList, Fail> {
     let source = MemSource::new(alloc, script, &[])?;
     let out = MemSink::new(alloc, 10_000, &[])?;
     let outcome = run(alloc, &["run"], source, out)?;
-    if outcome.status != status || !outcome.journal.bytes().is_empty() {
+    if outcome.status != status || outcome.journal.bytes().is_empty() != (status != 0) {
         return Err(Fail::from("another end"));
     }
     Ok(ByteList::from_slice(alloc, outcome.out.bytes())?)
@@ -163,32 +166,6 @@ fn a_conflict_names_the_holder(rt: HostRuntime) -> Result<(), Fail> {
 }
 
 #[test]
-fn processes_are_served_in_rounds_in_order(rt: HostRuntime) -> Result<(), Fail> {
-    let report = report(
-        rt.alloc(),
-        b"node a\nnode b\nobject x 1 a\nb.1 lock x w\na.2 lock x w\na.1 lock x w\na.1 unlock x\na.2 lock x w\nb.1 lock x w\n",
-    )?;
-    assert_eq!(rt;
-        report.bytes(),
-        b"a.1 1 ok\na.1 2 ok\na.2 1 conflict a.1 w\na.2 2 ok\nb.1 1 conflict a.1 w\nb.1 2 conflict a.2 w\n".as_slice()
-    );
-    Ok(())
-}
-
-#[test]
-fn rounds_begin_anew_in_each_phase(rt: HostRuntime) -> Result<(), Fail> {
-    let report = report(
-        rt.alloc(),
-        b"node a\nobject x 1 a\na.2 lock x w\nphase\na.1 lock x w\na.1 lock x w\na.1 lock x w\na.2 unlock x\n",
-    )?;
-    assert_eq!(rt;
-        report.bytes(),
-        b"a.1 1 conflict a.2 w\na.1 2 ok\na.1 3 already held\na.2 1 ok\na.2 2 ok\n".as_slice()
-    );
-    Ok(())
-}
-
-#[test]
 fn objects_are_mapped_into_the_address_space(rt: HostRuntime) -> Result<(), Fail> {
     let report = report(
         rt.alloc(),
@@ -223,21 +200,6 @@ fn a_full_volume_refuses_new_objects(rt: HostRuntime) -> Result<(), Fail> {
     assert_eq!(rt;
         report.bytes(),
         b"a.1 1 ok 0000000001100001\na.1 2 no space\na.1 3 ok\na.1 4 ok\na.1 5 not held\na.1 6 ok 0000000001200001\na.1 7 no object\n".as_slice()
-    );
-    Ok(())
-}
-
-#[test]
-fn a_command_without_its_object_takes_its_place_in_the_round(rt: HostRuntime) -> Result<(), Fail> {
-    let script = with_objects(
-        rt.alloc(),
-        15,
-        b"a.1 new y 1024\na.1 lock y w\na.1 lock o1 w\na.2 lock o2 r\na.2 lock o1 w\n",
-    )?;
-    let report = report(rt.alloc(), script.bytes())?;
-    assert_eq!(rt;
-        report.bytes(),
-        b"a.1 1 no space\na.1 2 not bound\na.1 3 conflict a.2 w\na.2 1 ok\na.2 2 ok\n".as_slice()
     );
     Ok(())
 }

@@ -11,7 +11,7 @@ fn written(alloc: Global, script: &[u8], status: u8) -> Result<ByteList, Fail> {
     words.push(String::from_str(alloc, "run")?)?;
     let mut source = MemSource::new(alloc, script, &[])?;
     let mut out = MemSink::new(alloc, 10_000, &[])?;
-    let mut journal = MemSink::new(alloc, 100, &[])?;
+    let mut journal = MemSink::new(alloc, 10_000, &[])?;
     let ended = run_domain(alloc, words.as_slice(), &mut source, &mut out, &mut journal);
     if ended != status {
         return Err(Fail::from("another status"));
@@ -81,23 +81,22 @@ b.1 1 ok
 node b
 object x 1 a
 b.1 lock x w
-a.2 lock x w
-a.1 lock x w
-a.1 unlock x
-a.2 lock x w
 phase
-b.1 lock x r
-a.2 unlock x
-b.1 lock x r
+a.1 lock x w
+a.2 lock x r
+phase
+b.1 unlock x
+phase
+a.2 lock x r
+phase
+b.1 lock x w
 ",
-            b"a.1 1 ok
-a.1 2 ok
-a.2 1 conflict a.1 w
+            b"a.1 1 conflict b.1 w
+a.2 1 conflict b.1 w
 a.2 2 ok
-a.2 3 ok
-b.1 1 conflict a.1 w
+b.1 1 ok
 b.1 2 ok
-b.1 3 already held
+b.1 3 conflict a.2 r
 ",
         ),
         (

@@ -1,7 +1,6 @@
 use Rattle.std.proofs.Common.{◌≡◌, take, map}
-use Rattle.aegis_shell.specs.Shells.{shell_answers}
 use Rattle.script_runner.specs.Reports.{lines_of}
 use Rattle.script_runner.proofs.report.report.Given as goal
 
-abbrev pub invariant-loop-process : goal.invariant-loop-process
-invariant-loop-process l = l.text ≡ lines_of (map (λ n. n.name) l.nodes) (map (λ p. record { proc = p.proc; answers = shell_answers p.program }) (take l.process-index l.processes))
+abbrev pub invariant-loop-row : goal.invariant-loop-row
+invariant-loop-row l = l.text ≡ lines_of (map (λ n. n.name) l.nodes) (take l.row-index l.rows)

@@ -1,0 +1,3 @@
+pub mod ProcsWith
+pub mod SettingUp
+pub mod Running

@@ -1,0 +1,5 @@
+pub mod Processes
+pub mod Setups
+pub mod Runs
+pub mod Reports
+pub mod Histories

@@ -1,0 +1,80 @@
+//! Laws of the runs of scripts. Each body names the laws below that its proof stands on.
+ghost use Rattle.std.specs.Prelude.{◌≡◌, ◌⊎◌, ℕ, ◌^◌, ◌≤◌, List, length, All};
+ghost use Rattle.uid_names.specs.Openings.{IsStart};
+ghost use Rattle.dom_history.specs.Events.{Happening};
+ghost use Rattle.dom_history.specs.Follows.{Follows};
+ghost use Rattle.script_reader.specs.Scripts.{Content, IsContent};
+ghost use Rattle.aegis_shell.specs.Asking.{ask};
+ghost use Rattle.node_runs.specs.Setups.{IsSetup};
+ghost use Rattle.node_runs.specs.Runs.{World};
+ghost use Rattle.world_runs.specs.ByPlace.{by_place};
+ghost use Rattle.world_runs.specs.Draws.{EndsIn};
+ghost use Rattle.world_runs.specs.Picked.{IsPicked};
+ghost use Rattle.world_runs.specs.NamedNodes.{NamesNodes};
+ghost use Rattle.script_runs.specs.Setups.{setup_of};
+ghost use Rattle.script_runs.specs.Runs.{IsRunOf, ComesToTick};
+ghost use Rattle.script_runs.specs.Reports.{report_of};
+ghost use Rattle.script_runs.specs.Histories.{script_history, AreRepliesHeard, AreAskedHeard};
+
+use aegis_shell::laws::asks_are_in_range;
+use run_calls::laws::{entries_are_what_programs_heard, histories_follow_programs};
+use world_runs::laws::{a_seed_picks_one_run, events_name_nodes, turns_end};
+
+/// What a script gives its nodes is a set-up, of which runs can be spoken.
+pub fn scripts_set_nodes_up()
+    ensures { (s : Content) → IsContent s → IsStart s.opening → IsSetup (setup_of s) }
+{
+    asks_are_in_range();
+}
+
+/// The turns of a seed end in a run of the script, planned by its faults, or else give a node the last tick, and never do
+/// both. The run is what the turns did, by place, and keeps the nodes in which they ended. There is no other run of that seed,
+/// and no other report.
+pub fn a_seed_picks_one_run_of_a_script()
+    ensures planned { (s : Content) (seed last : ℕ) → IsContent s → IsStart s.opening → last ≤ 2 ^ 40 → (events : List Happening) →
+        IsPicked (setup_of s) s.plan seed last events → IsRunOf s seed last events }
+    ensures either { (s : Content) (seed last : ℕ) → IsContent s → IsStart s.opening → 1 ≤ last → last ≤ 2 ^ 40 →
+        ((events : List Happening) × IsRunOf s seed last events) ⊎ ((node : ℕ) × ComesToTick s seed last node) }
+    ensures ends { (s : Content) (seed last : ℕ) → IsContent s → IsStart s.opening → last ≤ 2 ^ 40 → (w : World) →
+        EndsIn (setup_of s) s.plan seed last w → (run : IsRunOf s seed last (by_place w.done)) × (run.picked.world ≡ w) }
+    ensures not_both { (s : Content) (seed last node : ℕ) (events : List Happening) → IsRunOf s seed last events → ComesToTick s seed last node → ⊥ }
+    ensures one { (s : Content) (seed last : ℕ) (events others : List Happening) → IsRunOf s seed last events → IsRunOf s seed last others → events ≡ others }
+    ensures report { (s : Content) (seed last : ℕ) (events others : List Happening) (run : IsRunOf s seed last events) (other : IsRunOf s seed last others) →
+        report_of s run ≡ report_of s other }
+{
+    scripts_set_nodes_up();
+    a_seed_picks_one_run();
+    turns_end();
+}
+
+/// Each event of a script's run names nodes of the script alone.
+pub fn runs_of_scripts_name_their_nodes()
+    ensures { (s : Content) (seed last : ℕ) → IsContent s → IsStart s.opening → last ≤ 2 ^ 40 → (events : List Happening) →
+        IsRunOf s seed last events → All (NamesNodes (length s.nodes)) events }
+{
+    scripts_set_nodes_up();
+    events_name_nodes();
+}
+
+/// By place, each process's entries in the history of a script's run have exactly the replies that its program heard, in
+/// order; and their operations are those that the script's process asked each time, each once and in its phase.
+pub fn entries_are_what_scripts_heard()
+    ensures replies { (s : Content) (seed last : ℕ) → IsContent s → IsStart s.opening → last ≤ 2 ^ 40 → (events : List Happening) →
+        (run : IsRunOf s seed last events) → AreRepliesHeard s events run.picked.world }
+    ensures asked { (s : Content) (seed last : ℕ) → IsContent s → IsStart s.opening → last ≤ 2 ^ 40 → (events : List Happening) →
+        (run : IsRunOf s seed last events) → AreAskedHeard s events run.picked.world }
+{
+    scripts_set_nodes_up();
+    a_seed_picks_one_run();
+    entries_are_what_programs_heard();
+}
+
+/// The history of a script's run follows the script: each process did what the script gives it to do, each once and in order.
+pub fn histories_follow_scripts()
+    ensures { (s : Content) (seed last : ℕ) → IsContent s → IsStart s.opening → last ≤ 2 ^ 40 → (events : List Happening) →
+        IsRunOf s seed last events → Follows (ask s) (script_history s events) }
+{
+    scripts_set_nodes_up();
+    a_seed_picks_one_run();
+    histories_follow_programs();
+}
