@@ -19,7 +19,10 @@ use aegis_shell::Shell;
 use aegis_shell::laws::shells_go_by_all_they_heard;
 use dom_history::EventList;
 use script_reader::Script;
-use script_runs::laws::{a_seed_picks_one_run_of_a_script, entries_are_what_scripts_heard, runs_of_scripts_name_their_nodes};
+use script_runs::laws::{
+    a_seed_picks_one_run_of_a_script, entries_are_what_scripts_heard,
+    runs_of_scripts_name_their_nodes,
+};
 use std::alloc::Global;
 use uid_names::{ByteList, ItemList, NoMemory, ProcId};
 use world_core::{RunFault, World};
