@@ -1,6 +1,6 @@
-pub mod ProcsWith
-pub mod SettingUp
 pub mod WrittenLines
 pub mod Sourced
 pub mod Due
 pub mod PlanRows
+pub mod FirstNodes
+pub mod RanNodes

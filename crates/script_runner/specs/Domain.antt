@@ -8,8 +8,10 @@ use Rattle.script_reader.specs.Causes.{cause_text}
 use Rattle.script_reader.specs.Scripts.{Content}
 use Rattle.script_reader.specs.Grammar.{IsScript, IsBad}
 use Rattle.script_runner.specs.Words.{AskFor}
-use Rattle.script_runner.specs.Runs.{IsRunOf, ComesToTick, last_tick}
-use Rattle.script_runner.specs.Reports.{report_of, journal_of}
+use Rattle.script_runs.specs.Runs.{IsRunOf, ComesToTick, last_tick}
+use Rattle.script_runs.specs.Reports.{report_of}
+use Rattle.script_runs.specs.Histories.{AreRepliesHeard}
+use Rattle.script_runner.specs.Reports.{journal_of}
 
 -- the exit statuses
 abbrev pub is_status : ℕ → Bool
@@ -32,12 +34,14 @@ pub record IsSourceOf (left : Option (List ℕ)) (script : Content) : Type 0 whe
   pub are_left : AreLeft left bytes
   pub form : IsScript bytes script
 
--- a run of the script of a source, the one that the seed picks
+-- a run of the script of a source, the one that the seed picks; by place, each process's entries have the replies that its
+-- program heard
 pub record RunOfSource (left : Option (List ℕ)) (seed : ℕ) : Type 0 where
   pub script : Content
   pub source : IsSourceOf left script
   pub events : List Happening
   pub run : IsRunOf script seed last_tick events
+  pub heard : AreRepliesHeard script events run.picked.world
 
 -- the turns of the seed give a node of the script of a source the last tick
 pub record LimitOfSource (left : Option (List ℕ)) (seed : ℕ) : Type 0 where

@@ -6,14 +6,17 @@ use Rattle.script_runner.specs.declared.domain.RunEnd.{RunEnd}
 use Rattle.script_runner.specs.declared.domain.RunEnd.TheVariants.{ReadFault, TickLimit, NoMemory}
 use Rattle.script_reader.specs.Scripts.{Content}
 use Rattle.dom_history.specs.Events.{Happening}
-use Rattle.script_runner.specs.Runs.{IsRunOf, ComesToTick, last_tick}
-use Rattle.script_runner.specs.Reports.{report_of, journal_of}
+use Rattle.script_runs.specs.Runs.{IsRunOf, ComesToTick, last_tick}
+use Rattle.script_runs.specs.Reports.{report_of}
+use Rattle.script_runs.specs.Histories.{AreRepliesHeard}
+use Rattle.script_runner.specs.Reports.{journal_of}
 use Rattle.script_runner.specs.Domain.{RunOfSource, report_in, journal_in, IsRefusalOfSource}
 
 -- the texts are the report and the journal of the run that the seed picks
 pub record AreTexts (s : Content) (seed : ℕ) (text lines : List ℕ) : Type 0 where
   pub events : List Happening
   pub run : IsRunOf s seed last_tick events
+  pub heard : AreRepliesHeard s events run.picked.world
   pub reported : text ≡ report_of s run
   pub written : lines ≡ journal_of s events
 

@@ -3,7 +3,7 @@ use Rattle.std.specs.Prelude.{ℕ}
 use Rattle.script_reader.specs.Scripts.{Content}
 use Rattle.world_core.specs.declared.run.RunFault.{RunFault}
 use Rattle.world_core.specs.declared.run.RunFault.TheVariants.{TickLimit, NoMemory}
-use Rattle.script_runner.specs.Runs.{ComesToTick}
+use Rattle.script_runs.specs.Runs.{ComesToTick}
 
 abbrev pub IsFaultOf : Content → ℕ → ℕ → RunFault → Type 0
 IsFaultOf s seed last (TickLimit node) = ComesToTick s seed last node

@@ -1,9 +1,7 @@
-pub mod Processes
-pub mod Setups
-pub mod Runs
 pub mod Reports
 pub mod Words
 pub mod Domain
 pub mod DueTexts
 pub mod Faults
 pub mod Answered
+pub mod Nodes

@@ -1,59 +1,27 @@
--- The report of a run of a script, and its journal.
-use Rattle.std.specs.Prelude.{ℕ, ◌+◌, ◌≡◌, List, [], ◌∷◌, ◌++◌, codes, decimal, map, reverse}
-use Rattle.uid_names.specs.Names.{ProcName}
+-- What comes of a script: the events of a run, and the answers of its processes.
+use Rattle.std.specs.Prelude.{ℕ, ◌≡◌, List, map, reverse}
 use Rattle.dom_history.specs.Events.{Happening}
-use Rattle.dom_history.specs.Follows.{Heard}
 use Rattle.script_reader.specs.Scripts.{Content}
-use Rattle.aegis_shell.specs.AnswerTexts.{node_name}
-use Rattle.aegis_shell.specs.Asking.{answers}
 use Rattle.journal_text.specs.Lines.{journal}
+use Rattle.script_runs.specs.Runs.{IsRunOf, heard_in}
+use Rattle.script_runs.specs.Reports.{ProcAnswers, names_of, rows_of}
+use Rattle.script_runs.specs.Histories.{AreRepliesHeard}
 use Rattle.script_runner.specs.declared.run.AnswerRow.{AnswerRow}
 use Rattle.script_runner.specs.declared.run.Ran.{Ran}
-use Rattle.script_runner.specs.Processes.{processes_of}
-use Rattle.script_runner.specs.Runs.{IsRunOf, heard_in}
 
--- a process by the name of its node
-abbrev pub process_text : List (List ℕ) → ProcName → List ℕ
-process_text names p = node_name names p.node ++ codes "." ++ decimal p.number
-
--- a line of the report: the process, the number of the command in its process, and its answer
-abbrev pub report_line : List ℕ → ℕ → List ℕ → List ℕ
-report_line process index answer = process ++ codes " " ++ decimal index ++ codes " " ++ answer ++ codes "\n"
-
--- the lines of a process's answers, from an index on
-abbrev pub report_lines : List ℕ → ℕ → List (List ℕ) → List ℕ
-report_lines process index [] = []
-report_lines process index (answer ∷ rest) = report_line process index answer ++ report_lines process (index + 1) rest
-
--- the lines of processes, one after another
-abbrev pub lines_of : List (List ℕ) → List AnswerRow → List ℕ
-lines_of names [] = []
-lines_of names (a ∷ rest) = report_lines (process_text names a.proc) 1 a.answers ++ lines_of names rest
-
--- the names of a script's nodes, by number
-abbrev pub names_of : Content → List (List ℕ)
-names_of s = map (λ n. n.name) s.nodes
-
--- the answers of each process, in order of node and number; each process has heard this
-abbrev pub rows_of : Content → (ProcName → Heard) → List AnswerRow
-rows_of s heard = map (λ p. record { proc = p; answers = answers s p (heard p) }) (processes_of s.commands)
-
--- a line for each command that was answered
-abbrev pub report : Content → (ProcName → Heard) → List ℕ
-report s heard = lines_of (names_of s) (rows_of s heard)
-
--- the report of a run: the answers over what each program heard in it
-abbrev pub report_of : (s : Content) {seed last : ℕ} {events : List Happening} → IsRunOf s seed last events → List ℕ
-report_of s run = report s (heard_in run.picked.world)
+-- the answers of a process, as a report has them
+abbrev pub answers_in : AnswerRow → ProcAnswers
+answers_in row = record { proc = row.proc; answers = row.answers }
 
 -- the journal of a run: a line for each event, by rising place
 abbrev pub journal_of : Content → List Happening → List ℕ
 journal_of s events = journal (names_of s) (reverse events)
 
 -- what came of a script: the events of the run that the seed picks, by rising place, and the answers over what each program
--- heard in it
+-- heard in it; by place, each process's entries have the replies that its program heard
 pub record IsRan (s : Content) (seed last : ℕ) (ran : Ran) : Type 0 where
   pub events : List Happening
   pub run : IsRunOf s seed last events
+  pub heard : AreRepliesHeard s events run.picked.world
   pub by_place : ran.events ≡ reverse events
-  pub answers : ran.answers ≡ rows_of s (heard_in run.picked.world)
+  pub answers : map answers_in ran.answers ≡ rows_of s (heard_in run.picked.world)

@@ -1,6 +1,6 @@
 //! The processes of a script.
 ghost use Rattle.std.specs.Prelude.{◌≡◌, ◌≤◌, ◌∷◌, ◌++◌, length, take, drop, MatchOption, IfOk, OnOk};
-ghost use Rattle.script_runner.specs.Processes.{procs_with, processes_of};
+ghost use Rattle.script_runs.specs.Processes.{procs_with, processes_of};
 
 use script_reader::CommandRow;
 use std::alloc::Global;

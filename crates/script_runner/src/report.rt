@@ -1,6 +1,7 @@
 //! How answers are written in a report.
 ghost use Rattle.std.specs.Prelude.{◌≡◌, ◌++◌, map, IfOk, OnOk};
-ghost use Rattle.script_runner.specs.Reports.{process_text, report_line, report_lines, lines_of};
+ghost use Rattle.script_runs.specs.Reports.{process_text, report_line, report_lines, lines_of};
+ghost use Rattle.script_runner.specs.Reports.{answers_in};
 ghost use Rattle.aegis_shell.specs.AnswerTexts.{node_name};
 
 use crate::run::AnswerRow;
@@ -56,7 +57,7 @@ pub(crate) fn report(
     nodes: &[NodeRow],
     rows: &[AnswerRow],
 ) -> Result<ByteList, NoMemory>
-    ensures { IfOk result (λ text. text ≡ lines_of (map (λ n. n.name) nodes.now) rows.now) }
+    ensures { IfOk result (λ text. text ≡ lines_of (map (λ n. n.name) nodes.now) (map answers_in rows.now)) }
 {
     let mut text = ByteList::new(alloc);
     for row in rows {

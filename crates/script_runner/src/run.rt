@@ -1,19 +1,28 @@
 //! Runs a script that was read.
 ghost use Rattle.std.specs.Prelude.{◌≡◌, ◌≤◌, ◌^◌, All, IsSome, map, IfOk, IfErr, option_copied};
-ghost use Rattle.aegis_shell.specs.Shells.{shell_answers};
+ghost use Rattle.aegis_shell.specs.Shells.{shell_answers, shell_wants, shell_after};
 ghost use Rattle.world_core.specs.Ended.{named};
+ghost use Rattle.world_core.specs.Stands.{IsRunOf};
+ghost use Rattle.script_runs.specs.Setups.{setup_of};
+ghost use Rattle.script_runner.specs.Nodes.{made_shell};
 ghost use Rattle.script_runner.specs.Answered.{row_in};
 ghost use Rattle.journal_text.specs.Lines.{Names};
 ghost use Rattle.script_runner.specs.Words.{seed_of};
-ghost use Rattle.script_runner.specs.Reports.{IsRan, names_of};
+ghost use Rattle.script_runs.specs.Reports.{names_of};
+ghost use Rattle.script_runner.specs.Reports.{IsRan, answers_in};
 ghost use Rattle.script_runner.specs.Faults.{IsFaultOf};
 
 use crate::nodes::nodes_of;
 use crate::plans::copy_of;
 use crate::processes::processes_in;
 use aegis_shell::Shell;
+use aegis_shell::laws::shells_go_by_all_they_heard;
 use dom_history::EventList;
 use script_reader::Script;
+use script_runs::laws::{
+    a_seed_picks_one_run_of_a_script, entries_are_what_scripts_heard,
+    runs_of_scripts_name_their_nodes,
+};
 use std::alloc::Global;
 use uid_names::{ByteList, ItemList, NoMemory, ProcId};
 use world_core::{RunFault, World};
@@ -65,7 +74,7 @@ fn answers(
     procs: &[ProcId],
 ) -> Result<AnswerRows, NoMemory>
     requires { All (λ p. IsSome (named shells.now p)) procs.now }
-    ensures { IfOk result (λ rows. rows ≡ map (row_in shells.now) procs.now) }
+    ensures { IfOk result (λ rows. map answers_in rows ≡ map (row_in shells.now) procs.now) }
 {
     let mut rows = AnswerRows::new(alloc);
     for proc in procs {
@@ -79,6 +88,24 @@ fn answers(
         })?;
     }
     Ok(rows)
+}
+
+/// The run of a script's nodes in the turns of a number: its events by rising place, and the shells as they are at its end.
+fn run_nodes(
+    alloc: Global,
+    script: &Script,
+    turns: u64,
+    last_tick: u64,
+) -> Result<(EventList, Vec<(ProcId, Shell)>), RunFault>
+    requires some { 1 ≤ last_tick }
+    requires few { last_tick ≤ 2 ^ 40 }
+    ensures run { IfOk result (λ r. IsRunOf shell_wants shell_after (made_shell script.now) (setup_of script.now) script.now.plan turns last_tick r.0 r.1.items) }
+    ensures limit { IfErr result (IsFaultOf script.now turns last_tick) }
+{
+    let nodes = nodes_of(alloc, script)?;
+    let plan = copy_of(alloc, script.plan())?;
+    let world = World::new(alloc, nodes, plan)?;
+    world.run_turns(alloc, turns, last_tick)
 }
 
 /// Runs a script on nodes, in the turns that a number picks, those of 0 where none is given. TickLimit is answered where
@@ -95,11 +122,14 @@ pub fn run_script(
     ensures ran { IfOk result (IsRan script.now (seed_of turns) last_tick) }
     ensures limit { IfErr result (IsFaultOf script.now (seed_of turns) last_tick) }
 {
-    let nodes = nodes_of(alloc, script)?;
-    let plan = copy_of(alloc, script.plan())?;
-    let world = World::new(alloc, nodes, plan)?;
-    let (events, shells) = world.run_turns(alloc, turns.unwrap_or(0), last_tick)?;
+    let (events, shells) = run_nodes(alloc, script, turns.unwrap_or(0), last_tick)?;
     let procs = processes_in(alloc, script.commands())?;
     let answers = answers(alloc, shells.as_slice(), procs.as_slice())?;
+    // So the run is planned and names its own nodes, and the shells were answered what its history says.
+    let _start = script.opening().nodes();
+    a_seed_picks_one_run_of_a_script();
+    runs_of_scripts_name_their_nodes();
+    entries_are_what_scripts_heard();
+    shells_go_by_all_they_heard();
     Ok(Ran { events, answers })
 }

@@ -2,8 +2,9 @@ use Rattle.std.proofs.Common.{◌≡◌, ◌∙◌, sym, ap, subst, map}
 use Rattle.std.specs.Prelude.{All}
 use Rattle.dom_history.specs.NodeTexts.{AreNodeNames}
 use Rattle.journal_text.specs.Lines.{Names, journal}
-use Rattle.script_runner.specs.Reports.{lines_of, names_of}
-use Rattle.script_runner.proofs.SettingUp.{node_names}
+use Rattle.script_runs.specs.Reports.{lines_of, names_of}
+use Rattle.script_runs.proofs.SettingUp.{node_names}
+use Rattle.script_runner.specs.Reports.{answers_in}
 use Rattle.script_runner.proofs.domain.run_due.Goals as goal
 
 pub names_of-requires : goal.names_of-requires
@@ -19,10 +20,11 @@ pub returns-clause-due : goal.returns-clause-due
 returns-clause-due c =
     let ran = c.in-Ok.ensures.ran in
     let names : c.in_ok-names.names ≡ names_of c.args.script.now = c.in_ok-names.ensures ∙ ap (λ rows. map (λ n. n.name) rows) c.nodes-2.ensures.value in
-    let rows = c.items.ensures ∙ ran.answers in
+    let rows = ap (map answers_in) c.items.ensures ∙ ran.answers in
     record {
       events = ran.events;
       run = ran.run;
-      reported = c.in_ok-text.ensures ∙ (ap (λ nodes. lines_of (map (λ n. n.name) nodes) c.items.result.now) c.nodes.ensures.value ∙ ap (lines_of (names_of c.args.script.now)) rows);
+      heard = ran.heard;
+      reported = c.in_ok-text.ensures ∙ (ap (λ nodes. lines_of (map (λ n. n.name) nodes) (map answers_in c.items.result.now)) c.nodes.ensures.value ∙ ap (lines_of (names_of c.args.script.now)) rows);
       written = c.in_ok-lines.ensures ∙ (ap (λ names. journal names c.in-Ok.ran.events) names ∙ ap (journal (names_of c.args.script.now)) ran.by_place);
     }

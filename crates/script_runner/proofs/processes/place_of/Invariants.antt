@@ -1,5 +1,5 @@
 use Rattle.std.proofs.Common.{◌≡◌, ◌++◌, take, drop}
-use Rattle.script_runner.specs.Processes.{procs_with}
+use Rattle.script_runs.specs.Processes.{procs_with}
 use Rattle.script_runner.proofs.processes.place_of.Given as goal
 
 abbrev pub invariant-loop-i : goal.invariant-loop-i

@@ -1,5 +1,5 @@
 use Rattle.std.proofs.Common.{◌≡◌, take}
-use Rattle.script_runner.specs.Processes.{processes_of}
+use Rattle.script_runs.specs.Processes.{processes_of}
 use Rattle.script_runner.proofs.processes.processes_in.Given as goal
 
 abbrev pub invariant-loop-row : goal.invariant-loop-row

@@ -1,5 +1,5 @@
 use Rattle.std.proofs.Common.{◌∙◌, ◌+◌, ap, ◌++◌}
-use Rattle.script_runner.specs.Reports.{report_line}
+use Rattle.script_runs.specs.Reports.{report_line}
 use Rattle.script_runner.proofs.WrittenLines.{put_line-more}
 use Rattle.script_runner.proofs.report.put_lines.Goals as goal
 

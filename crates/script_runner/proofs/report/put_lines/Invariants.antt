@@ -1,5 +1,5 @@
 use Rattle.std.proofs.Common.{◌≡◌, ◌++◌, take}
-use Rattle.script_runner.specs.Reports.{report_lines}
+use Rattle.script_runs.specs.Reports.{report_lines}
 use Rattle.script_runner.proofs.report.put_lines.Given as goal
 
 abbrev pub invariant-loop-i : goal.invariant-loop-i

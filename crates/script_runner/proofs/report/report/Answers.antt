@@ -1,5 +1,5 @@
 use Rattle.std.proofs.Common.{◌∙◌, ap, ◌++◌, map}
-use Rattle.script_runner.specs.Reports.{report_lines, process_text}
+use Rattle.script_runs.specs.Reports.{report_lines, process_text}
 use Rattle.script_runner.proofs.WrittenLines.{put_lines-more}
 use Rattle.script_runner.proofs.report.report.Goals as goal
 
