@@ -36,7 +36,7 @@ use Rattle.script_runs.specs.Processes.{processes_of}
 use Rattle.script_runs.specs.Setups.{setup_of}
 use Rattle.script_runs.specs.Runs.{IsRunOf, heard_in}
 use Rattle.script_runs.specs.Reports.{names_of, rows_of}
-use Rattle.script_runs.specs.Histories.{AreRepliesHeard}
+use Rattle.script_runs.specs.Histories.{FollowsScript, KeepsPhasesApart, AreRepliesHeard}
 use Rattle.script_runs.proofs.ProcsWith.{processes_of-All}
 use Rattle.script_runner.specs.declared.run.AnswerRow.{AnswerRow}
 use Rattle.script_runner.specs.Answered.{answers_by, row_in}
@@ -149,6 +149,9 @@ ArePlanned = (s : Content) (seed last : ℕ) → IsContent s → IsStart s.openi
 abbrev pub NameTheirNodes : Type 0
 NameTheirNodes = (s : Content) (seed last : ℕ) → IsContent s → IsStart s.opening → last ≤ 2 ^ 40 → (events : List Happening) → IsRunOf s seed last events → All (NamesNodes (length s.nodes)) events
 
+abbrev pub HaveHistories : (Content → List Happening → Type 0) → Type 0
+HaveHistories Has = (s : Content) (seed last : ℕ) → IsContent s → IsStart s.opening → last ≤ 2 ^ 40 → (events : List Happening) → IsRunOf s seed last events → Has s events
+
 abbrev pub HaveRepliesHeard : Type 0
 HaveRepliesHeard = (s : Content) (seed last : ℕ) → IsContent s → IsStart s.opening → last ≤ 2 ^ 40 → (events : List Happening) (run : IsRunOf s seed last events) → AreRepliesHeard s events run.picked.world
 
@@ -160,11 +163,13 @@ module _ (s : Content) (content : IsContent s) (start : IsStart s.opening) (seed
   }
 
   -- what came of the script
-  pub ran_is : HaveRepliesHeard → ((p : ProcName) (heard : Heard) → shell_answers (program_after shell_after (shell_of s p) heard) ≡ answers s p heard)
+  pub ran_is : HaveHistories FollowsScript → HaveHistories KeepsPhasesApart → HaveRepliesHeard → ((p : ProcName) (heard : Heard) → shell_answers (program_after shell_after (shell_of s p) heard) ≡ answers s p heard)
       → (procs : List ProcName) → procs ≡ processes_of s.commands → (rows : List AnswerRow) → map answers_in rows ≡ map (row_in programs) procs → IsRan s seed last (record { events = events; answers = rows })
-  ran_is heard answered procs are rows same = record {
+  ran_is follows phased heard answered procs are rows same = record {
     events = by_place ended.world.done;
     run = run_of;
+    follows = follows s seed last content start most (by_place ended.world.done) run_of;
+    phased = phased s seed last content start most (by_place ended.world.done) run_of;
     heard = heard s seed last content start most (by_place ended.world.done) run_of;
     by_place = ended.events_are;
     answers = same ∙ rows_are s content seed last events programs ended answered procs are;

@@ -162,7 +162,8 @@ pub fn run_domain<S: Source, O: Sink, J: Sink>(
     ensures statuses { IsTrue (is_status result) }
 
     // The headline: what is written is the report and the journal of one run of the script's nodes, which is planned by its
-    // faults and which the turns of the words pick.
+    // faults and which the turns of the words pick. The history of the run follows the script's processes, each operation once
+    // and in order, and its phases never overlap.
     ensures run { result ≡ 0 → AddsRun (map string_bytes words.now) (S.left script.old)
         (record { before = O.held out.old; after = O.held out.new }) (record { before = J.held journal.old; after = J.held journal.new }) }
 

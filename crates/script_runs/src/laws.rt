@@ -2,8 +2,7 @@
 ghost use Rattle.std.specs.Prelude.{◌≡◌, ◌⊎◌, ℕ, ◌^◌, ◌≤◌, List, length, All};
 ghost use Rattle.uid_names.specs.Openings.{IsStart};
 ghost use Rattle.dom_history.specs.Events.{Happening};
-ghost use Rattle.dom_history.specs.Follows.{Follows, IsEnded, IsPhased};
-ghost use Rattle.dom_history.specs.Histories.{entries};
+ghost use Rattle.dom_history.specs.Follows.{IsEnded};
 ghost use Rattle.script_reader.specs.Scripts.{Content, IsContent};
 ghost use Rattle.aegis_shell.specs.Asking.{ask};
 ghost use Rattle.node_runs.specs.Setups.{IsSetup};
@@ -16,7 +15,7 @@ ghost use Rattle.run_phases.specs.Paced.{ArePaced};
 ghost use Rattle.script_runs.specs.Setups.{setup_of};
 ghost use Rattle.script_runs.specs.Runs.{IsRunOf, ComesToTick};
 ghost use Rattle.script_runs.specs.Reports.{report_of};
-ghost use Rattle.script_runs.specs.Histories.{script_history, AreRepliesHeard, AreAskedHeard};
+ghost use Rattle.script_runs.specs.Histories.{script_history, FollowsScript, KeepsPhasesApart, AreRepliesHeard, AreAskedHeard};
 
 use aegis_shell::laws::{asks_are_in_range, shells_go_by_all_they_heard};
 use run_calls::laws::{entries_are_what_programs_heard, histories_follow_programs};
@@ -75,7 +74,7 @@ pub fn entries_are_what_scripts_heard()
 /// The history of a script's run follows the script: each process did what the script gives it to do, each once and in order.
 pub fn histories_follow_scripts()
     ensures { (s : Content) (seed last : ℕ) → IsContent s → IsStart s.opening → last ≤ 2 ^ 40 → (events : List Happening) →
-        IsRunOf s seed last events → Follows (ask s) (script_history s events) }
+        IsRunOf s seed last events → FollowsScript s events }
 {
     scripts_set_nodes_up();
     a_seed_picks_one_run();
@@ -92,7 +91,7 @@ pub fn scripts_are_paced()
 /// In the history of a script's run no entry stands before one of a smaller phase, over all processes.
 pub fn histories_are_phased()
     ensures { (s : Content) (seed last : ℕ) → IsContent s → IsStart s.opening → last ≤ 2 ^ 40 → (events : List Happening) →
-        IsRunOf s seed last events → IsPhased (entries (script_history s events).items) }
+        IsRunOf s seed last events → KeepsPhasesApart s events }
 {
     scripts_set_nodes_up();
     a_seed_picks_one_run();
