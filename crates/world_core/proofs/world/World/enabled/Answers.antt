@@ -1,0 +1,16 @@
+use Rattle.std.proofs.Common.{◌+◌, ◌<◌, List, length, get_or, ◌≡◌, subst, arith}
+use Rattle.std.specs.Prelude.{sum}
+use Rattle.world_core.specs.Places.{enabled_counts}
+use Rattle.world_core.proofs.Counting.{counts-few}
+use Rattle.world_core.proofs.Finding.{counts_step, part_low}
+use Rattle.world_core.proofs.world.World.enabled.Goals as goal
+
+pub overflow_add-count : goal.overflow_add-count
+overflow_add-count g c =
+    let all = c.args.self.now.stations.items in
+    let i = c.loop-station.station-index in
+    let y = c.station-item.result in
+    let same = c.deref-station-items.ensures.value in
+    let step = counts_step all i y (subst (λ ys. i < length ys) same c.loop-station-test.true) (subst (λ ys. y ≡ get_or ys i y) same c.station-item.is) in
+    let low = part_low (enabled_counts all) (i + 1) in
+    omega (arith, step, low, c.requires, c.loop-station.invariant, c.len-count.ensures)

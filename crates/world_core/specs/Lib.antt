@@ -1,0 +1,9 @@
+pub mod Stations
+pub mod Listed
+pub mod Stands
+pub mod Ended
+pub mod Firsts
+pub mod Places
+pub mod Sending
+pub mod SentMarks
+pub mod Reached

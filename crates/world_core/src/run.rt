@@ -1,0 +1,149 @@
+//! Whole runs, by the draws of a seed.
+ghost use Rattle.std.specs.Prelude.{◌≡◌, ◌<◌, ◌≤◌, ◌^◌, ◌++◌, ◌∷◌, [], ℕ, Option, IfSome, IfOk, OnOk, IfErr, IsErrOf, All, map, length, slice_get};
+ghost use Rattle.uid_names.specs.Names.{ProcName, IsProcNumber};
+ghost use Rattle.node_runs.specs.Setups.{Setup};
+ghost use Rattle.node_runs.specs.Runs.{first_world};
+ghost use Rattle.world_runs.specs.Draws.{ComesToLast};
+ghost use Rattle.ring_links.specs.Merged.{AreLogs, AreMerged};
+ghost use Rattle.node_core.specs.Nodes.{state_of};
+ghost use Rattle.world_core.specs.Ended.{named, with_name, own_of, or_else, program_at, AreNumbered};
+ghost use Rattle.world_core.specs.declared.run.RunFault.TheVariants as faults;
+
+use crate::world::World;
+use dom_history::{EventList, NodeLog, Program};
+use node_core::Node;
+use page_store::Pages;
+use ring_links::{Draws, by_place};
+use std::alloc::Global;
+use thiserror::Error;
+use uid_names::{NoMemory, NodeId, ProcId};
+
+/// Why a run has no end.
+#[derive(Clone, Copy, Debug, PartialEq, Eq, Error)]
+pub enum RunFault {
+    /// An event gave this node the last tick.
+    #[error("node {0:?} came to the last tick")]
+    TickLimit(NodeId),
+    #[error("no memory")]
+    NoMemory,
+}
+
+impl From<NoMemory> for RunFault {
+    ghost use Rattle.std.specs.Prelude.{◌≡◌};
+    ghost use Rattle.world_core.specs.declared.run.RunFault.TheVariants.{NoMemory as OutOfMemory};
+
+    ghost from_gives = { λ _ e. e ≡ OutOfMemory };
+
+    fn from(_error: NoMemory) -> RunFault {
+        RunFault::NoMemory
+    }
+}
+
+/// Puts a program last, under the name of its process.
+fn put_program<P: Program>(
+    programs: &mut Vec<(ProcId, P)>,
+    node: NodeId,
+    own: (u8, P),
+) -> Result<(), NoMemory>
+    requires { IsProcNumber own.0 }
+    ensures { OnOk result (programs.new.items ≡ programs.old.items ++ with_name node own ∷ []) }
+{
+    let (number, program) = own;
+    match ProcId::new(node, number) {
+        Some(proc) => programs.push((proc, program))?,
+        None => unreachable!(),
+    }
+    Ok(())
+}
+
+/// Puts the programs of a node last.
+fn put_programs<P: Program>(
+    programs: &mut Vec<(ProcId, P)>,
+    node: NodeId,
+    own: Vec<(u8, P)>,
+) -> Result<(), NoMemory>
+    requires { All (λ e. IsProcNumber e.0) own.items }
+    ensures { OnOk result (programs.new.items ≡ programs.old.items ++ map (with_name node) own.items) }
+{
+    for program in own {
+        put_program(programs, node, program)?;
+    }
+    Ok(())
+}
+
+/// Takes a node's log and its programs apart.
+fn take_apart<P: Program, G: Pages>(
+    node: Node<P, G>,
+    logs: &mut Vec<NodeLog>,
+    programs: &mut Vec<(ProcId, P)>,
+) -> Result<(), NoMemory>
+    requires { AreNumbered node }
+    ensures log { OnOk result (logs.new.items ≡ logs.old.items ++ node.log ∷ []) }
+    ensures programs { OnOk result ((p : ProcName) → named programs.new.items p ≡ or_else (named programs.old.items p) (own_of node p)) }
+{
+    let (log, own) = node.into_parts();
+    put_programs(programs, log.node, own)?;
+    logs.push(log)?;
+    Ok(())
+}
+
+impl<P: Program, G: Pages> World<P, G> {
+    ghost use Rattle.world_core.specs.Stands.{Stands, IsRunOf};
+
+    /// Turns by the draws of a seed, until no event is enabled: all events by rising place, and the programs as they are
+    /// then, by node and number. TickLimit is answered where an event gave that node the tick `last_tick`.
+    pub fn run_turns(
+        self,
+        alloc: Global,
+        seed: u64,
+        last_tick: u64,
+    ) -> Result<(EventList, Vec<(ProcId, P)>), RunFault>
+        requires stands { (made : ℕ → ℕ → Option P) × (s : Setup) × Stands P.wants P.becomes made s self (first_world s) }
+        requires least { 1 ≤ last_tick }
+        requires greatest { last_tick ≤ 2 ^ 40 }
+        ensures run { IfOk result (λ r. (made : ℕ → ℕ → Option P) (s : Setup) → Stands P.wants P.becomes made s self (first_world s) →
+            IsRunOf P.wants P.becomes made s self.plan seed last_tick r.0 r.1.items) }
+        ensures limit { (n : ℕ) → IsErrOf result (faults.TickLimit n) → (made : ℕ → ℕ → Option P) (s : Setup) →
+            Stands P.wants P.becomes made s self (first_world s) → ComesToLast s self.plan seed last_tick n }
+    {
+        let mut world = self;
+        let mut draws = Draws::new(seed);
+        for turn in 0..u64::MAX {
+            match world.take_turn(alloc, draws.draw())? {
+                Some(at) => world.look_at(at, last_tick)?,
+                None => return Ok(world.end(alloc)?),
+            }
+        }
+        unreachable!()
+    }
+
+    /// The fault where the node at this place came to the last tick.
+    fn look_at(&self, at: usize, last_tick: u64) -> Result<(), RunFault>
+        requires { at < length self.now.stations.items }
+        ensures below { OnOk result (IfSome (slice_get self.now.stations.items at) (λ y. (state_of y.node).tick < last_tick)) }
+        ensures limit { IfErr result (λ fault. IfSome (slice_get self.now.stations.items at)
+            (λ y. (fault ≡ faults.TickLimit y.node.log.node) × (last_tick ≤ (state_of y.node).tick))) }
+    {
+        let node = &self.stations[at].node;
+        if node.tick() < last_tick {
+            Ok(())
+        } else {
+            Err(RunFault::TickLimit(node.log().node))
+        }
+    }
+
+    /// All events by rising place, and the programs.
+    fn end(self, alloc: Global) -> Result<(EventList, Vec<(ProcId, P)>), NoMemory>
+        requires logs { AreLogs (map (λ y. y.node.log) self.stations.items) }
+        requires numbers { All (λ y. AreNumbered y.node) self.stations.items }
+        ensures events { IfOk result (λ r. AreMerged (map (λ y. y.node.log) self.stations.items) r.0) }
+        ensures programs { IfOk result (λ r. (p : ProcName) → named r.1.items p ≡ program_at (map (λ y. y.node) self.stations.items) p) }
+    {
+        let mut logs = Vec::new(alloc);
+        let mut programs = Vec::new(alloc);
+        for station in self.stations {
+            take_apart(station.node, &mut logs, &mut programs)?;
+        }
+        Ok((by_place(alloc, logs.as_slice())?, programs))
+    }
+}

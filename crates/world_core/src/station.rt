@@ -1,0 +1,370 @@
+//! A node with all that may come to it.
+ghost use Rattle.std.specs.Prelude.{◌≡◌, ◌≤◌, ◌++◌, ◌∷◌, [], ℕ, true, false, map, OnOk, IfOk, length, slice_get};
+ghost use Rattle.dom_history.specs.declared.event.What.TheVariants as events;
+ghost use Rattle.fault_handler.specs.Desks.{procs};
+ghost use Rattle.std.specs.List.{flat_map};
+ghost use Rattle.std.specs.Option.{option_copied};
+ghost use Rattle.node_core.specs.Receivings.{seen};
+ghost use Rattle.node_core.specs.Nodes.{state_of};
+ghost use Rattle.world_core.specs.Firsts.{first_links};
+ghost use Rattle.world_core.specs.Stations.{comings, candidates, start, starts_of, notice_at, noticed, oldest, oldest_of, what_of, is_open_notice, open_ones};
+
+use crate::coming::{Coming, Source};
+use crate::notices::Notice;
+use crate::sending::put;
+use dom_history::{Fate, Program, What};
+use node_core::{Emitted, Incoming, Node};
+use page_store::Pages;
+use ring_links::{Link, Waiting};
+use ring_messages::Frame;
+use std::alloc::Global;
+use std::mem::replace;
+use uid_names::{NoMemory, NodeId};
+
+/// A link to a node, with the node that it leads from.
+#[derive(Drop)]
+pub struct LinkFrom {
+    pub from: NodeId,
+    pub link: Link<Incoming>,
+}
+
+/// The event that takes what waits on a link from a node.
+fn taking(from: NodeId, waiting: Waiting) -> What
+    ensures { result ≡ what_of from waiting }
+{
+    match waiting {
+        Waiting::Copy(index) => What::Take(from, index),
+        Waiting::Mark(phase) => What::Mark(from, phase),
+    }
+}
+
+/// Puts an event last, if it is enabled.
+fn put_enabled<P: Program, G: Pages>(
+    node: &Node<P, G>,
+    list: &mut Vec<Coming>,
+    coming: Coming,
+    incoming: &Incoming,
+) -> Result<(), NoMemory>
+    ensures { OnOk result (list.new.items ≡ list.old.items ++ comings node.now (record { coming = coming; incoming = seen incoming.now } ∷ [])) }
+{
+    if node.enabled(&coming.what, incoming) {
+        list.push(coming)?;
+    }
+    Ok(())
+}
+
+/// The same of an event that receives nothing.
+fn put_start<P: Program, G: Pages>(
+    node: &Node<P, G>,
+    list: &mut Vec<Coming>,
+    what: What,
+) -> Result<(), NoMemory>
+    ensures { OnOk result (list.new.items ≡ list.old.items ++ comings node.now (start what ∷ [])) }
+{
+    let source = Source::Nothing;
+    put_enabled(node, list, Coming { what, source }, &Incoming::Nothing)
+}
+
+/// The events of a process.
+#[tactic(auto, using(crate::proofs::Comings::comings_cons))]
+fn put_process<P: Program, G: Pages>(
+    node: &Node<P, G>,
+    list: &mut Vec<Coming>,
+    p: u8,
+) -> Result<(), NoMemory>
+    ensures { OnOk result (list.new.items ≡ list.old.items ++ comings node.now (starts_of p)) }
+{
+    put_start(node, list, What::Begin(p))?;
+    put_start(node, list, What::Go(p))
+}
+
+/// The events of all processes.
+fn put_starts<P: Program, G: Pages>(
+    node: &Node<P, G>,
+    list: &mut Vec<Coming>,
+) -> Result<(), NoMemory>
+    ensures { OnOk result (list.new.items ≡ list.old.items ++ comings node.now (flat_map starts_of procs)) }
+{
+    put_process(node, list, 1)?;
+    put_process(node, list, 2)?;
+    put_process(node, list, 3)?;
+    put_process(node, list, 4)
+}
+
+/// The notice at a place.
+fn find(notices: &[Notice], at: usize) -> Option<&Notice>
+    ensures { option_copied result ≡ slice_get notices.now at }
+{
+    notices.get(at)
+}
+
+/// Whether the call of a notice is open.
+fn is_open<P: Program, G: Pages>(node: &Node<P, G>, notice: &Notice) -> bool
+    ensures { result ≡ is_open_notice node.now notice.now }
+{
+    node.enabled(&notice.what(), &notice.incoming())
+}
+
+/// A notice, which is the one at this place.
+fn put_notice<P: Program, G: Pages>(
+    node: &Node<P, G>,
+    list: &mut Vec<Coming>,
+    i: usize,
+    notice: &Notice,
+) -> Result<(), NoMemory>
+    ensures { OnOk result (list.new.items ≡ list.old.items ++ comings node.now (notice_at i notice.now ∷ [])) }
+{
+    let (what, source) = (notice.what(), Source::Notice(i));
+    put_enabled(node, list, Coming { what, source }, &notice.incoming())
+}
+
+/// Notices.
+fn put_notices<P: Program, G: Pages>(
+    node: &Node<P, G>,
+    list: &mut Vec<Coming>,
+    notices: &[Notice],
+) -> Result<(), NoMemory>
+    ensures { OnOk result (list.new.items ≡ list.old.items ++ comings node.now (noticed 0 notices.now)) }
+{
+    for (i, notice) in notices.iter().enumerate() {
+        put_notice(node, list, i, notice)?;
+    }
+    Ok(())
+}
+
+/// The oldest entry of a link, which is the one at this place.
+fn put_oldest<P: Program, G: Pages>(
+    node: &Node<P, G>,
+    list: &mut Vec<Coming>,
+    i: usize,
+    link: &LinkFrom,
+) -> Result<(), NoMemory>
+    ensures { OnOk result (list.new.items ≡ list.old.items ++ comings node.now (oldest_of i link.now.from link.now.link.queue)) }
+{
+    match link.link.oldest() {
+        Some(entry) => {
+            let (what, source) = (taking(link.from, entry.waiting), Source::Link(i));
+            put_enabled(node, list, Coming { what, source }, &entry.received)
+        }
+        None => Ok(()),
+    }
+}
+
+/// The oldest entries of links.
+fn put_links<P: Program, G: Pages>(
+    node: &Node<P, G>,
+    list: &mut Vec<Coming>,
+    ins: &[LinkFrom],
+) -> Result<(), NoMemory>
+    ensures { OnOk result (list.new.items ≡ list.old.items ++ comings node.now (oldest 0 ins.now)) }
+{
+    for (i, link) in ins.iter().enumerate() {
+        put_oldest(node, list, i, link)?;
+    }
+    Ok(())
+}
+
+/// A node, the notices that may come to it, the links that lead to it by the number of the sending node, and the events
+/// that are enabled there.
+#[derive(Drop)]
+pub struct Station<P: Program, G: Pages> {
+    pub node: Node<P, G>,
+    pub notices: Vec<Notice>,
+    pub ins: Vec<LinkFrom>,
+    pub enabled: Vec<Coming>,
+}
+
+impl<P: Program, G: Pages> Station<P, G> {
+    ghost use Rattle.std.specs.Prelude.{◌<◌, ◌^◌, Option, Some, IfSome, IsSomeAnd, remove};
+    ghost use Rattle.node_runs.specs.Incomings.{tick_of};
+    ghost use Rattle.node_runs.specs.SentFrames.{IsIncoming};
+    ghost use Rattle.node_runs.specs.Incomings.Incoming.{Nothing};
+    ghost use Rattle.node_core.specs.Nodes.{is_enabled};
+    ghost use Rattle.world_core.specs.Stations.{notice_what, notice_incoming};
+    ghost use Rattle.world_core.specs.Sending.{told, still, delivered, marked};
+    ghost use Rattle.world_core.specs.Listed.{IsListed, IsKept, AreEarly, event_at, Does, IsDone, less_at};
+
+    /// Notices whose call is open no more go.
+    fn keep_open(&mut self, alloc: Global) -> Result<(), NoMemory>
+        ensures notices { OnOk result (self.new.notices.items ≡ open_ones self.old.node self.old.notices.items) }
+        ensures others { IsKept self.old self.new }
+    {
+        if self.notices.is_empty() {
+            return Ok(());
+        }
+        let notices = replace(&mut self.notices, Vec::new(alloc));
+        for notice in notices {
+            if is_open(&self.node, &notice) {
+                self.notices.push(notice)?;
+            }
+        }
+        Ok(())
+    }
+
+    /// Lists the enabled events anew, and drops the notices whose call is open no more.
+    pub(crate) fn relist(&mut self, alloc: Global) -> Result<(), NoMemory>
+        ensures notices { OnOk result (self.new.notices.items ≡ open_ones self.old.node self.old.notices.items) }
+        ensures enabled { OnOk result (IsListed self.new) }
+        ensures others { OnOk result (IsKept self.old self.new) }
+    {
+        self.keep_open(alloc)?;
+        self.enabled.clear();
+        put_starts(&self.node, &mut self.enabled)?;
+        put_notices(&self.node, &mut self.enabled, self.notices.as_slice())?;
+        put_links(&self.node, &mut self.enabled, self.ins.as_slice())?;
+        put_start(
+            &self.node,
+            &mut self.enabled,
+            What::Ready(self.node.phase()),
+        )
+    }
+    /// A notice comes. The events are listed anew, unless the event that sends the frame is the node's own.
+    pub(crate) fn tell(&mut self, alloc: Global, notice: Notice, own: bool) -> Result<(), NoMemory>
+        ensures node { OnOk result (self.new.node ≡ self.old.node) }
+        ensures ins { OnOk result (self.new.ins ≡ self.old.ins) }
+        ensures notices { OnOk result (self.new.notices.items ≡ told own self.old.node self.old.notices.items notice) }
+        ensures listed { OnOk result (own ≡ false → IsListed self.new) }
+    {
+        self.notices.push(notice)?;
+        if own { Ok(()) } else { self.relist(alloc) }
+    }
+
+    /// A frame of this fate comes to the link from the node at a place. The events are listed anew, unless the event that
+    /// sends it is the node's own.
+    pub(crate) fn deliver(
+        &mut self,
+        alloc: Global,
+        at: usize,
+        fate: Fate,
+        frame: Frame,
+        own: bool,
+    ) -> Result<(), NoMemory>
+        requires within { at < length self.old.ins.items }
+        requires few { IfSome (slice_get self.old.ins.items at) (λ l. l.link.frames < 2 ^ 63) }
+        ensures node { OnOk result (self.new.node ≡ self.old.node) }
+        ensures ins { OnOk result (self.new.ins.items ≡ delivered at fate frame self.old.ins.items) }
+        ensures notices { OnOk result (self.new.notices.items ≡ still own self.old.node self.old.notices.items) }
+        ensures listed { OnOk result (own ≡ false → IsListed self.new) }
+    {
+        put(alloc, &mut self.ins[at].link, fate, frame)?;
+        if own { Ok(()) } else { self.relist(alloc) }
+    }
+
+    /// A mark comes to the link from the node at a place. The events are listed anew.
+    pub(crate) fn take_in(
+        &mut self,
+        alloc: Global,
+        at: usize,
+        phase: u32,
+        tick: u64,
+    ) -> Result<(), NoMemory>
+        requires within { at < length self.old.ins.items }
+        ensures node { OnOk result (self.new.node ≡ self.old.node) }
+        ensures ins { OnOk result (self.new.ins.items ≡ marked at phase tick self.old.ins.items) }
+        ensures notices { OnOk result (self.new.notices.items ≡ still false self.old.node self.old.notices.items) }
+        ensures listed { OnOk result (IsListed self.new) }
+    {
+        self.ins[at].link.mark(phase, Incoming::Mark { tick })?;
+        self.relist(alloc)
+    }
+
+    /// Does the enabled event at a place. Without memory the node is spent.
+    pub(crate) fn happen(&mut self, alloc: Global, place: usize) -> Result<Emitted, NoMemory>
+        requires listed { IsListed self.old }
+        requires within { place < length self.old.enabled.items }
+        requires tick { (state_of self.old.node).tick < 2 ^ 40 }
+        requires early { AreEarly (2 ^ 40) self.old }
+        ensures { IfOk result (λ emitted. IfSome (event_at self.old place) (λ c. IsDone P.wants P.becomes c emitted self.old self.new)) }
+    {
+        let coming = self.enabled[place];
+        match coming.source {
+            Source::Nothing => self.begin(alloc, coming.what),
+            Source::Notice(at) => self.hear(alloc, coming.what, at),
+            Source::Link(at) => self.take(alloc, coming.what, at),
+        }
+    }
+
+    /// An event that receives nothing is done.
+    fn begin(&mut self, alloc: Global, what: What) -> Result<Emitted, NoMemory>
+        requires tick { (state_of self.old.node).tick < 2 ^ 40 }
+        requires enabled { is_enabled self.old.node what Nothing ≡ true }
+        ensures does { IfOk result (λ emitted. Does P.wants P.becomes what Nothing self.old.node self.new.node emitted) }
+        ensures notices { self.new.notices ≡ self.old.notices }
+        ensures ins { self.new.ins ≡ self.old.ins }
+    {
+        self.node.step(alloc, what, &Incoming::Nothing)
+    }
+
+    /// The notice at a place is taken.
+    fn hear(&mut self, alloc: Global, what: What, at: usize) -> Result<Emitted, NoMemory>
+        requires within { at < length self.old.notices.items }
+        requires tick { (state_of self.old.node).tick < 2 ^ 40 }
+        requires notice { IfSome (slice_get self.old.notices.items at) (λ x. (is_enabled self.old.node what (notice_incoming x) ≡ true) × (x.tick < 2 ^ 40)) }
+        ensures does { IfOk result (λ emitted. IfSome (slice_get self.old.notices.items at) (λ x. Does P.wants P.becomes what (notice_incoming x) self.old.node self.new.node emitted)) }
+        ensures notices { OnOk result (self.new.notices.items ≡ remove self.old.notices.items at) }
+        ensures ins { self.new.ins ≡ self.old.ins }
+    {
+        let emitted = match find(self.notices.as_slice(), at) {
+            Some(notice) => self.node.step(alloc, what, &notice.incoming())?,
+            None => unreachable!(),
+        };
+        self.notices.remove(at);
+        Ok(emitted)
+    }
+
+    /// The oldest entry of the link at a place is taken.
+    fn take(&mut self, alloc: Global, what: What, at: usize) -> Result<Emitted, NoMemory>
+        requires within { at < length self.old.ins.items }
+        requires tick { (state_of self.old.node).tick < 2 ^ 40 }
+        requires entry { IfSome (slice_get self.old.ins.items at) (λ l. IsSomeAnd (slice_get l.link.queue 0) (λ e. (is_enabled self.old.node what (seen e.received) ≡ true) × (tick_of (seen e.received) < 2 ^ 40) × IsIncoming (seen e.received))) }
+        ensures does { IfOk result (λ emitted. IfSome (slice_get self.old.ins.items at) (λ l. IfSome (slice_get l.link.queue 0)
+            (λ e. Does P.wants P.becomes what (seen e.received) self.old.node self.new.node emitted))) }
+        ensures notices { self.new.notices ≡ self.old.notices }
+        ensures ins { OnOk result (self.new.ins.items ≡ less_at at self.old.ins.items (slice_get self.old.ins.items at)) }
+    {
+        let link = &mut self.ins[at].link;
+        let emitted = match link.oldest() {
+            Some(entry) => self.node.step(alloc, what, &entry.received)?,
+            None => unreachable!(),
+        };
+        link.take();
+        Ok(emitted)
+    }
+}
+
+/// The links that lead to a node from so many, by number, on which nothing was sent.
+fn links(alloc: Global, nodes: u8) -> Result<Vec<LinkFrom>, NoMemory>
+    requires { nodes ≤ 8 }
+    ensures { IfOk result (λ links. links.items ≡ first_links nodes) }
+{
+    let mut links = Vec::new(alloc);
+    for n in 0..nodes {
+        match NodeId::new(n + 1) {
+            Some(from) => {
+                let link = Link::new(alloc);
+                links.push(LinkFrom { from, link })?;
+            }
+            None => unreachable!(),
+        }
+    }
+    Ok(links)
+}
+
+impl<P: Program, G: Pages> Station<P, G> {
+    ghost use Rattle.world_core.specs.Firsts.{IsFirst};
+
+    /// A node of so many, to which nothing was sent.
+    pub(crate) fn new(alloc: Global, node: Node<P, G>, nodes: u8) -> Result<Station<P, G>, NoMemory>
+        requires { nodes ≤ 8 }
+        ensures { IfOk result (IsFirst nodes node) }
+    {
+        let mut station = Station {
+            node,
+            notices: Vec::new(alloc),
+            ins: links(alloc, nodes)?,
+            enabled: Vec::new(alloc),
+        };
+        station.relist(alloc)?;
+        Ok(station)
+    }
+}
