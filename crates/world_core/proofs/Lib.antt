@@ -13,6 +13,14 @@ pub mod Ending
 pub mod Counting
 pub mod Choosing
 pub mod Turning
+pub mod EventsSent
+pub mod Sources
+pub mod NoticesOnce
+pub mod LinksReached
+pub mod LinksSent
+pub mod NoticesReached
+pub mod Renewed
+pub mod StationsReached
 pub mod Marked
 pub mod StationsAfter
 pub mod Reaching

@@ -1,27 +1,15 @@
 -- The links to a node after an event took from them, and what it sent came to them.
-use Rattle.std.proofs.Common.{◌≡◌, ◌≢◌, ℕ, ◌+◌, Bool, true, false, cond, Option, Some, None, List, [], ◌∷◌, length, inl, inr, refl, sym, ap, ◌∙◌, arith}
+use Rattle.std.proofs.Common.{◌≡◌, ◌≢◌, ℕ, ◌+◌, Bool, true, false, Option, Some, None, List, length, inl, inr, refl, sym, ap, ◌∙◌, arith}
 use Rattle.std.specs.Prelude.{◌==◌, ◌-◌, ◌&&◌, slice_get, slice_set}
-use Rattle.std.specs.Option.{option_map}
 use Rattle.std.proofs.lemmas.Bool.{cases_eq, eq-eqb, ne_eqb}
 use Rattle.std.proofs.lemmas.Option.{slice_get_within}
 use Rattle.dom_history.specs.declared.event.What.{What}
 use Rattle.dom_history.specs.declared.event.What.TheVariants as events
-use Rattle.dom_history.specs.declared.event.Sent.{Sent}
 use Rattle.dom_history.specs.declared.plan.Fate.{Fate}
-use Rattle.dom_history.specs.declared.plan.FateRow.{FateRow}
-use Rattle.dom_history.specs.Events.{Happening}
-use Rattle.dom_history.specs.Plans.{fate_of}
 use Rattle.ring_messages.specs.Frames.{Message}
-use Rattle.node_runs.specs.Setups.{Setup}
-use Rattle.node_runs.specs.Incomings.{Incoming}
-use Rattle.node_runs.specs.Outcomes.{Stepped}
-use Rattle.node_runs.specs.Runs.{World, SentMark, mark_of, incoming_of, world_with}
-use Rattle.world_runs.specs.Sendings.{Sending, sent_by, frames_on}
 use Rattle.world_runs.specs.Waiting.{Entry, entry_if, entry_by}
-use Rattle.world_runs.proofs.Alike.{added, frames-added, marked_by, marks-marked}
 use Rattle.ring_links.specs.declared.entry.Waiting.{Waiting}
 use Rattle.ring_links.specs.declared.entry.Waiting.TheVariants.{Copy, Mark}
-use Rattle.node_core.specs.Receivings.{mark_in}
 use Rattle.world_core.specs.declared.coming.Source as source
 use Rattle.world_core.specs.declared.coming.Source.TheVariants as sources
 use Rattle.world_core.specs.declared.notices.Notice.{Notice}
@@ -30,9 +18,8 @@ use Rattle.world_core.specs.Stations.{what_of}
 use Rattle.world_core.specs.Sending.{link_with, delivered_to, delivered, mark_with, marked_to, marked}
 use Rattle.world_core.specs.Listed.{link_less, less_at, ins_less}
 use Rattle.world_core.proofs.Marked.{set_there, set_else, set_many}
-use Rattle.world_core.proofs.Sources.{IsNoticed, IsTaken, IsStart, begins, goes_on, is_ready, IsFrom}
-use Rattle.world_core.proofs.EventsSent.{event, sent-away, sent-nowhere, sent-frame, sent-elsewhere, sent-mark, sent-own_mark}
-use Rattle.world_core.proofs.StationsAfter.{less, IsLinkAfter, quiet, framed, sent_mark}
+use Rattle.world_core.proofs.Sources.{IsTaken, IsStart, begins, goes_on, is_ready, IsFrom}
+use Rattle.world_core.proofs.StationsAfter.{less}
 
 -- one item of a list is changed, if it is there
 abbrev pub changed : {A : Type 0} → (A → A) → ℕ → List A → Option A → List A

@@ -1,5 +1,5 @@
 -- The links to a node after what an event sent came to them.
-use Rattle.std.proofs.Common.{◌≡◌, ◌≢◌, ℕ, ◌+◌, Bool, true, false, cond, Option, Some, None, IfSome, List, [], ◌∷◌, length, inl, inr, refl, sym, ap, ◌∙◌, arith}
+use Rattle.std.proofs.Common.{◌≡◌, ◌≢◌, ℕ, ◌+◌, Bool, true, false, cond, Option, Some, None, List, [], ◌∷◌, inl, inr, refl, sym, ap, ◌∙◌, arith}
 use Rattle.std.specs.Prelude.{◌==◌, ◌&&◌, slice_get}
 use Rattle.std.specs.Option.{option_map}
 use Rattle.std.proofs.lemmas.Bool.{cases_eq, eq-eqb, ne_eqb}
@@ -14,14 +14,14 @@ use Rattle.node_runs.specs.Setups.{Setup}
 use Rattle.node_runs.specs.Incomings.{Incoming}
 use Rattle.node_runs.specs.Outcomes.{Stepped}
 use Rattle.node_runs.specs.Runs.{World, SentMark, mark_of, incoming_of, world_with}
-use Rattle.world_runs.specs.Sendings.{Sending, sent_by}
+use Rattle.world_runs.specs.Sendings.{sent_by}
 use Rattle.world_runs.proofs.Alike.{added, frames-added, marked_by, marks-marked}
 use Rattle.node_core.specs.Receivings.{mark_in}
 use Rattle.world_core.specs.declared.station.LinkFrom.{LinkFrom}
 use Rattle.world_core.specs.Sending.{link_with, delivered, mark_with, marked}
 use Rattle.world_core.proofs.EventsSent.{event, sent-away, sent-nowhere, sent-frame, sent-elsewhere, sent-mark, sent-own_mark}
-use Rattle.world_core.proofs.LinksReached.{changed-at, IsChanged, here, elsewhere, delivered-is, marked-is, took, AreLess}
-use Rattle.world_core.proofs.StationsAfter.{less, IsLinkAfter, quiet, framed, sent_mark}
+use Rattle.world_core.proofs.LinksReached.{changed-at, IsChanged, here, elsewhere, delivered-is, marked-is, AreLess}
+use Rattle.world_core.proofs.StationsAfter.{IsLinkAfter, quiet, framed, sent_mark}
 
 same-added : (b : Bool) (m : Message) (xs : List Message) → cond b xs xs ≡ xs
 same-added true m xs = refl

@@ -1,6 +1,6 @@
 -- The notices of a node after an event took one, and the notice of a frame that is lost or late came.
-use Rattle.std.proofs.Common.{◌≡◌, ◌≢◌, ℕ, ◌+◌, ◌≤◌, Bool, true, false, cond, Option, Some, None, List, [], ◌∷◌, ◌++◌, map, length, inl, inr, refl, sym, ap, subst, ◌∙◌, append-nil, arith}
-use Rattle.std.specs.Prelude.{◌==◌, ◌-◌, not, ◌&&◌, if◌then◌else◌, filter, flat_map, remove, All}
+use Rattle.std.proofs.Common.{◌≡◌, ◌≢◌, ℕ, ◌+◌, ◌≤◌, Bool, true, false, Option, Some, None, List, [], ◌++◌, map, inl, inr, refl, sym, ap, ◌∙◌, arith}
+use Rattle.std.specs.Prelude.{◌==◌, ◌-◌, not, ◌&&◌, if◌then◌else◌, filter, flat_map, All}
 use Rattle.std.specs.List.{list_any}
 use Rattle.std.proofs.lemmas.Bool.{cases_eq, eq-eqb, ne_eqb}
 use Rattle.std.proofs.lemmas.List.Elements.{All-nil, All-cons}
@@ -12,28 +12,25 @@ use Rattle.dom_history.specs.Events.{Happening}
 use Rattle.dom_history.specs.Plans.{fate_of}
 use Rattle.ring_messages.specs.Bodies.{is_request}
 use Rattle.ring_messages.specs.Frames.{Message, caller_of}
-use Rattle.node_runs.specs.Setups.{Setup, given}
-use Rattle.node_runs.specs.Incomings.{Incoming}
+use Rattle.node_runs.specs.Setups.{Setup}
 use Rattle.node_runs.specs.Deliveries.{is_gone, noticed_by}
-use Rattle.node_runs.specs.Runs.{World, numbered, told_if, told_of, incoming_of}
+use Rattle.node_runs.specs.Runs.{World, numbered, told_if, told_of}
 use Rattle.world_runs.specs.Sendings.{frames_on}
-use Rattle.world_runs.specs.Gone.{FrameName, frame_if, gone_by, notice_of, notices_at}
+use Rattle.world_runs.specs.Gone.{FrameName, frame_if, gone_by, notice_of}
 use Rattle.world_runs.specs.Gone as gone
 use Rattle.world_runs.specs.OpenNotices.{open_notices, tells_of, is_done_by, notices_by}
-use Rattle.world_runs.specs.Turns as turns
 use Rattle.world_runs.proofs.Noticing.{filter-all}
 use Rattle.ring_links.specs.declared.entry.Waiting.{Waiting}
 use Rattle.ring_links.specs.declared.entry.Waiting.TheVariants.{Copy, Mark}
-use Rattle.node_core.specs.Nodes.{Noted}
 use Rattle.world_core.specs.declared.coming.Source as source
 use Rattle.world_core.specs.declared.coming.Source.TheVariants as sources
 use Rattle.world_core.specs.declared.notices.Notice.{Notice}
 use Rattle.world_core.specs.declared.station.LinkFrom.{LinkFrom}
-use Rattle.world_core.specs.Stations.{notice_for, notice_what, notice_incoming, what_of, is_open_notice, open_ones}
+use Rattle.world_core.specs.Stations.{notice_for, notice_what, what_of}
 use Rattle.world_core.specs.Listed.{notices_less}
 use Rattle.world_core.specs.Reached.{notice_if, frame_notices}
 use Rattle.world_core.specs.Stands.{IsNoticeOf}
-use Rattle.world_core.proofs.Sources.{IsNoticed, IsTaken, IsStart, begins, goes_on, is_ready, IsFrom}
+use Rattle.world_core.proofs.Sources.{IsStart, begins, goes_on, is_ready, IsFrom}
 use Rattle.world_core.proofs.NoticesOnce.{notice-goes, all-but-one}
 
 -- what is left of the notices of a node after an event
@@ -41,9 +38,9 @@ pub record AreLeft (w : World) (n : ℕ) (e : Happening) (old kept : List Notice
   pub are : map notice_what kept ≡ filter (λ y. not (is_done_by n e y)) (map notice_what old)
   pub told : All (IsNoticeOf w n) kept
 
-no-and : (b : Bool) → not (b && false) ≡ true
-no-and true = refl
-no-and false = refl
+and-false : (b : Bool) → (b && false) ≡ false
+and-false true = refl
+and-false false = refl
 
 start-tells : (what : What) → IsStart what → noticed_by what ≡ []
 start-tells what (begins p) = refl
@@ -64,10 +61,6 @@ module _ (w : World) (n : ℕ) (e : Happening) (old : List Notice) (told : All (
 
   pub left-away : e.place.node ≢ n → AreLeft w n e old old
   left-away differs = all-left (λ x. ap (λ (b : Bool). b && list_any (tells_of x) (noticed_by e.what)) (ne_eqb e.place.node n differs))
-
-  and-false : (b : Bool) → (b && false) ≡ false
-  and-false true = refl
-  and-false false = refl
 
   left-untold : noticed_by e.what ≡ [] → AreLeft w n e old old
   left-untold none =

@@ -1,6 +1,6 @@
 -- A node to which came what an event sent, with its events listed anew.
-use Rattle.std.proofs.Common.{◌≡◌, ◌≢◌, ℕ, ◌<◌, ◌≤◌, Bool, true, false, cond, Option, Some, List, [], ◌∷◌, ◌++◌, map, length, inl, inr, refl, sym, ap, subst, ◌∙◌, append-nil, arith}
-use Rattle.std.specs.Prelude.{◌==◌, filter, slice_get, slice_set, All}
+use Rattle.std.proofs.Common.{◌≡◌, ◌≢◌, ℕ, ◌<◌, Bool, true, cond, Option, Some, List, [], ◌∷◌, ◌++◌, map, length, inl, inr, refl, sym, ap, subst, ◌∙◌, append-nil, arith}
+use Rattle.std.specs.Prelude.{slice_get, slice_set, All}
 use Rattle.std.proofs.lemmas.Bool.{eq-eqb, ne_eqb}
 use Rattle.std.proofs.lemmas.List.Elements.{All-head, All-tail}
 use Rattle.dom_history.specs.declared.op.Reply.{Reply}
@@ -18,7 +18,7 @@ use Rattle.world_core.specs.declared.station.LinkFrom.{LinkFrom}
 use Rattle.world_core.specs.declared.station.Station.{Station}
 use Rattle.world_core.specs.Stations.{notice_what, notice_incoming, is_open_notice, open_ones}
 use Rattle.world_core.specs.Sending.{marked}
-use Rattle.world_core.specs.SentMarks.{IsMarked, AreMarked}
+use Rattle.world_core.specs.SentMarks.{AreMarked}
 use Rattle.world_core.specs.Listed.{IsListed, IsKept}
 use Rattle.world_core.specs.Reached.{IsReached, AreReached}
 use Rattle.world_core.specs.Stands.{IsNoticeOf, IsStation}

@@ -24,7 +24,6 @@ use Rattle.dom_history.specs.Plans.{fate_of}
 use Rattle.ring_messages.specs.Frames.{Message, caller_of}
 use Rattle.fault_handler.specs.Desks.{IsNode}
 use Rattle.node_runs.specs.Setups.{Setup, given}
-use Rattle.node_runs.specs.NodeStates.{NodeState}
 use Rattle.node_runs.specs.Incomings.{Incoming}
 use Rattle.node_runs.specs.Outcomes.{Stepped}
 use Rattle.node_runs.specs.Doings.{ticked}
