@@ -25,3 +25,8 @@ pub mod Marked
 pub mod StationsAfter
 pub mod Reaching
 pub mod TakingTurns
+pub mod LowTicks
+pub mod Chosen
+pub mod NextWorld
+pub mod Sendable
+pub mod Turned
