@@ -30,3 +30,4 @@ pub mod Chosen
 pub mod NextWorld
 pub mod Sendable
 pub mod Turned
+pub mod Programs
