@@ -25,8 +25,8 @@ loop-station-preserved g c =
     let x = c.in-Some.station in
     let xs = c.loop-station.yielded in (
       c.in_ok-take_apart.ensures.log
-      ∙ ap (λ (ls : List NodeLog). ls ++ x.node.log ∷ []) c.loop-station.invariant.0
-      ∙ sym (map-append (λ (y : Station g.row.P.Denot g.row.G.Denot). y.node.log) xs (x ∷ [])),
+          ∙ ap (λ (ls : List NodeLog). ls ++ x.node.log ∷ []) c.loop-station.invariant.0
+          ∙ sym (map-append (λ (y : Station g.row.P.Denot g.row.G.Denot). y.node.log) xs (x ∷ [])),
       λ p.
           c.in_ok-take_apart.ensures.programs p
           ∙ ap (λ (o : Option g.row.P.Denot). or_else o (own_of x.node p)) (c.loop-station.invariant.1 p)
