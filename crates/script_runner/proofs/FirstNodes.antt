@@ -1,6 +1,6 @@
 -- The nodes of a script, as they are made.
 use Rattle.std.proofs.Common.{◌≡◌, ℕ, zero, suc, ◌+◌, ◌-◌, ◌<◌, ◌≤◌, ◌==◌, Bool, true, false, Option, Some, None, Result, Ok, Err, List, [], ◌∷◌, ◌++◌, length, take, map, slice_index_or, refl, sym, ◌∙◌, ap, subst, arith}
-use Rattle.std.specs.Prelude.{All, filter, if◌then◌else◌, is_some, ◌||◌, IfSome, IfOk, slice_get}
+use Rattle.std.specs.Prelude.{filter, if◌then◌else◌, is_some, ◌||◌, IfSome, IfOk, slice_get}
 use Rattle.std.specs.List.{list_any}
 use Rattle.std.proofs.lemmas.Bool.Decides.{nat_tests}
 use Rattle.std.proofs.lemmas.List.{length-take, get_or-map, get_or-take}

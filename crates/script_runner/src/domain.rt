@@ -1,5 +1,5 @@
 //! The program: from its words and a script's bytes to the report and the journal.
-ghost use Rattle.std.specs.Prelude.{◌≡◌, ◌≢◌, ◌+◌, ◌^◌, ◌⊎◌, ℕ, List, map, string_bytes, IsTrue, IfOk, IfErr, IsErrOf, Some, codes};
+ghost use Rattle.std.specs.Prelude.{◌≡◌, ◌≢◌, ◌+◌, ◌⊎◌, ℕ, List, map, string_bytes, IsTrue, IfOk, IfErr, IsErrOf, Some};
 ghost use Rattle.dom_io.specs.Counts.{CountRose};
 ghost use Rattle.dom_io.specs.Known.{TakesAtMost, AppendsPrefix};
 ghost use Rattle.script_reader.specs.declared.cause.Cause.{Cause};
@@ -11,7 +11,7 @@ ghost use Rattle.script_runner.specs.DueTexts.{IsDueText, IsDueOf, IsEndOf};
 
 use crate::names::names_of;
 use crate::report::report;
-use crate::run::{Ran, run_script};
+use crate::run::run_script;
 use crate::words::words_asked;
 use dom_io::{ReadEnd, Sink, Source, read_all, write_all};
 use dom_text::put_decimal;

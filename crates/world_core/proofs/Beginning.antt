@@ -36,6 +36,29 @@ longer : {A : Type 0} (xs : List A) (y : A) → length (xs ++ y ∷ []) ≡ suc 
 longer [] y = refl
 longer (x ∷ xs) y = ap suc (longer xs y)
 
+last-one : {A : Type 0} (xs : List A) (y : A) → slice_get (xs ++ y ∷ []) (length xs) ≡ Some y
+last-one [] y = refl
+last-one (x ∷ xs) y = last-one xs y
+
+front-one : {A : Type 0} (T : A → Type 0) (xs : List A) (x : A) (n : ℕ) → IsSomeAnd (slice_get xs n) T → IsSomeAnd (slice_get (xs ++ x ∷ []) n) T
+front-one T [] x n is = absurd is
+front-one T (y ∷ xs) x zero is = is
+front-one T (y ∷ xs) x (suc n) is = front-one T xs x n is
+
+-- one node more
+pub first-more : {P G : Type 0} (nodes : ℕ) (made : List (Noted P)) (ys : List (Station P G)) (x : Noted P) (y : Station P G) → length ys ≡ length made
+    → ((n : ℕ) (z : Station P G) → slice_get ys n ≡ Some z → IsSomeAnd (slice_get made n) (λ m. IsFirst nodes m z)) → IsFirst nodes x y
+    → (length (ys ++ y ∷ []) ≡ length (made ++ x ∷ [])) × ((n : ℕ) (z : Station P G) → slice_get (ys ++ y ∷ []) n ≡ Some z → IsSomeAnd (slice_get (made ++ x ∷ []) n) (λ m. IsFirst nodes m z))
+first-more {P} nodes made ys x y many each is = (
+  longer ys y ∙ ap suc many ∙ sym (longer made x),
+  λ n z e. elim (one_more ys y z n e) [
+    | inl here ↦ front-one (λ m. IsFirst nodes m z) made x n (each n z here)
+    | inr last ↦
+        subst (λ (k : ℕ). IsSomeAnd (slice_get (made ++ x ∷ []) k) (λ m. IsFirst nodes m z)) (sym (last.0 ∙ many))
+        (subst (λ (o : Option (Noted P)). IsSomeAnd o (λ m. IsFirst nodes m z)) (sym (last-one made x)) (subst (IsFirst nodes x) (sym last.1) is))
+  ],
+)
+
 pub many-links : (n : ℕ) → length (first_links n) ≡ n
 many-links zero = refl
 many-links (suc n) = longer (first_links n) (record { from = suc n; link = empty_link }) ∙ ap suc (many-links n)

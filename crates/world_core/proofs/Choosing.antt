@@ -83,7 +83,7 @@ act-at k (z ∷ ys) (suc i) own y c there here =
 
 -- the nodes of an opening
 module _ (o : Start) where
-  is-one : (k : ℕ) → 1 ≤ k → k ≤ o.nodes → is_node o k ≡ true
+  pub is-one : (k : ℕ) → 1 ≤ k → k ≤ o.nodes → is_node o k ≡ true
   is-one k low high = grind (arith, nat_tests, low, high)
 
   is-none : (k : ℕ) → o.nodes < k → is_node o k ≡ false
@@ -117,7 +117,7 @@ module _ (o : Start) where
       ∙ kept 1 N low high
 
 module _ {P G : Type 0} (wants : P → Want) (becomes : P → Option Reply → P) (made : ℕ → ℕ → Option P) (s : Setup) (x : World P G) (w : runs.World) (few : s.opening.nodes ≤ 8) (stands : Stands wants becomes made s x w) where
-  queue-is : (n from : ℕ) → (link_of x.plan from n w.done).queue ≡ waiting x.plan from n w.done
+  pub queue-is : (n from : ℕ) → (link_of x.plan from n w.done).queue ≡ waiting x.plan from n w.done
   queue-is n from = ((turns-link s stands.setup x.plan stands.choices w stands.turns stands.timely).links from n).queue
 
   own-are : (j : ℕ) (y : Station P G) → slice_get x.stations.items j ≡ Some y → map (act_of (j + 1)) y.enabled.items ≡ enabled_at s x.plan w (j + 1)

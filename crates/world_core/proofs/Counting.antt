@@ -142,6 +142,14 @@ sum-few most (n ∷ ns) all =
     grind (arith, common_steps, first, rest)
 
 module _ {P G : Type 0} (wants : P → Want) (becomes : P → Option Reply → P) (made : ℕ → ℕ → Option P) (s : Setup) where
+  -- few events were done
+  pub done-few : (x : World P G) (w : runs.World) → Stands wants becomes made s x w → length w.done ≤ 8 * 2 ^ 40
+  done-few x w stands =
+      let done = done-many s x.plan stands.choices w stands.turns in
+      let turns = turns-few s stands.setup x.plan stands.choices w stands.turns in
+      let ticks = ticks-most (2 ^ 40) (λ m. (w.nodes m).tick) stands.timely in
+      omega (arith, done, turns, ticks)
+
   pub counts-few : (x : World P G) (w : runs.World) → Stands wants becomes made s x w → sum (enabled_counts x.stations.items) < 2 ^ 64
   counts-few x w stands =
       let each = all_at (λ n. n ≤ 8 * 2 ^ 40 + 17) (enabled_counts x.stations.items) (λ k n e.
@@ -153,13 +161,11 @@ module _ {P G : Type 0} (wants : P → Want) (becomes : P → Option Reply → P
       let names = many-map notice_what y.notices.items in
       let open_ones = ap length st.notices in
       let few = open-few s x.plan w (k + 1) in
-      let done = done-many s x.plan stands.choices w stands.turns in
-      let turns = turns-few s stands.setup x.plan stands.choices w stands.turns in
-      let ticks = ticks-most (2 ^ 40) (λ m. (w.nodes m).tick) stands.timely in
+      let done = done-few x w stands in
       let links = st.links in
       let nodes = stands.setup.start.nodes_high in
       let is = found.2 in
-      omega (arith, listed, most, names, open_ones, few, done, turns, ticks, links, nodes, is))) in
+      omega (arith, listed, most, names, open_ones, few, done, links, nodes, is))) in
       let all = sum-few (8 * 2 ^ 40 + 17) (enabled_counts x.stations.items) each in
       let many = many-map (λ (y : Station P G). length y.enabled.items) x.stations.items in
       let count = stands.count in

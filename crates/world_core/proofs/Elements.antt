@@ -4,6 +4,7 @@ use Rattle.std.specs.Iterator.{Yields}
 use Rattle.std.specs.Vec.Iter.{into_iter_items, into_iter_len, into_iter_steps}
 use Rattle.std.specs.declared.vec.IntoIter.{IntoIter}
 use Rattle.std.specs.Prelude.{slice_get, All, IfSome}
+use Rattle.std.proofs.lemmas.List.{append_assoc}
 use Rattle.std.proofs.lemmas.Option.{slice_get_within, get_or_from_slice_get, slice_get-get_or}
 
 pub some_at : {A : Type 0} (xs : List A) (k : ℕ) → k < length xs → (x : A) × (slice_get xs k ≡ Some x)
@@ -37,3 +38,13 @@ taken_front s (x ∷ xs) t y = y.1.0 ∙ ap (λ ys. x ∷ ys) (taken_front y.0 x
 pub all_taken : {X A : Type 0} (s : IntoIter X A) (xs : List X) (t : IntoIter X A) (all : List X) → Yields into_iter_steps s xs t → into_iter_items s ≡ all → into_iter_len t ≡ 0 → xs ≡ all
 all_taken s xs t all y from none =
     sym (append-nil xs) ∙ (ap (λ ys. xs ++ ys) (sym (no_items (into_iter_items t) (sym t.rest.ok.0 ∙ none))) ∙ (sym (taken_front s xs t y) ∙ from))
+
+behind : {A : Type 0} (xs : List A) (y : A) (ys : List A) → slice_get (xs ++ y ∷ ys) (length xs) ≡ Some y
+behind [] y ys = refl
+behind (x ∷ xs) y ys = behind xs y ys
+
+-- what an iterator gave last is one of all
+pub taken-one : {X A : Type 0} (s : IntoIter X A) (xs : List X) (x : X) (t : IntoIter X A) (all : List X) → Yields into_iter_steps s (xs ++ x ∷ []) t → into_iter_items s ≡ all → slice_get all (length xs) ≡ Some x
+taken-one {X} s xs x t all y from =
+    ap (λ (ys : List X). slice_get ys (length xs)) (sym from ∙ taken_front s (xs ++ x ∷ []) t y ∙ append_assoc xs (x ∷ []) (into_iter_items t))
+    ∙ behind xs x (into_iter_items t)

@@ -7,7 +7,6 @@ use Rattle.dom_history.specs.declared.op.Reply.{Reply}
 use Rattle.dom_history.specs.declared.op.Want.{Want}
 use Rattle.dom_history.specs.declared.event.What.{What}
 use Rattle.node_runs.specs.Incomings.{Incoming, tick_of}
-use Rattle.node_runs.specs.SentFrames.{IsIncoming}
 use Rattle.ring_links.specs.declared.entry.Entry.{Entry}
 use Rattle.node_core.specs.declared.setup.Incoming as code
 use Rattle.node_core.specs.Receivings.{seen}
@@ -20,7 +19,7 @@ use Rattle.world_core.specs.declared.station.LinkFrom.{LinkFrom}
 use Rattle.world_core.specs.declared.station.Station.{Station}
 use Rattle.world_core.specs.Stations.{Candidate, passes, candidates}
 use Rattle.world_core.specs.Listed.{IsListed, event_at, Does, IsDone, notices_less, ins_less}
-use Rattle.world_core.proofs.Found.{IsFoundAt, IsOldest, IsNotice, passes-there, found-there, each-there}
+use Rattle.world_core.proofs.Found.{IsFoundAt, IsOldest, IsNotice, passes-there, found-there}
 
 -- the listed event at a place, with what it receives
 pub record IsAt {P G : Type 0} (x : Station P G) (place : ℕ) (coming : Coming) : Type 0 where
@@ -70,9 +69,9 @@ module _ {P G : Type 0} (wants : P → Want) (becomes : P → Option Reply → P
       })
 
 -- the entry of a link may be taken
-pub entry-there : {P : Type 0} (node : Noted P) (what : What) (last : ℕ) (ins : List LinkFrom) (i : ℕ) (incoming : Incoming) → IsOldest ins i incoming → is_enabled node what incoming ≡ true → (tick_of incoming < last) × IsIncoming incoming
-    → IfSome (slice_get ins i) (λ l. IsSomeAnd (slice_get l.link.queue 0) (λ e. (is_enabled node what (seen e.received) ≡ true) × (tick_of (seen e.received) < last) × IsIncoming (seen e.received)))
+pub entry-there : {P : Type 0} (node : Noted P) (what : What) (last : ℕ) (ins : List LinkFrom) (i : ℕ) (incoming : Incoming) → IsOldest ins i incoming → is_enabled node what incoming ≡ true → tick_of incoming < last
+    → IfSome (slice_get ins i) (λ l. IsSomeAnd (slice_get l.link.queue 0) (λ e. (is_enabled node what (seen e.received) ≡ true) × (tick_of (seen e.received) < last)))
 entry-there node what last ins i incoming found enabled early =
-    subst (λ (r : Option LinkFrom). IfSome r (λ l. IsSomeAnd (slice_get l.link.queue 0) (λ e. (is_enabled node what (seen e.received) ≡ true) × (tick_of (seen e.received) < last) × IsIncoming (seen e.received)))) (sym found.there)
-    (subst (λ (r : Option (Entry code.Incoming)). IsSomeAnd r (λ e. (is_enabled node what (seen e.received) ≡ true) × (tick_of (seen e.received) < last) × IsIncoming (seen e.received))) (sym found.first)
-    (subst (λ (j : Incoming). (is_enabled node what j ≡ true) × (tick_of j < last) × IsIncoming j) found.received (enabled, early.0, early.1)))
+    subst (λ (r : Option LinkFrom). IfSome r (λ l. IsSomeAnd (slice_get l.link.queue 0) (λ e. (is_enabled node what (seen e.received) ≡ true) × (tick_of (seen e.received) < last)))) (sym found.there)
+    (subst (λ (r : Option (Entry code.Incoming)). IsSomeAnd r (λ e. (is_enabled node what (seen e.received) ≡ true) × (tick_of (seen e.received) < last))) (sym found.first)
+    (subst (λ (j : Incoming). (is_enabled node what j ≡ true) × (tick_of j < last)) found.received (enabled, early)))

@@ -1,13 +1,12 @@
 -- A node of a world whose enabled events are listed, and what an event of it does there.
-use Rattle.std.specs.Prelude.{◌≡◌, ◌<◌, ◌^◌, ℕ, Bool, Option, Some, List, [], map, filter, drop, slice_get, slice_set, All, remove}
+use Rattle.std.specs.Prelude.{◌≡◌, ℕ, Bool, Option, Some, List, [], map, filter, drop, slice_get, slice_set, remove}
 use Rattle.dom_history.specs.declared.op.Reply.{Reply}
 use Rattle.dom_history.specs.declared.op.Want.{Want}
 use Rattle.dom_history.specs.declared.event.What.{What}
 use Rattle.node_runs.specs.Setups.{Given}
 use Rattle.node_runs.specs.NodeStates.{NodeState}
-use Rattle.node_runs.specs.Incomings.{Incoming, tick_of}
+use Rattle.node_runs.specs.Incomings.{Incoming}
 use Rattle.node_runs.specs.Outcomes.{Stepped}
-use Rattle.node_runs.specs.SentFrames.{IsIncoming}
 use Rattle.ring_links.specs.declared.entry.Entry.{Entry}
 use Rattle.node_core.specs.declared.setup.Incoming as code
 use Rattle.node_core.specs.declared.setup.Emitted.{Emitted}
@@ -52,10 +51,6 @@ module _ {P G : Type 0} where
   -- the enabled event at a place
   abbrev pub event_at : Station P G → ℕ → Option Candidate
   event_at x place = slice_get (filter (passes x.node) (candidates x.node x.notices.items x.ins.items)) place
-
-  -- what may be received is as nodes send it, and no tick of it has come so far
-  abbrev pub AreEarly : ℕ → Station P G → Type 0
-  AreEarly last x = All (λ c. (tick_of c.incoming < last) × IsIncoming c.incoming) (candidates x.node x.notices.items x.ins.items)
 
 -- the event that a node did, whatever it stood for
 abbrev pub Does : {P : Type 0} → (P → Want) → (P → Option Reply → P) → What → Incoming → Noted P → Noted P → Emitted → Type 0

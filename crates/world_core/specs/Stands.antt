@@ -119,6 +119,6 @@ module _ {P : Type 0} (wants : P → Want) (becomes : P → Option Reply → P) 
     pub events_are : events ≡ reverse (by_place world.done)
     pub programs_are : AreEnded world programs
 
--- no node's tick has come so far, nor that of what waits
+-- no node's tick has come so far
 abbrev pub IsBelow : {P G : Type 0} → ℕ → World P G → Type 0
 IsBelow last x = All (λ y. (nodes.state_of y.node).tick < last) x.stations.items

@@ -177,12 +177,11 @@ pub struct Station<P: Program, G: Pages> {
 impl<P: Program, G: Pages> Station<P, G> {
     ghost use Rattle.std.specs.Prelude.{◌<◌, ◌^◌, Option, Some, IfSome, IsSomeAnd, remove};
     ghost use Rattle.node_runs.specs.Incomings.{tick_of};
-    ghost use Rattle.node_runs.specs.SentFrames.{IsIncoming};
     ghost use Rattle.node_runs.specs.Incomings.Incoming.{Nothing};
     ghost use Rattle.node_core.specs.Nodes.{is_enabled};
     ghost use Rattle.world_core.specs.Stations.{notice_what, notice_incoming};
     ghost use Rattle.world_core.specs.Sending.{told, still, delivered, marked};
-    ghost use Rattle.world_core.specs.Listed.{IsListed, IsKept, AreEarly, event_at, Does, IsDone, less_at};
+    ghost use Rattle.world_core.specs.Listed.{IsListed, IsKept, event_at, Does, IsDone, less_at};
 
     /// Notices whose call is open no more go.
     fn keep_open(&mut self, alloc: Global) -> Result<(), NoMemory>
@@ -273,7 +272,7 @@ impl<P: Program, G: Pages> Station<P, G> {
         requires listed { IsListed self.old }
         requires within { place < length self.old.enabled.items }
         requires tick { (state_of self.old.node).tick < 2 ^ 40 }
-        requires early { AreEarly (2 ^ 40) self.old }
+        requires early { IfSome (event_at self.old place) (λ c. tick_of c.incoming < 2 ^ 40) }
         ensures { IfOk result (λ emitted. IfSome (event_at self.old place) (λ c. IsDone P.wants P.becomes c emitted self.old self.new)) }
     {
         let coming = self.enabled[place];
@@ -316,7 +315,7 @@ impl<P: Program, G: Pages> Station<P, G> {
     fn take(&mut self, alloc: Global, what: What, at: usize) -> Result<Emitted, NoMemory>
         requires within { at < length self.old.ins.items }
         requires tick { (state_of self.old.node).tick < 2 ^ 40 }
-        requires entry { IfSome (slice_get self.old.ins.items at) (λ l. IsSomeAnd (slice_get l.link.queue 0) (λ e. (is_enabled self.old.node what (seen e.received) ≡ true) × (tick_of (seen e.received) < 2 ^ 40) × IsIncoming (seen e.received))) }
+        requires entry { IfSome (slice_get self.old.ins.items at) (λ l. IsSomeAnd (slice_get l.link.queue 0) (λ e. (is_enabled self.old.node what (seen e.received) ≡ true) × (tick_of (seen e.received) < 2 ^ 40))) }
         ensures does { IfOk result (λ emitted. IfSome (slice_get self.old.ins.items at) (λ l. IfSome (slice_get l.link.queue 0)
             (λ e. Does P.wants P.becomes what (seen e.received) self.old.node self.new.node emitted))) }
         ensures notices { self.new.notices ≡ self.old.notices }

@@ -1,9 +1,10 @@
-use Rattle.std.proofs.Common.{◌≡◌, ℕ, List, refl, sym, ap, subst, ◌∙◌, length}
+use Rattle.std.proofs.Common.{◌≡◌, ◌++◌, ◌∷◌, [], ℕ, Some, List, refl, sym, ap, subst, ◌∙◌, length}
 use Rattle.std.specs.Prelude.{slice_get, IsSomeAnd}
 use Rattle.dom_history.specs.Plans.{IsPlan}
+use Rattle.world_core.specs.declared.station.Station.{Station}
 use Rattle.world_core.specs.Firsts.{IsFirst}
 use Rattle.world_core.proofs.Elements.{all_taken}
-use Rattle.world_core.proofs.Beginning.{first-stands}
+use Rattle.world_core.proofs.Beginning.{first-more, first-stands}
 use Rattle.world_core.proofs.world.World.new.Goals as goal
 
 pub returns-clause-stands : goal.returns-clause-stands
@@ -16,3 +17,9 @@ returns-clause-stands g c = λ made s are.
     (λ n y e.
     subst (λ nodes. IsSomeAnd (slice_get c.args.nodes.items n) (λ x. IsFirst nodes x y)) count
     (subst (λ xs. IsSomeAnd (slice_get xs n) (λ x. IsFirst c.len-count.result x y)) all (c.loop-node.invariant.1 n y e))))
+
+pub loop-node-preserved : goal.loop-node-preserved
+loop-node-preserved g c =
+    subst (λ (ys : List (Station g.row.P.Denot g.row.G.Denot)). (length ys ≡ length (c.loop-node.yielded ++ c.in-Some.node ∷ []))
+    × ((n : ℕ) (z : Station g.row.P.Denot g.row.G.Denot) → slice_get ys n ≡ Some z → IsSomeAnd (slice_get (c.loop-node.yielded ++ c.in-Some.node ∷ []) n) (λ m. IsFirst c.len-count.result m z))) (sym c.in_ok-push.ensures.items)
+    (first-more c.len-count.result c.loop-node.yielded c.loop-node.stations.items c.in-Some.node c.in_ok-new.field-0 c.loop-node.invariant.0 c.loop-node.invariant.1 c.in_ok-new.ensures)
