@@ -21,18 +21,21 @@ mod desk;
 mod home;
 mod ring;
 mod scripts;
+mod worlds;
 
 use anyhow::{Context, Result};
 use dom_text::decimal;
 use std::env;
 use std::time::CpuClock;
 use uid_names::{NodeId, ProcId, Uid};
+use worlds::Work;
 
 /// The names of all measures, one space apart.
 const NAMES: &str =
     "lock-frames-written lock-frames-read page-outs-written page-outs-read journals-written \
     journals-read home-locks home-page-outs desk-loads desk-stores desk-evictions cache-touches-64 cache-touches-256 \
-    cache-evictions-64 cache-evictions-256 scripts-read shells-made store-operations";
+    cache-evictions-64 cache-evictions-256 scripts-read shells-made store-operations \
+    world-mixed world-resident world-locks world-evictions";
 
 /// Does a measure so often; how much was done, and in how many microseconds.
 fn take(rt: &HostRuntime, name: &str, count: u32) -> Result<(u64, u64)> {
@@ -55,6 +58,10 @@ fn take(rt: &HostRuntime, name: &str, count: u32) -> Result<(u64, u64)> {
         "scripts-read" => scripts::read(rt, count),
         "shells-made" => scripts::make_shells(rt, count),
         "store-operations" => scripts::operate(rt, count),
+        "world-mixed" => worlds::run(rt, Work::Mixed, count),
+        "world-resident" => worlds::run(rt, Work::Resident, count),
+        "world-locks" => worlds::run(rt, Work::Locks, count),
+        "world-evictions" => worlds::run(rt, Work::Evictions, count),
         _ => anyhow::bail!("no such measure"),
     }
 }

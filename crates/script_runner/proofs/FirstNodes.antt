@@ -1,6 +1,6 @@
 -- The nodes of a script, as they are made.
 use Rattle.std.proofs.Common.{◌≡◌, ℕ, zero, suc, ◌+◌, ◌-◌, ◌<◌, ◌≤◌, ◌==◌, Bool, true, false, Option, Some, None, Result, Ok, Err, List, [], ◌∷◌, ◌++◌, length, take, map, slice_index_or, refl, sym, ◌∙◌, ap, subst, arith}
-use Rattle.std.specs.Prelude.{All, filter, if◌then◌else◌, is_some, ◌||◌, IfSome, IfOk, slice_get}
+use Rattle.std.specs.Prelude.{filter, if◌then◌else◌, is_some, ◌||◌, IfSome, IfOk, slice_get}
 use Rattle.std.specs.List.{list_any}
 use Rattle.std.proofs.lemmas.Bool.Decides.{nat_tests}
 use Rattle.std.proofs.lemmas.List.{length-take, get_or-map, get_or-take}
@@ -155,8 +155,8 @@ pub first_node_is : {E : Type 0} (s : Content) (n : ℕ) (setup : NodeSetup) (op
 first_node_is s n setup opening shells (Err e) node opens are gives stands log = tt
 first_node_is s n setup opening shells (Ok x) node opens are gives stands log =
     let same : IsGivenBy shell_wants shell_after setup opening shells (given (setup_of s) n) =
-        subst (λ (o : Start). IsGivenBy shell_wants shell_after setup o shells (given (setup_of s) n)) (sym opens)
-        (subst (λ (all : List (ℕ × Shelled)). IsGivenBy shell_wants shell_after setup s.opening all (given (setup_of s) n)) (sym are) gives) in
+    subst (λ (o : Start). IsGivenBy shell_wants shell_after setup o shells (given (setup_of s) n)) (sym opens)
+    (subst (λ (all : List (ℕ × Shelled)). IsGivenBy shell_wants shell_after setup s.opening all (given (setup_of s) n)) (sym are) gives) in
     record {
       stands = subst (λ (all : List (ℕ × Shelled)). Stands shell_wants shell_after (program_in all) (given (setup_of s) n) x (first_node (given (setup_of s) n))) are (stands (given (setup_of s) n) same);
       log = subst (λ (k : ℕ). x.log ≡ record { node = k; events = [] }) node log;

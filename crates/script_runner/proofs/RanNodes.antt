@@ -1,9 +1,9 @@
 -- What comes of a script's nodes.
-use Rattle.std.proofs.Common.{◌≡◌, ℕ, zero, suc, ◌+◌, ◌-◌, ◌<◌, ◌≤◌, ◌==◌, Option, Some, None, Result, Ok, Err, List, [], ◌∷◌, length, map, reverse, slice_index_or, refl, sym, ◌∙◌, ap, subst, arith}
+use Rattle.std.proofs.Common.{◌≡◌, ℕ, ◌-◌, ◌<◌, ◌≤◌, Option, Some, None, Result, Ok, Err, List, [], ◌∷◌, length, map, reverse, slice_index_or, refl, sym, ◌∙◌, ap, subst, arith}
 use Rattle.std.specs.Prelude.{◌^◌, All, IsSome, IfSome, IfOk, IfErr, IsErrOf}
 use Rattle.std.specs.Option.{option_map}
 use Rattle.std.proofs.lemmas.List.{length-map, length-reverse, get_or-reverse}
-use Rattle.std.proofs.lemmas.List.Elements.{All-cons, All-nil, All-head, All-tail, All-weaker, All-get_or}
+use Rattle.std.proofs.lemmas.List.Elements.{All-head, All-tail, All-weaker, All-get_or}
 use Rattle.std.proofs.lemmas.Option.{slice_get-get_or}
 use Rattle.uid_names.specs.Names.{ProcName}
 use Rattle.uid_names.specs.Openings.{IsStart}
@@ -36,7 +36,7 @@ use Rattle.script_runs.specs.Processes.{processes_of}
 use Rattle.script_runs.specs.Setups.{setup_of}
 use Rattle.script_runs.specs.Runs.{IsRunOf, heard_in}
 use Rattle.script_runs.specs.Reports.{names_of, rows_of}
-use Rattle.script_runs.specs.Histories.{AreRepliesHeard}
+use Rattle.script_runs.specs.Histories.{FollowsScript, KeepsPhasesApart, AreRepliesHeard}
 use Rattle.script_runs.proofs.ProcsWith.{processes_of-All}
 use Rattle.script_runner.specs.declared.run.AnswerRow.{AnswerRow}
 use Rattle.script_runner.specs.Answered.{answers_by, row_in}
@@ -46,20 +46,20 @@ use Rattle.script_runner.specs.Reports.{IsRan, answers_in}
 use Rattle.script_runner.proofs.FirstNodes.{shell_found}
 
 -- each process of a script is one of its nodes
-processes-named : (s : Content) → IsContent s → All (λ p. IsNode (length s.nodes) p.node) (processes_of s.commands)
-processes-named s content = processes_of-All (λ p. IsNode (length s.nodes) p.node) s.commands
+processes_named : (s : Content) → IsContent s → All (λ p. IsNode (length s.nodes) p.node) (processes_of s.commands)
+processes_named s content = processes_of-All (λ p. IsNode (length s.nodes) p.node) s.commands
     (All-weaker (IsCommandRow (length s.nodes) s.phases) (λ row. IsNode (length s.nodes) row.proc.node) (λ row h. (h.proc.node.0, h.node)) s.commands content.draft.commands)
 
 -- the shell of each process of a script is made
-shells-made : (s : Content) → All (λ p. made_shell s p.node p.number ≡ Some (shell_of s p)) (processes_of s.commands)
-shells-made s i d below = shell_found s (processes_of s.commands) (slice_index_or (processes_of s.commands) i d) i d below refl
+shells_made : (s : Content) → All (λ p. made_shell s p.node p.number ≡ Some (shell_of s p)) (processes_of s.commands)
+shells_made s i d below = shell_found s (processes_of s.commands) (slice_index_or (processes_of s.commands) i d) i d below refl
 
 -- lists of the same, one by one
-same-rows : {Y : Type 0} (f g : ProcName → Y) (procs : List ProcName) → All (λ p. f p ≡ g p) procs → map f procs ≡ map g procs
-same-rows f g [] same = refl
-same-rows f g (p ∷ procs) same =
+same_rows : {Y : Type 0} (f g : ProcName → Y) (procs : List ProcName) → All (λ p. f p ≡ g p) procs → map f procs ≡ map g procs
+same_rows f g [] same = refl
+same_rows f g (p ∷ procs) same =
     let first : f p ≡ g p = All-head (λ q. f q ≡ g q) p procs same in
-    let rest = same-rows f g procs (All-tail (λ q. f q ≡ g q) p procs same) in
+    let rest = same_rows f g procs (All-tail (λ q. f q ≡ g q) p procs same) in
     cc
 
 -- an element of a list that is turned round holds what holds of all
@@ -89,8 +89,8 @@ named_sent s None names = tt
 named_sent s (Some x) names = named_node s x.to names
 
 -- an event that names nodes of a script alone has names for them
-pub events-named : (s : Content) (events : List Happening) → All (NamesNodes (length s.nodes)) events → All (Names (names_of s)) (reverse events)
-events-named s events all = All-reverse (Names (names_of s)) events
+pub events_named : (s : Content) (events : List Happening) → All (NamesNodes (length s.nodes)) events → All (Names (names_of s)) (reverse events)
+events_named s events all = All-reverse (Names (names_of s)) events
     (All-weaker (NamesNodes (length s.nodes)) (Names (names_of s)) (λ e names. record {
       place = named_node s e.place.node names.place;
       what = named_what s e.what names.what;
@@ -121,26 +121,26 @@ module _ (s : Content) (content : IsContent s) (seed last : ℕ) (events : List 
   picked = record { world = ended.world; ends = ended.ends; events = refl }
 
   -- the shell of each process is what it became by what its program heard
-  shells-are : All (λ p. named programs p ≡ Some (program_after shell_after (shell_of s p) (heard_in ended.world p))) (processes_of s.commands)
-  shells-are i d below =
+  shells_are : All (λ p. named programs p ≡ Some (program_after shell_after (shell_of s p) (heard_in ended.world p))) (processes_of s.commands)
+  shells_are i d below =
       let p = slice_index_or (processes_of s.commands) i d in
-      let node : IsNode (length s.nodes) (slice_index_or (processes_of s.commands) i d).node = processes-named s content i d below in
+      let node : IsNode (length s.nodes) (slice_index_or (processes_of s.commands) i d).node = processes_named s content i d below in
       ended.programs_are.ended p (subst (λ n. IsNode n p.node) (sym content.draft.opening_nodes) node)
-      ∙ ap (option_map (λ y. program_after shell_after y (heard_in ended.world p))) (shells-made s i d below)
+      ∙ ap (option_map (λ y. program_after shell_after y (heard_in ended.world p))) (shells_made s i d below)
 
   -- each has one
-  pub shells-there : (procs : List ProcName) → procs ≡ processes_of s.commands → All (λ p. IsSome (named programs p)) procs
-  shells-there procs are = subst (All (λ p. IsSome (named programs p))) (sym are) (λ i d below. subst IsSome (sym (shells-are i d below)) refl)
+  pub shells_there : (procs : List ProcName) → procs ≡ processes_of s.commands → All (λ p. IsSome (named programs p)) procs
+  shells_there procs are = subst (All (λ p. IsSome (named programs p))) (sym are) (λ i d below. subst IsSome (sym (shells_are i d below)) refl)
 
   -- their answers are those over what was heard
-  pub rows-are : ((p : ProcName) (heard : Heard) → shell_answers (program_after shell_after (shell_of s p) heard) ≡ answers s p heard)
+  pub rows_are : ((p : ProcName) (heard : Heard) → shell_answers (program_after shell_after (shell_of s p) heard) ≡ answers s p heard)
       → (procs : List ProcName) → procs ≡ processes_of s.commands → map (row_in programs) procs ≡ rows_of s (heard_in ended.world)
-  rows-are law procs are =
+  rows_are law procs are =
       ap (map (row_in programs)) are
-      ∙ same-rows (row_in programs) (λ p. record { proc = p; answers = answers s p (heard_in ended.world p) }) (processes_of s.commands)
+      ∙ same_rows (row_in programs) (λ p. record { proc = p; answers = answers s p (heard_in ended.world p) }) (processes_of s.commands)
       (λ i d below.
-          let p = slice_index_or (processes_of s.commands) i d in
-          ap (λ (texts : List (List ℕ)). record { proc = p; answers = texts }) (ap answers_by (shells-are i d below) ∙ law p (heard_in ended.world p)))
+      let p = slice_index_or (processes_of s.commands) i d in
+      ap (λ (texts : List (List ℕ)). record { proc = p; answers = texts }) (ap answers_by (shells_are i d below) ∙ law p (heard_in ended.world p)))
 
 -- laws of a script's run
 abbrev pub ArePlanned : Type 0
@@ -148,6 +148,9 @@ ArePlanned = (s : Content) (seed last : ℕ) → IsContent s → IsStart s.openi
 
 abbrev pub NameTheirNodes : Type 0
 NameTheirNodes = (s : Content) (seed last : ℕ) → IsContent s → IsStart s.opening → last ≤ 2 ^ 40 → (events : List Happening) → IsRunOf s seed last events → All (NamesNodes (length s.nodes)) events
+
+abbrev pub HaveHistories : (Content → List Happening → Type 0) → Type 0
+HaveHistories Has = (s : Content) (seed last : ℕ) → IsContent s → IsStart s.opening → last ≤ 2 ^ 40 → (events : List Happening) → IsRunOf s seed last events → Has s events
 
 abbrev pub HaveRepliesHeard : Type 0
 HaveRepliesHeard = (s : Content) (seed last : ℕ) → IsContent s → IsStart s.opening → last ≤ 2 ^ 40 → (events : List Happening) (run : IsRunOf s seed last events) → AreRepliesHeard s events run.picked.world
@@ -160,16 +163,18 @@ module _ (s : Content) (content : IsContent s) (start : IsStart s.opening) (seed
   }
 
   -- what came of the script
-  pub ran_is : HaveRepliesHeard → ((p : ProcName) (heard : Heard) → shell_answers (program_after shell_after (shell_of s p) heard) ≡ answers s p heard)
+  pub ran_is : HaveHistories FollowsScript → HaveHistories KeepsPhasesApart → HaveRepliesHeard → ((p : ProcName) (heard : Heard) → shell_answers (program_after shell_after (shell_of s p) heard) ≡ answers s p heard)
       → (procs : List ProcName) → procs ≡ processes_of s.commands → (rows : List AnswerRow) → map answers_in rows ≡ map (row_in programs) procs → IsRan s seed last (record { events = events; answers = rows })
-  ran_is heard answered procs are rows same = record {
+  ran_is follows phased heard answered procs are rows same = record {
     events = by_place ended.world.done;
     run = run_of;
+    follows = follows s seed last content start most (by_place ended.world.done) run_of;
+    phased = phased s seed last content start most (by_place ended.world.done) run_of;
     heard = heard s seed last content start most (by_place ended.world.done) run_of;
     by_place = ended.events_are;
-    answers = same ∙ rows-are s content seed last events programs ended answered procs are;
+    answers = same ∙ rows_are s content seed last events programs ended answered procs are;
   }
 
   -- each node that an event names has a name
   pub names_are : NameTheirNodes → All (Names (names_of s)) events
-  names_are named = subst (All (Names (names_of s))) (sym ended.events_are) (events-named s (by_place ended.world.done) (named s seed last content start most (by_place ended.world.done) run_of))
+  names_are named = subst (All (Names (names_of s))) (sym ended.events_are) (events_named s (by_place ended.world.done) (named s seed last content start most (by_place ended.world.done) run_of))

@@ -1,5 +1,5 @@
 //! The program: from its words and a script's bytes to the report and the journal.
-ghost use Rattle.std.specs.Prelude.{◌≡◌, ◌≢◌, ◌+◌, ◌^◌, ◌⊎◌, ℕ, List, map, string_bytes, IsTrue, IfOk, IfErr, IsErrOf, Some, codes};
+ghost use Rattle.std.specs.Prelude.{◌≡◌, ◌≢◌, ◌+◌, ◌⊎◌, ℕ, List, map, string_bytes, IsTrue, IfOk, IfErr, IsErrOf, Some};
 ghost use Rattle.dom_io.specs.Counts.{CountRose};
 ghost use Rattle.dom_io.specs.Known.{TakesAtMost, AppendsPrefix};
 ghost use Rattle.script_reader.specs.declared.cause.Cause.{Cause};
@@ -11,7 +11,7 @@ ghost use Rattle.script_runner.specs.DueTexts.{IsDueText, IsDueOf, IsEndOf};
 
 use crate::names::names_of;
 use crate::report::report;
-use crate::run::{Ran, run_script};
+use crate::run::run_script;
 use crate::words::words_asked;
 use dom_io::{ReadEnd, Sink, Source, read_all, write_all};
 use dom_text::put_decimal;
@@ -162,7 +162,8 @@ pub fn run_domain<S: Source, O: Sink, J: Sink>(
     ensures statuses { IsTrue (is_status result) }
 
     // The headline: what is written is the report and the journal of one run of the script's nodes, which is planned by its
-    // faults and which the turns of the words pick.
+    // faults and which the turns of the words pick. The history of the run follows the script's processes, each operation once
+    // and in order, and its phases never overlap.
     ensures run { result ≡ 0 → AddsRun (map string_bytes words.now) (S.left script.old)
         (record { before = O.held out.old; after = O.held out.new }) (record { before = J.held journal.old; after = J.held journal.new }) }
 

@@ -1,3 +1,5 @@
 pub mod ProcsWith
 pub mod SettingUp
 pub mod Running
+pub mod Driven
+pub mod Pacing

@@ -1,5 +1,5 @@
 -- The run of a script, as one of nodes.
-use Rattle.std.proofs.Common.{◌≡◌, ℕ, ◌≤◌, List, Option, Some, refl, sym, ap, subst, ◌∙◌, arith}
+use Rattle.std.proofs.Common.{◌≡◌, ℕ, ◌≤◌, true, List, Option, Some, refl, sym, ap, subst, ◌∙◌, arith}
 use Rattle.std.specs.Prelude.{◌^◌, map}
 use Rattle.uid_names.specs.Names.{ProcName}
 use Rattle.uid_names.proofs.Orders.{same_proc_is}
@@ -10,10 +10,11 @@ use Rattle.dom_history.specs.Follows.{Reaches, entries_of}
 use Rattle.dom_history.proofs.Names.{same_proc-refl}
 use Rattle.script_reader.specs.Scripts.{Content}
 use Rattle.aegis_shell.specs.Asking.{ask}
-use Rattle.node_runs.specs.NodeStates.{NodeState, proc_of}
+use Rattle.node_runs.specs.NodeStates.{NodeState, proc_of, is_ended}
 use Rattle.node_runs.specs.NodesKeep.{IsTimely}
 use Rattle.node_runs.specs.Deliveries.{IsPlanned}
-use Rattle.node_runs.specs.Runs.{World, world_of}
+use Rattle.node_runs.specs.Setups.{given}
+use Rattle.node_runs.specs.Runs.{World, HasEnded, world_of}
 use Rattle.node_runs.specs.RunHistories.{history_in, history_if}
 use Rattle.world_runs.specs.ByPlace.{by_place, IsLike}
 use Rattle.world_runs.specs.Draws.{EndsIn}
@@ -52,6 +53,9 @@ LedTo s events w = (v : World) × (world_of (setup_of s) events ≡ Some v) × I
 module _ (s : Content) (seed last : ℕ) (most : last ≤ 2 ^ 40) (events : List Happening) (run : IsRunOf s seed last events) (led : LedTo s events run.picked.world) where
   pub led-timely : IsTimely led.0
   led-timely n = subst (λ (x : NodeState). x.tick ≤ 2 ^ 40) (led.2.nodes n) (let b = run.picked.ends.below n in omega (arith, b, most))
+
+  pub led-ended : HasEnded (setup_of s) run.picked.world → HasEnded (setup_of s) led.0
+  led-ended ended n node = subst (λ (x : NodeState). is_ended (given (setup_of s) n) x ≡ true) (led.2.nodes n) (ended n node)
 
   name : (p : ProcName) → proc_at p.node p.number ≡ p
   name p = same_proc_is (proc_at p.node p.number) p (same_proc-refl p)

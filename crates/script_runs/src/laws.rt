@@ -2,22 +2,24 @@
 ghost use Rattle.std.specs.Prelude.{◌≡◌, ◌⊎◌, ℕ, ◌^◌, ◌≤◌, List, length, All};
 ghost use Rattle.uid_names.specs.Openings.{IsStart};
 ghost use Rattle.dom_history.specs.Events.{Happening};
-ghost use Rattle.dom_history.specs.Follows.{Follows};
+ghost use Rattle.dom_history.specs.Follows.{IsEnded};
 ghost use Rattle.script_reader.specs.Scripts.{Content, IsContent};
 ghost use Rattle.aegis_shell.specs.Asking.{ask};
 ghost use Rattle.node_runs.specs.Setups.{IsSetup};
-ghost use Rattle.node_runs.specs.Runs.{World};
+ghost use Rattle.node_runs.specs.Runs.{World, HasEnded};
 ghost use Rattle.world_runs.specs.ByPlace.{by_place};
 ghost use Rattle.world_runs.specs.Draws.{EndsIn};
 ghost use Rattle.world_runs.specs.Picked.{IsPicked};
 ghost use Rattle.world_runs.specs.NamedNodes.{NamesNodes};
+ghost use Rattle.run_phases.specs.Paced.{ArePaced};
 ghost use Rattle.script_runs.specs.Setups.{setup_of};
 ghost use Rattle.script_runs.specs.Runs.{IsRunOf, ComesToTick};
 ghost use Rattle.script_runs.specs.Reports.{report_of};
-ghost use Rattle.script_runs.specs.Histories.{script_history, AreRepliesHeard, AreAskedHeard};
+ghost use Rattle.script_runs.specs.Histories.{script_history, FollowsScript, KeepsPhasesApart, AreRepliesHeard, AreAskedHeard};
 
-use aegis_shell::laws::asks_are_in_range;
+use aegis_shell::laws::{asks_are_in_range, shells_go_by_all_they_heard};
 use run_calls::laws::{entries_are_what_programs_heard, histories_follow_programs};
+use run_phases::laws::{ended_runs_have_ended_histories, phases_never_overlap};
 use world_runs::laws::{a_seed_picks_one_run, events_name_nodes, turns_end};
 
 /// What a script gives its nodes is a set-up, of which runs can be spoken.
@@ -72,9 +74,37 @@ pub fn entries_are_what_scripts_heard()
 /// The history of a script's run follows the script: each process did what the script gives it to do, each once and in order.
 pub fn histories_follow_scripts()
     ensures { (s : Content) (seed last : ℕ) → IsContent s → IsStart s.opening → last ≤ 2 ^ 40 → (events : List Happening) →
-        IsRunOf s seed last events → Follows (ask s) (script_history s events) }
+        IsRunOf s seed last events → FollowsScript s events }
 {
     scripts_set_nodes_up();
     a_seed_picks_one_run();
     histories_follow_programs();
+}
+
+/// No process of a script wants a phase behind the script's last one, and one without a command wants nothing.
+pub fn scripts_are_paced()
+    ensures { (s : Content) → IsContent s → ArePaced (setup_of s) }
+{
+    shells_go_by_all_they_heard();
+}
+
+/// In the history of a script's run no entry stands before one of a smaller phase, over all processes.
+pub fn histories_are_phased()
+    ensures { (s : Content) (seed last : ℕ) → IsContent s → IsStart s.opening → last ≤ 2 ^ 40 → (events : List Happening) →
+        IsRunOf s seed last events → KeepsPhasesApart s events }
+{
+    scripts_set_nodes_up();
+    a_seed_picks_one_run();
+    phases_never_overlap();
+}
+
+/// Where all nodes of a script's run have ended, its history has: nothing is open, and each process has come to its end.
+pub fn ended_nodes_end_histories()
+    ensures { (s : Content) (seed last : ℕ) → IsContent s → IsStart s.opening → last ≤ 2 ^ 40 → (events : List Happening) →
+        (run : IsRunOf s seed last events) → HasEnded (setup_of s) run.picked.world → IsEnded (ask s) (script_history s events) }
+{
+    scripts_set_nodes_up();
+    scripts_are_paced();
+    a_seed_picks_one_run();
+    ended_runs_have_ended_histories();
 }

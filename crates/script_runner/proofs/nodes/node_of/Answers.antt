@@ -16,7 +16,7 @@ pub new-requires-2-clause-numbers : goal.new-requires-2-clause-numbers
 new-requires-2-clause-numbers c =
     let s = c.args.script.now in
     let are : c.in_ok-shells.shells.items ≡ shells_among c.args.script.now c.args.node (processes_of c.args.script.now.commands) =
-        c.in_ok-shells.ensures ∙ ap (shells_among c.args.script.now c.args.node) c.requires.procs in
+    c.in_ok-shells.ensures ∙ ap (shells_among c.args.script.now c.args.node) c.requires.procs in
     let low : 1 ≤ c.args.node = omega (arith, c.number.ensures.least, c.number.ensures.value) in
     subst (λ shells. ArePrograms (numbers_in shells)) (sym are)
     (are_programs s c.opening.ensures.content c.args.node low c.requires.node

@@ -14,8 +14,7 @@ loop-i-preserved c =
     let nodes = c.loop-i.nodes.items in
     let x = c.in_ok-node_of-in-Some.field-0 in
     let items : c.push.new.self.items ≡ c.loop-i.nodes.items ++ c.in_ok-node_of-in-Some.field-0 ∷ [] = search (rules, c.in_ok-push-in-Some.ensures.items) in
-    let count : length c.loop-i.nodes.items ≡ c.loop-i.i = c.loop-i.invariant.0 in
-    (
+    let count : length c.loop-i.nodes.items ≡ c.loop-i.i = c.loop-i.invariant.0 in (
       ap length items ∙ (length_push nodes x ∙ ap (λ k. k + 1) count),
       λ n y is.
           push_each (λ k z. IsFirstNode s (k + 1) z) nodes x c.loop-i.invariant.1
