@@ -161,8 +161,8 @@ same-open (Some o) (Some r) same is = by o.awaits r.awaits same.1 (subst (λ (b 
     by (Await.Page u k) (Await.Page v j) same is = tt
 
 node-home : (g : Given) (n : NodeState) (incoming : Incoming) (s : Stepped) → NodeMove g n incoming s → AreOpenAtHomes n → AreOpenAtHomes s.node
-node-home g n incoming s (still desk same quiet) at q other = same-open (proc_of n q).doing (proc_of s.node q).doing (same q other) (at q other)
-node-home g n incoming s (moved p o stage m proc continues made desk doing others note) at q other = elim (cases_eq q p) [
+node-home g n incoming s (still desk same quiet uncalled) at q other = same-open (proc_of n q).doing (proc_of s.node q).doing (same q other) (at q other)
+node-home g n incoming s (moved p o stage m proc continues made desk doing others note call side) at q other = elim (cases_eq q p) [
   | inl there ↦ subst (λ r. IsOpenAtHome (proc_of s.node r).doing) (sym there) (subst IsOpenAtHome (sym doing) (turn-open o (proc_of n p) m.turn (move-home g.opening incoming (proc_of n p).doing stage n.desk p o.op m made)))
   | inr beside ↦ subst (λ (x : ProcState). IsOpenAtHome x.doing) (sym (others q other beside)) (at q other)
 ]

@@ -242,9 +242,9 @@ module _ (g : Given) (n : NodeState) (incoming : Incoming) (four : length n.proc
   turned-node p proc o stage to at made = by to.turn made
     where
       by : (turn : Turn) → OpMove g.opening incoming (proc_of n p).doing stage n.desk p o.op (record to { turn = turn }) → NodeMove g n incoming (moved_by_op g n p o stage (record to { turn = turn }))
-      by (Turn.Ends reply) made = moved p o stage (record to { turn = Turn.Ends reply }) proc at made refl (ap (λ (q : ProcState). q.doing) (at-put_same n.procs p _ first_proc four proc)) (λ q other differs. at-put_other n.procs p q _ first_proc proc other differs) refl
-      by (Turn.Asks home ask) made = moved p o stage (record to { turn = Turn.Asks home ask }) proc at made refl (ap (λ (q : ProcState). q.doing) (at-put_same n.procs p _ first_proc four proc)) (λ q other differs. at-put_other n.procs p q _ first_proc proc other differs) refl
-      by (Turn.Waits u k) made = moved p o stage (record to { turn = Turn.Waits u k }) proc at made refl (ap (λ (q : ProcState). q.doing) (at-put_same n.procs p _ first_proc four proc)) (λ q other differs. at-put_other n.procs p q _ first_proc proc other differs) refl
+      by (Turn.Ends reply) made = moved p o stage (record to { turn = Turn.Ends reply }) proc at made refl (ap (λ (q : ProcState). q.doing) (at-put_same n.procs p _ first_proc four proc)) (λ q other differs. at-put_other n.procs p q _ first_proc proc other differs) refl refl refl
+      by (Turn.Asks home ask) made = moved p o stage (record to { turn = Turn.Asks home ask }) proc at made refl (ap (λ (q : ProcState). q.doing) (at-put_same n.procs p _ first_proc four proc)) (λ q other differs. at-put_other n.procs p q _ first_proc proc other differs) refl refl refl
+      by (Turn.Waits u k) made = moved p o stage (record to { turn = Turn.Waits u k }) proc at made refl (ap (λ (q : ProcState). q.doing) (at-put_same n.procs p _ first_proc four proc)) (λ q other differs. at-put_other n.procs p q _ first_proc proc other differs) refl refl refl
 
   next-procs : (b : Bool) (x : NodeState) → x.procs ≡ n.procs → (in_next_phase b x).procs ≡ n.procs
   next-procs true x same = same
@@ -254,11 +254,11 @@ module _ (g : Given) (n : NodeState) (incoming : Incoming) (four : length n.proc
   next-desk true x same = same
   next-desk false x same = same
 
-  phase-still : (s : Stepped) (b : Bool) (x : NodeState) → s.node ≡ in_next_phase b x → x.procs ≡ n.procs → x.desk ≡ n.desk → s.note ≡ Note.Nothing → NodeMove g n incoming s
-  phase-still s b x is procs desk none =
+  phase-still : (s : Stepped) (b : Bool) (x : NodeState) → s.node ≡ in_next_phase b x → x.procs ≡ n.procs → x.desk ≡ n.desk → s.note ≡ Note.Nothing → s.call ≡ None → NodeMove g n incoming s
+  phase-still s b x is procs desk none uncalled =
       still (ap (λ (y : NodeState). y.desk) is ∙ next-desk b x desk)
       (λ q other. subst (λ (y : ProcState). IsSameDoing (proc_of n q).doing y.doing) (sym (ap (λ (y : NodeState). proc_of y q) is ∙ ap (λ ps. at ps q first_proc) (next-procs b x procs))) (same-doing (proc_of n q).doing))
-      (subst IsApart (sym none) tt)
+      (subst IsApart (sym none) tt) uncalled
 
 served-apart : (how : Looked) (p : ProcName) (number : ℕ) (ask : Ask) (answer : Answer) → IsApart (served_note how p number ask answer)
 served-apart Fresh p number ask answer = tt
@@ -267,8 +267,8 @@ served-apart Old p number ask answer = tt
 
 -- what an event did to the desk of its node
 pub did-desk : (g : Given) → IsGiven g → ((p : ℕ) → has_program g p ≡ true → IsProc p) → (n : NodeState) → IsNodeOf g n → (what : What) (incoming : Incoming) (s : Stepped) → IsIncoming incoming → Did g n what incoming s → NodeMove g n incoming s
-did-desk g given procs n is what incoming s frame (paused p has none want) = still refl (put-same g n incoming is.four p (procs p has) _ _ refl (same-doing (proc_of n p).doing)) tt
-did-desk g given procs n is what incoming s frame (finished p has none want) = still refl (put-same g n incoming is.four p (procs p has) _ _ refl (same-doing (proc_of n p).doing)) tt
+did-desk g given procs n is what incoming s frame (paused p has none want) = still refl (put-same g n incoming is.four p (procs p has) _ _ refl (same-doing (proc_of n p).doing)) tt refl
+did-desk g given procs n is what incoming s frame (finished p has none want) = still refl (put-same g n incoming is.four p (procs p has) _ _ refl (same-doing (proc_of n p).doing)) tt refl
 did-desk g given procs n is what incoming s frame (began p op to has none want way) =
     let proc = procs p has in
     let range : IsOp op = subst IsWant want (given.wants p (proc_of n p).heard (is.followed p proc).named) in
@@ -280,24 +280,24 @@ did-desk g given procs n is what incoming s frame (resumed p o u k accessed to h
     turned-node g n incoming is.four p proc o Stage.Resumes to (subst (λ x. IsAt x o Stage.Resumes) (sym doing) refl)
     (resumed-turn g.opening incoming (proc_of n p).doing n.desk p is.desk proc o.op accessed to agrees.1.idle agrees.0 goes way)
 did-desk g given procs n is what incoming s frame (served from index m ask answer sender receiver asks answers) =
-    still refl (λ q other. same-doing (proc_of n q).doing) (served-apart (looked m.number (last_of (caller_of m) n.side.served)) (caller_of m) m.number ask answer)
-did-desk g given procs n is what incoming s frame (passed_over from index m ask sender receiver asks none) = still refl (λ q other. same-doing (proc_of n q).doing) tt
+    still refl (λ q other. same-doing (proc_of n q).doing) (served-apart (looked m.number (last_of (caller_of m) n.side.served)) (caller_of m) m.number ask answer) refl
+did-desk g given procs n is what incoming s frame (passed_over from index m ask sender receiver asks none) = still refl (λ q other. same-doing (proc_of n q).doing) tt refl
 did-desk g given procs n is what incoming s frame (heard from index m o c said to sender receiver asks doing same says way) =
     let proc : IsProc m.proc = (frame.range.proc_low, frame.range.proc_high) in
     let agrees = subst (Agrees n.desk m.proc (proc_of n m.proc).last) doing (is.agrees m.proc proc) in
     let number : c.waiting.number ≡ m.number = sym (equal m.number c.waiting.number same) in
     turned-node g n incoming is.four m.proc proc o (stage_of m.number said) to (subst (λ x. IsAt x o (stage_of m.number said)) (sym doing) (said-at o c m.number number said))
     (heard-turn g.opening incoming (proc_of n m.proc).doing n.desk m.proc is.desk proc o.op c.ask m said to refl refl (subst (IsOpenNumber m.number) (sym doing) number) agrees.1.0 (subst (λ k. IsBody k m.body) (receiver ∙ sym is.own.node) frame.range.body) says way)
-did-desk g given procs n is what incoming s frame (ignored from index m sender receiver asks) = still refl (λ q other. same-doing (proc_of n q).doing) tt
+did-desk g given procs n is what incoming s frame (ignored from index m sender receiver asks) = still refl (λ q other. same-doing (proc_of n q).doing) tt refl
 did-desk g given procs n is what incoming s frame (resent p from to index number tick o c has doing same answer) =
-    still refl (put-same g n incoming is.four p (procs p has) _ _ refl (subst (λ x. IsSameDoing x (asking o (noticed_call c))) (sym doing) (refl, (refl, refl)))) tt
+    still refl (put-same g n incoming is.four p (procs p has) _ _ refl (subst (λ x. IsSameDoing x (asking o (noticed_call c))) (sym doing) (refl, (refl, refl)))) tt refl
 did-desk g given procs n is what incoming s frame (gave_up p from to index number tick o c into has doing same answer fails) =
     let proc = procs p has in
     let agrees = subst (Agrees n.desk p (proc_of n p).last) doing (is.agrees p proc) in
     turned-node g n incoming is.four p proc o (Stage.Settles c.waiting.number) into (subst (λ x. IsAt x o (Stage.Settles c.waiting.number)) (sym doing) (refl, refl))
     (gave_up-turn g.opening incoming (proc_of n p).doing n.desk p is.desk proc c.waiting.number o.op c.ask into agrees.1.0 fails)
-did-desk g given procs n is what incoming s frame (got_ready phase may) = let x = record n { ready = true } in phase-still g n incoming is.four s (x.ready && others_marked g x) x refl refl refl refl
-did-desk g given procs n is what incoming s frame (marked from phase tick may) = let x = record n { marks = (from, phase) ∷ n.marks } in phase-still g n incoming is.four s (x.ready && others_marked g x) x refl refl refl refl
+did-desk g given procs n is what incoming s frame (got_ready phase may) = let x = record n { ready = true } in phase-still g n incoming is.four s (x.ready && others_marked g x) x refl refl refl refl refl
+did-desk g given procs n is what incoming s frame (marked from phase tick may) = let x = record n { marks = (from, phase) ∷ n.marks } in phase-still g n incoming is.four s (x.ready && others_marked g x) x refl refl refl refl refl
 
 -- so each step of a node
 pub step-desk : (g : Given) (n : NodeState) (what : What) (incoming : Incoming) (dropped : List (ObjectName × ℕ)) (s : Stepped) → IsGiven g → IsNodeOf g n → IsIncoming incoming → step_of g n what incoming dropped ≡ Some s → NodeMove g (ticked n incoming) incoming s

@@ -236,7 +236,7 @@ module _ (moving : Option Transit) where
   call-fault op task ask (LockCall.Remove u) of request = subst (λ o. IsFaultOf o ask replies.Doubt) (sym of) (remove-fault u ask request)
 
 -- the request of an operation with a call of its desk
-op-request : (d : DeskState) (p : ℕ) (op : Op) (ask : Ask) (o : OpenCall) → open_call_of d p ≡ Some o → IsCallOf op (task_of d p) (Some o) → IsCalling d p op ask → IsRequestOf (moving_of d p) o ask
+pub op-request : (d : DeskState) (p : ℕ) (op : Op) (ask : Ask) (o : OpenCall) → open_call_of d p ≡ Some o → IsCallOf op (task_of d p) (Some o) → IsCalling d p op ask → IsRequestOf (moving_of d p) o ask
 op-request d p op ask o opened of calling = by op calling
   where
     asked : IsCallOpen d p op ask → IsRequestOf (moving_of d p) o ask
@@ -366,8 +366,8 @@ module _ (g : Given) (n : NodeState) (incoming : Incoming) (s : Stepped) (is : I
   apart-ended (Note.Ended t) quiet = absurd quiet
 
   pub node-ended : NodeMove g n incoming s → IsEnded g n incoming s.note
-  node-ended (still desk same quiet) = apart-ended s.note quiet
-  node-ended (moved p o stage m proc at made desk doing others note) = subst (IsEnded g n incoming) (sym note) (by m.turn refl)
+  node-ended (still desk same quiet uncalled) = apart-ended s.note quiet
+  node-ended (moved p o stage m proc at made desk doing others note call side) = subst (IsEnded g n incoming) (sym note) (by m.turn refl)
     where
       by : (turn : Turn) → m.turn ≡ turn → IsEnded g n incoming (turn_note stage (name_of g p) (proc_of n p).phase o turn)
       by (Turn.Ends reply) ends = desk-ends p proc o m reply ends stage made at

@@ -277,8 +277,8 @@ module _ (g : Given) (n : NodeState) (incoming : Incoming) (s : Stepped) (is : I
   other-carries p proc o stage m (moves c may of at_stage taken made) q other differs = await-moves c m.turn p proc q other differs n.desk m.desk m.dropped is.desk made.moves (proc_of n q).doing (carried q other)
 
   node-carries : NodeMove g n incoming s → AreCarried s.node
-  node-carries (still desk same quiet) q other = subst (λ d. CarriesOpen d q (proc_of s.node q).doing) (sym desk) (same-carries n.desk q (proc_of n q).doing (proc_of s.node q).doing (same q other) (carried q other))
-  node-carries (moved p o stage m proc continues made desk doing others note) q other = elim (cases_eq q p) [
+  node-carries (still desk same quiet uncalled) q other = subst (λ d. CarriesOpen d q (proc_of s.node q).doing) (sym desk) (same-carries n.desk q (proc_of n q).doing (proc_of s.node q).doing (same q other) (carried q other))
+  node-carries (moved p o stage m proc continues made desk doing others note call side) q other = elim (cases_eq q p) [
     | inl there ↦ subst (λ r. CarriesOpen s.node.desk r (proc_of s.node r).doing) (sym there) (subst (CarriesOpen s.node.desk p) (sym doing) (own-carries p proc o stage m made desk doing))
     | inr beside ↦ subst (λ (x : ProcState). CarriesOpen s.node.desk q x.doing) (sym (others q other beside)) (subst (λ d. CarriesOpen d q (proc_of n q).doing) (sym desk) (other-carries p proc o stage m made q other beside))
   ]

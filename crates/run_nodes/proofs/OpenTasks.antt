@@ -224,8 +224,8 @@ module _ (g : Given) (n : NodeState) (incoming : Incoming) (s : Stepped) (is : I
   other-within p proc o stage m (moves c may of at_stage taken made) q other differs = task-moves c m.turn p proc q other differs n.desk m.desk m.dropped is.desk made.moves (within q other)
 
   node-within : NodeMove g n incoming s → AreTasksWithin s.node.desk
-  node-within (still desk same quiet) q other = subst (λ (d : DeskState). IfSome (task_of d q) (IsTaskWithin d.known)) (sym desk) (within q other)
-  node-within (moved p o stage m proc continues made desk doing others note) q other = elim (cases_eq q p) [
+  node-within (still desk same quiet uncalled) q other = subst (λ (d : DeskState). IfSome (task_of d q) (IsTaskWithin d.known)) (sym desk) (within q other)
+  node-within (moved p o stage m proc continues made desk doing others note call side) q other = elim (cases_eq q p) [
     | inl there ↦ subst (λ r. IfSome (task_of s.node.desk r) (IsTaskWithin s.node.desk.known)) (sym there) (own-within p proc o stage m made desk doing)
     | inr beside ↦ subst (λ (d : DeskState). IfSome (task_of d q) (IsTaskWithin d.known)) (sym desk) (other-within p proc o stage m made q other beside)
   ]

@@ -187,8 +187,8 @@ module _ (g : Given) (n : NodeState) (incoming : Incoming) (s : Stepped) (is : I
       subst (IsPlacedAt m.desk q (proc_of n q).doing) (sym same.task) (placed-same n.desk m.desk q (proc_of n q).doing (proc_of n q).doing (task_of n.desk q) same.maps (same-doing (proc_of n q).doing) (placed q other))
 
   node-placed : NodeMove g n incoming s → AreTasksPlaced s.node
-  node-placed (still desk same quiet) q other = subst (λ d. IsPlacedAt d q (proc_of s.node q).doing (task_of d q)) (sym desk) (placed-same n.desk n.desk q (proc_of n q).doing (proc_of s.node q).doing (task_of n.desk q) refl (same q other) (placed q other))
-  node-placed (moved p o stage m proc continues made desk doing others note) q other = elim (cases_eq q p) [
+  node-placed (still desk same quiet uncalled) q other = subst (λ d. IsPlacedAt d q (proc_of s.node q).doing (task_of d q)) (sym desk) (placed-same n.desk n.desk q (proc_of n q).doing (proc_of s.node q).doing (task_of n.desk q) refl (same q other) (placed q other))
+  node-placed (moved p o stage m proc continues made desk doing others note call side) q other = elim (cases_eq q p) [
     | inl there ↦ subst (λ r. IsPlacedAt s.node.desk r (proc_of s.node r).doing (task_of s.node.desk r)) (sym there)
         (subst (λ x. IsPlacedAt s.node.desk p x (task_of s.node.desk p)) (sym doing) (own-placed p proc o stage m (at-continued (proc_of n p).doing o stage continues) made desk doing))
     | inr beside ↦ subst (λ (x : ProcState). IsPlacedAt s.node.desk q x.doing (task_of s.node.desk q)) (sym (others q other beside))

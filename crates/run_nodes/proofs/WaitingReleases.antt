@@ -310,8 +310,8 @@ module _ (g : Given) (n : NodeState) (incoming : Incoming) (s : Stepped) (now : 
       subst (λ es. IsOpenRelease es (proc_of n q).doing) (sym (moves-beside c m.turn p q proc other differs n.desk m.desk m.dropped made.moves).entries) (open_ones q other)
 
   node-release : NodeMove g n incoming s → AreOpenReleases s.node
-  node-release (still desk same quiet) q other = subst (λ d. IsOpenRelease (entries_of d q) (proc_of s.node q).doing) (sym desk) (same-release (entries_of n.desk q) (proc_of n q).doing (proc_of s.node q).doing (same q other) (open_ones q other))
-  node-release (moved p o stage m proc at made desk doing others note) q other = elim (cases_eq q p) [
+  node-release (still desk same quiet uncalled) q other = subst (λ d. IsOpenRelease (entries_of d q) (proc_of s.node q).doing) (sym desk) (same-release (entries_of n.desk q) (proc_of n q).doing (proc_of s.node q).doing (same q other) (open_ones q other))
+  node-release (moved p o stage m proc at made desk doing others note call side) q other = elim (cases_eq q p) [
     | inl there ↦ subst (λ r. IsOpenRelease (entries_of s.node.desk r) (proc_of s.node r).doing) (sym there) (subst (IsOpenRelease (entries_of s.node.desk p)) (sym doing) (own-release p proc o stage m made desk doing))
     | inr beside ↦ subst (λ (x : ProcState). IsOpenRelease (entries_of s.node.desk q) x.doing) (sym (others q other beside)) (subst (λ d. IsOpenRelease (entries_of d q) (proc_of n q).doing) (sym desk) (other-release p proc o stage m made q other beside))
   ]

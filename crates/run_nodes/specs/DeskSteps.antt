@@ -16,7 +16,7 @@ use Rattle.fault_handler.specs.Invariant.{IsProc}
 use Rattle.desk_laws.specs.Causes.{Cause, MayCome, IsOf}
 use Rattle.desk_laws.specs.Turns.{IsMade}
 use Rattle.node_runs.specs.Setups.{Given}
-use Rattle.node_runs.specs.NodeStates.{Await, BegunOp, OpenOp, ProcState, NodeState, proc_of, name_of}
+use Rattle.node_runs.specs.NodeStates.{Asked, Await, BegunOp, OpenOp, ProcState, NodeState, proc_of, name_of}
 use Rattle.node_runs.specs.Operations.{Said, said_to_new, said_to_list}
 use Rattle.node_runs.specs.Incomings.{Incoming}
 use Rattle.node_runs.specs.Notes.{Note}
@@ -119,10 +119,16 @@ turn_note stage p phase o (Turn.Ends reply) = end_note stage p phase o reply
 turn_note stage p phase o (Turn.Asks home ask) = open_note stage p o
 turn_note stage p phase o (Turn.Waits u k) = open_note stage p o
 
+-- the call that it makes
+abbrev pub turn_call : ℕ → ProcState → Turn → Option (ℕ × Asked)
+turn_call p q (Turn.Ends reply) = None
+turn_call p q (Turn.Asks home ask) = Some (p, next_call q home ask)
+turn_call p q (Turn.Waits u k) = None
+
 -- an event that leaves the desk and what processes await; or one process's operation moves the desk, and the others await
--- what they did
+-- what they did. Then the home side of the node stays
 pub data NodeMove (g : Given) (n : NodeState) (incoming : Incoming) (s : Stepped) : Type 0 where
-  still : s.node.desk ≡ n.desk → ((q : ℕ) → IsProc q → IsSameDoing (proc_of n q).doing (proc_of s.node q).doing) → IsApart s.note → NodeMove g n incoming s
+  still : s.node.desk ≡ n.desk → ((q : ℕ) → IsProc q → IsSameDoing (proc_of n q).doing (proc_of s.node q).doing) → IsApart s.note → s.call ≡ None → NodeMove g n incoming s
   moved : (p : ℕ) (o : BegunOp) (stage : Stage) (m : Moved) → IsProc p → IsAt (proc_of n p).doing o stage → OpMove g.opening incoming (proc_of n p).doing stage n.desk p o.op m
       → s.node.desk ≡ m.desk → (proc_of s.node p).doing ≡ doing_after o (proc_of n p) m.turn → ((q : ℕ) → IsProc q → q ≢ p → proc_of s.node q ≡ proc_of n q)
-      → s.note ≡ turn_note stage (name_of g p) (proc_of n p).phase o m.turn → NodeMove g n incoming s
+      → s.note ≡ turn_note stage (name_of g p) (proc_of n p).phase o m.turn → s.call ≡ turn_call p (proc_of n p) m.turn → s.node.side ≡ n.side → NodeMove g n incoming s

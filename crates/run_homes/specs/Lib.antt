@@ -1,0 +1,2 @@
+pub mod DecidedEffects
+pub mod HistoryHomes

@@ -1,0 +1,13 @@
+//! Laws of homes. Each stands on a function without a body, so that the check proves it.
+ghost use Rattle.std.specs.Prelude.{◌≡◌, Some, List};
+ghost use Rattle.node_runs.specs.Setups.{Setup, IsSetup};
+ghost use Rattle.node_runs.specs.NodesKeep.{IsTimely};
+ghost use Rattle.node_runs.specs.Runs.{Choice, World, world_after};
+ghost use Rattle.run_homes.specs.HistoryHomes.{AreHomesAlways};
+
+/// In every run in which no tick is above 2^40, at each place of its history: what homes did by what stands before is what they
+/// decided up to there, in that order; the lock rows that it leaves are those of the homes, row for row, and no two of them
+/// conflict; and the objects that are present are those of the homes.
+pub fn homes_have_what_the_history_says()
+    ensures { (s : Setup) → IsSetup s → (cs : List Choice) (w : World) → world_after s cs ≡ Some w → IsTimely w → AreHomesAlways s w }
+{}
