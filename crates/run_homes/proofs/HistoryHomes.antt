@@ -30,7 +30,7 @@ pub each-behind : {A : Type 0} (P : A → Type 0) (xs ys : List A) → EachOf P 
 each-behind P [] ys each = each
 each-behind P (x ∷ xs) ys each = each-behind P xs ys each.1
 
-answered-behind : (s : Setup) (xs ys : List Noted) → AreAnswered s (xs ++ ys) → AreAnswered s ys
+pub answered-behind : (s : Setup) (xs ys : List Noted) → AreAnswered s (xs ++ ys) → AreAnswered s ys
 answered-behind s [] ys are = are
 answered-behind s (x ∷ xs) ys are = answered-behind s xs ys are.1
 
@@ -40,7 +40,7 @@ asked-home None home ask at is = absurd is
 asked-home (Some k) home ask at is = subst (IsAtHome home) is.1 (subst (λ h. IsAtHome h k.ask) is.0 at)
 
 module _ (w : World) (at : AreCallsAtHomes w) where
-  meant-at : (x : Place) (note : Note) → IsDecided w x note → IsMeantAt x.node note
+  pub meant-at : (x : Place) (note : Note) → IsDecided w x note → IsMeantAt x.node note
   meant-at x Note.Nothing decided = tt
   meant-at x (Note.Began q op) decided = tt
   meant-at x (Note.Did q phase op reply) decided = tt

@@ -3,3 +3,5 @@ pub mod HomeRows
 pub mod HomeEffects
 pub mod Presence
 pub mod HistoryHomes
+pub mod HomeWords
+pub mod ToldRooms

@@ -222,7 +222,7 @@ said-at o c number is (Said.ToAccess answer) = refl
 said-at o c number is (Said.ToLock answer) = (refl, is)
 
 same-await : (a : Await) → IsSameAwait a a
-same-await (Await.Answer c) = (refl, refl)
+same-await (Await.Answer c) = (refl, refl, refl)
 same-await (Await.Page u k) = (refl, refl)
 
 pub same-doing : (o : Option OpenOp) → IsSameDoing o o
@@ -290,7 +290,7 @@ did-desk g given procs n is what incoming s frame (heard from index m o c said t
     (heard-turn g.opening incoming (proc_of n m.proc).doing n.desk m.proc is.desk proc o.op c.ask m said to refl refl (subst (IsOpenNumber m.number) (sym doing) number) agrees.1.0 (subst (λ k. IsBody k m.body) (receiver ∙ sym is.own.node) frame.range.body) says way)
 did-desk g given procs n is what incoming s frame (ignored from index m sender receiver asks) = still refl (λ q other. same-doing (proc_of n q).doing) tt refl
 did-desk g given procs n is what incoming s frame (resent p from to index number tick o c has doing same answer) =
-    still refl (put-same g n incoming is.four p (procs p has) _ _ refl (subst (λ x. IsSameDoing x (asking o (noticed_call c))) (sym doing) (refl, (refl, refl)))) tt refl
+    still refl (put-same g n incoming is.four p (procs p has) _ _ refl (subst (λ x. IsSameDoing x (asking o (noticed_call c))) (sym doing) (refl, (refl, refl, refl)))) tt refl
 did-desk g given procs n is what incoming s frame (gave_up p from to index number tick o c into has doing same answer fails) =
     let proc = procs p has in
     let agrees = subst (Agrees n.desk p (proc_of n p).last) doing (is.agrees p proc) in

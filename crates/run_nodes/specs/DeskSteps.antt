@@ -95,9 +95,9 @@ doing_after o q (Turn.Ends reply) = None
 doing_after o q (Turn.Asks home ask) = asking o (next_call q home ask)
 doing_after o q (Turn.Waits u k) = waiting o u k
 
--- an open operation awaits the same still: its call asks the same of the same home
+-- an open operation awaits the same still: its call is the same one, and asks the same of the same home
 abbrev pub IsSameAwait : Await → Await → Type 0
-IsSameAwait (Await.Answer c) (Await.Answer k) = (k.home ≡ c.home) × (k.ask ≡ c.ask)
+IsSameAwait (Await.Answer c) (Await.Answer k) = (k.home ≡ c.home) × (k.ask ≡ c.ask) × (k.waiting.number ≡ c.waiting.number)
 IsSameAwait (Await.Page u k) (Await.Page v j) = (v ≡ u) × (j ≡ k)
 IsSameAwait a b = ⊥
 
