@@ -7,3 +7,7 @@ pub mod OpenTasks
 pub mod Released
 pub mod AskedHomes
 pub mod TaskPlaces
+pub mod WaitingReleases
+pub mod EndedOps
+pub mod ToldAnswers
+pub mod KeptLocks

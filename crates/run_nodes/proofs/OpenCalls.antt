@@ -37,7 +37,7 @@ use Rattle.desk_laws.proofs.DeskStays.{moves-desk}
 use Rattle.node_runs.specs.Setups.{Setup, IsSetup, Given, IsGiven, given}
 use Rattle.node_runs.specs.NodeStates.{Await, BegunOp, OpenOp, ProcState, NodeState, first_node, proc_of}
 use Rattle.node_runs.specs.Incomings.{Incoming}
-use Rattle.node_runs.specs.Outcomes.{Stepped}
+use Rattle.node_runs.specs.Outcomes.{Stage, Stepped}
 use Rattle.node_runs.specs.Doings.{ticked}
 use Rattle.node_runs.specs.Steps.{step_of}
 use Rattle.node_runs.specs.Agreements.{IsCalling, Agrees}
@@ -50,9 +50,9 @@ use Rattle.node_runs.proofs.Reaching.{step_of-keeps, Reached-keeps}
 use Rattle.node_runs.proofs.Calls.{put-same, put-other}
 use Rattle.node_runs.proofs.SettingUp.{setup-gives, setup-procs}
 use Rattle.run_calls.proofs.HearingRuns.{IsKeptNext, every-kept-run}
-use Rattle.run_nodes.specs.DeskSteps.{IsHomeTurn, OpMove, apart, moves, doing_after, IsSameAwait, IsSameDoing, NodeMove, still, moved}
+use Rattle.run_nodes.specs.DeskSteps.{IsHomeAsk, IsHomeTurn, OpMove, apart, moves, doing_after, IsSameAwait, IsSameDoing, NodeMove, still, moved}
 use Rattle.run_nodes.specs.OpenCalls.{writes_under, is_writing_grant, HasSent, Carries, CarriesAwait, CarriesOpen, AreCarried}
-use Rattle.run_nodes.proofs.DeskSteps.{step-desk}
+use Rattle.run_nodes.proofs.DeskSteps.{home-asks, step-desk}
 use Rattle.run_nodes.proofs.GoingPages.{going-uid, going-page, not-coming, IsBeside, kept, stored_to, change-beside, change-dirty}
 use Rattle.run_nodes.proofs.Staying.{writing-left, seen-stays, known-stays, grant-stays}
 
@@ -230,7 +230,7 @@ calling-ready d p (ops.Map u) ask is = is.ready
 calling-ready d p (ops.Unmap u) ask is = is.ready
 
 -- a new object or a list moves no page
-home-carries : (e : DeskState) (p : ℕ) (op : Op) (home : ℕ) (ask : Ask) → IsHomeTurn op (Turn.Asks home ask) → IsCalling e p op ask → Carries e p ask
+home-carries : (e : DeskState) (p : ℕ) (op : Op) (home : ℕ) (ask : Ask) → IsHomeAsk op home ask → IsCalling e p op ask → Carries e p ask
 home-carries e p (ops.New to kind room) home ask is calling = subst (Carries e p) (sym is.1) calling.0.no_page
 home-carries e p (ops.List to after) home ask is calling = subst (Carries e p) (sym is.1) calling.0.no_page
 home-carries e p (ops.Lock u m) home ask is calling = absurd is
@@ -254,17 +254,17 @@ same-carries d q (Some o) (Some r) same is = by o.awaits r.awaits same.1 is
     by (Await.Page u k) (Await.Answer c) same is = absurd same
     by (Await.Page u k) (Await.Page v j) same is = is
 
-module _ (g : Given) (n : NodeState) (s : Stepped) (is : IsNodeOf g n) (now : IsNodeOf g s.node) (carried : AreCarried n) where
+module _ (g : Given) (n : NodeState) (incoming : Incoming) (s : Stepped) (is : IsNodeOf g n) (now : IsNodeOf g s.node) (carried : AreCarried n) where
   -- the process whose operation moved the desk
-  own-carries : (p : ℕ) (proc : IsProc p) (o : BegunOp) (m : Moved) → OpMove n.desk p o.op m → s.node.desk ≡ m.desk → (proc_of s.node p).doing ≡ doing_after o (proc_of n p) m.turn → CarriesOpen s.node.desk p (doing_after o (proc_of n p) m.turn)
-  own-carries p proc o m made at doing = by m.turn refl (subst (Agrees s.node.desk p (proc_of s.node p).last) doing (now.agrees p proc))
+  own-carries : (p : ℕ) (proc : IsProc p) (o : BegunOp) (stage : Stage) (m : Moved) → OpMove g.opening incoming (proc_of n p).doing stage n.desk p o.op m → s.node.desk ≡ m.desk → (proc_of s.node p).doing ≡ doing_after o (proc_of n p) m.turn → CarriesOpen s.node.desk p (doing_after o (proc_of n p) m.turn)
+  own-carries p proc o stage m made at doing = by m.turn refl (subst (Agrees s.node.desk p (proc_of s.node p).last) doing (now.agrees p proc))
     where
       by : (turn : Turn) → m.turn ≡ turn → Agrees s.node.desk p (proc_of s.node p).last (doing_after o (proc_of n p) turn) → CarriesOpen s.node.desk p (doing_after o (proc_of n p) turn)
       by (Turn.Ends reply) same agrees = agrees.no_page
       by (Turn.Waits u k) same agrees = agrees.1.idle.no_page
       by (Turn.Asks home ask) same agrees = elim made [
-        | apart desk turn ↦ home-carries s.node.desk p o.op home ask (subst (IsHomeTurn o.op) same turn) agrees.1.0
-        | moves c may of by_moves ↦ subst (λ d. Carries d p ask) (sym at)
+        | apart desk turn ↦ home-carries s.node.desk p o.op home ask (home-asks g.opening incoming p (proc_of n p).doing stage o.op home ask (subst (IsHomeTurn g.opening incoming p (proc_of n p).doing stage o.op) same turn)) agrees.1.0
+        | moves c may of at_stage taken by_moves ↦ subst (λ d. Carries d p ask) (sym at)
             (subst (CarriesTurn m.desk p) same
             (said-carries n.desk m.desk p proc (subst IsDesk at now.desk) (subst (λ d. IsReady d p) at (calling-ready s.node.desk p o.op ask agrees.1.0))
             (λ v j. moves-dirty c m.turn p proc v j n.desk m.desk m.dropped is.desk by_moves.moves (open-dirty n.desk p v j (proc_of n p).doing (carried p proc)))
@@ -272,22 +272,22 @@ module _ (g : Given) (n : NodeState) (s : Stepped) (is : IsNodeOf g n) (now : Is
       ]
 
   -- another process
-  other-carries : (p : ℕ) (proc : IsProc p) (o : BegunOp) (m : Moved) → OpMove n.desk p o.op m → (q : ℕ) → IsProc q → q ≢ p → CarriesOpen m.desk q (proc_of n q).doing
-  other-carries p proc o m (apart desk turn) q other differs = subst (λ d. CarriesOpen d q (proc_of n q).doing) (sym desk) (carried q other)
-  other-carries p proc o m (moves c may of made) q other differs = await-moves c m.turn p proc q other differs n.desk m.desk m.dropped is.desk made.moves (proc_of n q).doing (carried q other)
+  other-carries : (p : ℕ) (proc : IsProc p) (o : BegunOp) (stage : Stage) (m : Moved) → OpMove g.opening incoming (proc_of n p).doing stage n.desk p o.op m → (q : ℕ) → IsProc q → q ≢ p → CarriesOpen m.desk q (proc_of n q).doing
+  other-carries p proc o stage m (apart desk turn) q other differs = subst (λ d. CarriesOpen d q (proc_of n q).doing) (sym desk) (carried q other)
+  other-carries p proc o stage m (moves c may of at_stage taken made) q other differs = await-moves c m.turn p proc q other differs n.desk m.desk m.dropped is.desk made.moves (proc_of n q).doing (carried q other)
 
-  node-carries : NodeMove n s → AreCarried s.node
-  node-carries (still desk same) q other = subst (λ d. CarriesOpen d q (proc_of s.node q).doing) (sym desk) (same-carries n.desk q (proc_of n q).doing (proc_of s.node q).doing (same q other) (carried q other))
-  node-carries (moved p o m proc continues made desk doing others) q other = elim (cases_eq q p) [
-    | inl there ↦ subst (λ r. CarriesOpen s.node.desk r (proc_of s.node r).doing) (sym there) (subst (CarriesOpen s.node.desk p) (sym doing) (own-carries p proc o m made desk doing))
-    | inr beside ↦ subst (λ (x : ProcState). CarriesOpen s.node.desk q x.doing) (sym (others q other beside)) (subst (λ d. CarriesOpen d q (proc_of n q).doing) (sym desk) (other-carries p proc o m made q other beside))
+  node-carries : NodeMove g n incoming s → AreCarried s.node
+  node-carries (still desk same quiet uncalled) q other = subst (λ d. CarriesOpen d q (proc_of s.node q).doing) (sym desk) (same-carries n.desk q (proc_of n q).doing (proc_of s.node q).doing (same q other) (carried q other))
+  node-carries (moved p o stage m proc continues made desk doing others note call side) q other = elim (cases_eq q p) [
+    | inl there ↦ subst (λ r. CarriesOpen s.node.desk r (proc_of s.node r).doing) (sym there) (subst (CarriesOpen s.node.desk p) (sym doing) (own-carries p proc o stage m made desk doing))
+    | inr beside ↦ subst (λ (x : ProcState). CarriesOpen s.node.desk q x.doing) (sym (others q other beside)) (subst (λ d. CarriesOpen d q (proc_of n q).doing) (sym desk) (other-carries p proc o stage m made q other beside))
   ]
 
 -- each step keeps it
 pub step-carries : (g : Given) (n : NodeState) (what : What) (incoming : Incoming) (dropped : List (ObjectName × ℕ)) (s : Stepped) → IsGiven g → IsNodeOf g n → IsIncoming incoming → AreCarried n → step_of g n what incoming dropped ≡ Some s → AreCarried s.node
 step-carries g n what incoming dropped s given is frame carried e =
     let at : IsNodeOf g (ticked n incoming) = node-with g n (ticked n incoming) is refl refl is.side is.home in
-    node-carries g (ticked n incoming) s at (step_of-keeps g n what incoming dropped s given is frame e).node carried (step-desk g n what incoming dropped s given is frame e)
+    node-carries g (ticked n incoming) incoming s at (step_of-keeps g n what incoming dropped s given is frame e).node carried (step-desk g n what incoming dropped s given is frame e)
 
 pub first-carries : (g : Given) → AreCarried (first_node g)
 first-carries g = by_proc (λ p. CarriesOpen (first_node g).desk p (proc_of (first_node g) p).doing) refl refl refl refl

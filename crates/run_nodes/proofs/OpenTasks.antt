@@ -34,7 +34,7 @@ use Rattle.desk_laws.proofs.DeskStays.{moves-desk}
 use Rattle.node_runs.specs.Setups.{Setup, IsSetup, Given, IsGiven, given}
 use Rattle.node_runs.specs.NodeStates.{Await, BegunOp, OpenOp, NodeState, first_node, proc_of}
 use Rattle.node_runs.specs.Incomings.{Incoming}
-use Rattle.node_runs.specs.Outcomes.{Stepped}
+use Rattle.node_runs.specs.Outcomes.{Stage, Stepped}
 use Rattle.node_runs.specs.Doings.{ticked}
 use Rattle.node_runs.specs.Steps.{step_of}
 use Rattle.node_runs.specs.Agreements.{Agrees}
@@ -208,10 +208,10 @@ module _ (d e : DeskState) (p : ℕ) (proc : IsProc p) (desk : IsDesk e) (was : 
   idle-none : IsIdle e p → IfSome (task_of e p) (IsTaskWithin e.known)
   idle-none idle = no-task (ap is_access idle.no_call)
 
-module _ (g : Given) (n : NodeState) (s : Stepped) (is : IsNodeOf g n) (now : IsNodeOf g s.node) (within : AreTasksWithin n.desk) where
-  own-within : (p : ℕ) (proc : IsProc p) (o : BegunOp) (m : Moved) → OpMove n.desk p o.op m → s.node.desk ≡ m.desk → (proc_of s.node p).doing ≡ doing_after o (proc_of n p) m.turn → IfSome (task_of s.node.desk p) (IsTaskWithin s.node.desk.known)
-  own-within p proc o m (apart same turn) at doing = subst (λ (d : DeskState). IfSome (task_of d p) (IsTaskWithin d.known)) (sym (at ∙ same)) (within p proc)
-  own-within p proc o m (moves c may of made) at doing = by m.turn refl (subst (Agrees s.node.desk p (proc_of s.node p).last) doing (now.agrees p proc))
+module _ (g : Given) (n : NodeState) (incoming : Incoming) (s : Stepped) (is : IsNodeOf g n) (now : IsNodeOf g s.node) (within : AreTasksWithin n.desk) where
+  own-within : (p : ℕ) (proc : IsProc p) (o : BegunOp) (stage : Stage) (m : Moved) → OpMove g.opening incoming (proc_of n p).doing stage n.desk p o.op m → s.node.desk ≡ m.desk → (proc_of s.node p).doing ≡ doing_after o (proc_of n p) m.turn → IfSome (task_of s.node.desk p) (IsTaskWithin s.node.desk.known)
+  own-within p proc o stage m (apart same turn) at doing = subst (λ (d : DeskState). IfSome (task_of d p) (IsTaskWithin d.known)) (sym (at ∙ same)) (within p proc)
+  own-within p proc o stage m (moves c may of at_stage taken made) at doing = by m.turn refl (subst (Agrees s.node.desk p (proc_of s.node p).last) doing (now.agrees p proc))
     where
       by : (turn : Turn) → m.turn ≡ turn → Agrees s.node.desk p (proc_of s.node p).last (doing_after o (proc_of n p) turn) → IfSome (task_of s.node.desk p) (IsTaskWithin s.node.desk.known)
       by (Turn.Ends reply) same agrees = idle-none n.desk s.node.desk p proc now.desk (within p proc) agrees
@@ -219,21 +219,21 @@ module _ (g : Given) (n : NodeState) (s : Stepped) (is : IsNodeOf g n) (now : Is
       by (Turn.Asks home ask) same agrees = subst (λ (d : DeskState). IfSome (task_of d p) (IsTaskWithin d.known)) (sym at)
           (said-within n.desk m.desk p proc (subst IsDesk at now.desk) (within p proc) c (Turn.Asks home ask) m.turn m.dropped may made.moves (subst (Says n.desk p m.desk c) same made.says))
 
-  other-within : (p : ℕ) (proc : IsProc p) (o : BegunOp) (m : Moved) → OpMove n.desk p o.op m → (q : ℕ) → IsProc q → q ≢ p → IfSome (task_of m.desk q) (IsTaskWithin m.desk.known)
-  other-within p proc o m (apart same turn) q other differs = subst (λ (d : DeskState). IfSome (task_of d q) (IsTaskWithin d.known)) (sym same) (within q other)
-  other-within p proc o m (moves c may of made) q other differs = task-moves c m.turn p proc q other differs n.desk m.desk m.dropped is.desk made.moves (within q other)
+  other-within : (p : ℕ) (proc : IsProc p) (o : BegunOp) (stage : Stage) (m : Moved) → OpMove g.opening incoming (proc_of n p).doing stage n.desk p o.op m → (q : ℕ) → IsProc q → q ≢ p → IfSome (task_of m.desk q) (IsTaskWithin m.desk.known)
+  other-within p proc o stage m (apart same turn) q other differs = subst (λ (d : DeskState). IfSome (task_of d q) (IsTaskWithin d.known)) (sym same) (within q other)
+  other-within p proc o stage m (moves c may of at_stage taken made) q other differs = task-moves c m.turn p proc q other differs n.desk m.desk m.dropped is.desk made.moves (within q other)
 
-  node-within : NodeMove n s → AreTasksWithin s.node.desk
-  node-within (still desk same) q other = subst (λ (d : DeskState). IfSome (task_of d q) (IsTaskWithin d.known)) (sym desk) (within q other)
-  node-within (moved p o m proc continues made desk doing others) q other = elim (cases_eq q p) [
-    | inl there ↦ subst (λ r. IfSome (task_of s.node.desk r) (IsTaskWithin s.node.desk.known)) (sym there) (own-within p proc o m made desk doing)
-    | inr beside ↦ subst (λ (d : DeskState). IfSome (task_of d q) (IsTaskWithin d.known)) (sym desk) (other-within p proc o m made q other beside)
+  node-within : NodeMove g n incoming s → AreTasksWithin s.node.desk
+  node-within (still desk same quiet uncalled) q other = subst (λ (d : DeskState). IfSome (task_of d q) (IsTaskWithin d.known)) (sym desk) (within q other)
+  node-within (moved p o stage m proc continues made desk doing others note call side) q other = elim (cases_eq q p) [
+    | inl there ↦ subst (λ r. IfSome (task_of s.node.desk r) (IsTaskWithin s.node.desk.known)) (sym there) (own-within p proc o stage m made desk doing)
+    | inr beside ↦ subst (λ (d : DeskState). IfSome (task_of d q) (IsTaskWithin d.known)) (sym desk) (other-within p proc o stage m made q other beside)
   ]
 
 -- each step keeps it
 pub step-within : (g : Given) (n : NodeState) (what : What) (incoming : Incoming) (dropped : List (ObjectName × ℕ)) (s : Stepped) → IsGiven g → IsNodeOf g n → IsIncoming incoming → AreTasksWithin n.desk → step_of g n what incoming dropped ≡ Some s → AreTasksWithin s.node.desk
 step-within g n what incoming dropped s given is frame within e =
-    node-within g (ticked n incoming) s (node-with g n (ticked n incoming) is refl refl is.side is.home) (step_of-keeps g n what incoming dropped s given is frame e).node within (step-desk g n what incoming dropped s given is frame e)
+    node-within g (ticked n incoming) incoming s (node-with g n (ticked n incoming) is refl refl is.side is.home) (step_of-keeps g n what incoming dropped s given is frame e).node within (step-desk g n what incoming dropped s given is frame e)
 
 first-within : (g : Given) → AreTasksWithin (first_node g).desk
 first-within g = by_proc (λ p. IfSome (task_of (first_node g).desk p) (IsTaskWithin (first_node g).desk.known)) tt tt tt tt

@@ -28,7 +28,7 @@ use Rattle.desk_laws.proofs.Beside.{moves-beside}
 use Rattle.node_runs.specs.Setups.{Setup, IsSetup, Given, IsGiven, given}
 use Rattle.node_runs.specs.NodeStates.{Await, BegunOp, OpenOp, ProcState, NodeState, first_node, proc_of}
 use Rattle.node_runs.specs.Incomings.{Incoming}
-use Rattle.node_runs.specs.Outcomes.{Stepped, next_call}
+use Rattle.node_runs.specs.Outcomes.{Stage, Stepped, next_call}
 use Rattle.node_runs.specs.Doings.{ticked}
 use Rattle.node_runs.specs.Steps.{step_of}
 use Rattle.node_runs.specs.Agreements.{IsCalling, Agrees}
@@ -41,9 +41,9 @@ use Rattle.node_runs.proofs.Calls.{put-same, put-other}
 use Rattle.node_runs.proofs.Reaching.{step_of-keeps, Reached-keeps}
 use Rattle.node_runs.proofs.SettingUp.{setup-gives, setup-procs}
 use Rattle.run_calls.proofs.HearingRuns.{IsKeptNext, every-kept-run}
-use Rattle.run_nodes.specs.DeskSteps.{IsHomeTurn, OpMove, apart, moves, doing_after, IsSameDoing, IsContinued, NodeMove, still, moved}
+use Rattle.run_nodes.specs.DeskSteps.{IsHomeAsk, IsHomeTurn, OpMove, apart, moves, doing_after, IsSameDoing, NodeMove, still, moved}
 use Rattle.run_nodes.specs.OpenTasks.{IsAtSpot, IsPlacedAt, AreTasksPlaced}
-use Rattle.run_nodes.proofs.DeskSteps.{same-doing, step-desk}
+use Rattle.run_nodes.proofs.DeskSteps.{IsContinued, at-continued, home-asks, same-doing, step-desk}
 use Rattle.run_nodes.proofs.OpenTasks.{closed-task, lock-access, open_task_of, answer-task}
 
 -- a spot names the same where the mappings of the process are the same
@@ -153,7 +153,7 @@ module _ (d e : DeskState) (p : ℕ) (proc : IsProc p) (desk : IsDesk e) (doing 
     said-placed c turn whole dropped may of made says = tt
 
 -- a new object or a list is no load or store
-home-placed : (e : DeskState) (p : ℕ) → IsProc p → IsDesk e → (doing : Option OpenOp) (op : Op) (home : ℕ) (ask : Ask) → IsHomeTurn op (Turn.Asks home ask) → IsCalling e p op ask → IsPlacedAt e p doing (task_of e p)
+home-placed : (e : DeskState) (p : ℕ) → IsProc p → IsDesk e → (doing : Option OpenOp) (op : Op) (home : ℕ) (ask : Ask) → IsHomeAsk op home ask → IsCalling e p op ask → IsPlacedAt e p doing (task_of e p)
 home-placed e p proc desk doing (ops.New to kind room) home ask is calling = placed-none e p doing proc desk (ap is_access calling.0.no_call)
 home-placed e p proc desk doing (ops.List to after) home ask is calling = placed-none e p doing proc desk (ap is_access calling.0.no_call)
 home-placed e p proc desk doing (ops.Lock u m) home ask is calling = absurd is
@@ -165,40 +165,40 @@ home-placed e p proc desk doing (ops.Length u) home ask is calling = absurd is
 home-placed e p proc desk doing (ops.Map u) home ask is calling = absurd is
 home-placed e p proc desk doing (ops.Unmap u) home ask is calling = absurd is
 
-module _ (g : Given) (n : NodeState) (s : Stepped) (is : IsNodeOf g n) (now : IsNodeOf g s.node) (placed : AreTasksPlaced n) where
-  own-placed : (p : ℕ) (proc : IsProc p) (o : BegunOp) (m : Moved) → IsContinued (proc_of n p).doing o → OpMove n.desk p o.op m → s.node.desk ≡ m.desk → (proc_of s.node p).doing ≡ doing_after o (proc_of n p) m.turn
+module _ (g : Given) (n : NodeState) (incoming : Incoming) (s : Stepped) (is : IsNodeOf g n) (now : IsNodeOf g s.node) (placed : AreTasksPlaced n) where
+  own-placed : (p : ℕ) (proc : IsProc p) (o : BegunOp) (stage : Stage) (m : Moved) → IsContinued (proc_of n p).doing o → OpMove g.opening incoming (proc_of n p).doing stage n.desk p o.op m → s.node.desk ≡ m.desk → (proc_of s.node p).doing ≡ doing_after o (proc_of n p) m.turn
       → IsPlacedAt s.node.desk p (doing_after o (proc_of n p) m.turn) (task_of s.node.desk p)
-  own-placed p proc o m continues made is_desk doing = by m.turn refl (subst (Agrees s.node.desk p (proc_of s.node p).last) doing (now.agrees p proc))
+  own-placed p proc o stage m continues made is_desk doing = by m.turn refl (subst (Agrees s.node.desk p (proc_of s.node p).last) doing (now.agrees p proc))
     where
       by : (turn : Turn) → m.turn ≡ turn → Agrees s.node.desk p (proc_of s.node p).last (doing_after o (proc_of n p) turn) → IsPlacedAt s.node.desk p (doing_after o (proc_of n p) turn) (task_of s.node.desk p)
       by (Turn.Ends reply) same agrees = placed-none s.node.desk p (doing_after o (proc_of n p) (Turn.Ends reply)) proc now.desk (ap is_access agrees.no_call)
       by (Turn.Waits u k) same agrees = placed-none s.node.desk p (doing_after o (proc_of n p) (Turn.Waits u k)) proc now.desk (ap is_access agrees.1.idle.no_call)
       by (Turn.Asks home ask) same agrees = elim made [
-        | apart desk turn ↦ home-placed s.node.desk p proc now.desk (doing_after o (proc_of n p) (Turn.Asks home ask)) o.op home ask (subst (IsHomeTurn o.op) same turn) agrees.1.0
-        | moves c may of by_moves ↦ subst (λ d. IsPlacedAt d p (doing_after o (proc_of n p) (Turn.Asks home ask)) (task_of d p)) (sym is_desk)
+        | apart desk turn ↦ home-placed s.node.desk p proc now.desk (doing_after o (proc_of n p) (Turn.Asks home ask)) o.op home ask (home-asks g.opening incoming p (proc_of n p).doing stage o.op home ask (subst (IsHomeTurn g.opening incoming p (proc_of n p).doing stage o.op) same turn)) agrees.1.0
+        | moves c may of at_stage taken by_moves ↦ subst (λ d. IsPlacedAt d p (doing_after o (proc_of n p) (Turn.Asks home ask)) (task_of d p)) (sym is_desk)
             (said-placed n.desk m.desk p proc (subst IsDesk is_desk now.desk) (proc_of n p).doing (placed p proc) o continues (record { began = o; awaits = Await.Answer (next_call (proc_of n p) home ask) }) refl
             c (Turn.Asks home ask) m.turn m.dropped may of by_moves.moves (subst (Says n.desk p m.desk c) same by_moves.says))
       ]
 
-  other-placed : (p : ℕ) (proc : IsProc p) (o : BegunOp) (m : Moved) → OpMove n.desk p o.op m → (q : ℕ) → IsProc q → q ≢ p → IsPlacedAt m.desk q (proc_of n q).doing (task_of m.desk q)
-  other-placed p proc o m (apart desk turn) q other differs = subst (λ d. IsPlacedAt d q (proc_of n q).doing (task_of d q)) (sym desk) (placed q other)
-  other-placed p proc o m (moves c may of made) q other differs =
+  other-placed : (p : ℕ) (proc : IsProc p) (o : BegunOp) (stage : Stage) (m : Moved) → OpMove g.opening incoming (proc_of n p).doing stage n.desk p o.op m → (q : ℕ) → IsProc q → q ≢ p → IsPlacedAt m.desk q (proc_of n q).doing (task_of m.desk q)
+  other-placed p proc o stage m (apart desk turn) q other differs = subst (λ d. IsPlacedAt d q (proc_of n q).doing (task_of d q)) (sym desk) (placed q other)
+  other-placed p proc o stage m (moves c may of at_stage taken made) q other differs =
       let same = moves-beside c m.turn p q proc other differs n.desk m.desk m.dropped made.moves in
       subst (IsPlacedAt m.desk q (proc_of n q).doing) (sym same.task) (placed-same n.desk m.desk q (proc_of n q).doing (proc_of n q).doing (task_of n.desk q) same.maps (same-doing (proc_of n q).doing) (placed q other))
 
-  node-placed : NodeMove n s → AreTasksPlaced s.node
-  node-placed (still desk same) q other = subst (λ d. IsPlacedAt d q (proc_of s.node q).doing (task_of d q)) (sym desk) (placed-same n.desk n.desk q (proc_of n q).doing (proc_of s.node q).doing (task_of n.desk q) refl (same q other) (placed q other))
-  node-placed (moved p o m proc continues made desk doing others) q other = elim (cases_eq q p) [
+  node-placed : NodeMove g n incoming s → AreTasksPlaced s.node
+  node-placed (still desk same quiet uncalled) q other = subst (λ d. IsPlacedAt d q (proc_of s.node q).doing (task_of d q)) (sym desk) (placed-same n.desk n.desk q (proc_of n q).doing (proc_of s.node q).doing (task_of n.desk q) refl (same q other) (placed q other))
+  node-placed (moved p o stage m proc continues made desk doing others note call side) q other = elim (cases_eq q p) [
     | inl there ↦ subst (λ r. IsPlacedAt s.node.desk r (proc_of s.node r).doing (task_of s.node.desk r)) (sym there)
-        (subst (λ x. IsPlacedAt s.node.desk p x (task_of s.node.desk p)) (sym doing) (own-placed p proc o m continues made desk doing))
+        (subst (λ x. IsPlacedAt s.node.desk p x (task_of s.node.desk p)) (sym doing) (own-placed p proc o stage m (at-continued (proc_of n p).doing o stage continues) made desk doing))
     | inr beside ↦ subst (λ (x : ProcState). IsPlacedAt s.node.desk q x.doing (task_of s.node.desk q)) (sym (others q other beside))
-        (subst (λ d. IsPlacedAt d q (proc_of n q).doing (task_of d q)) (sym desk) (other-placed p proc o m made q other beside))
+        (subst (λ d. IsPlacedAt d q (proc_of n q).doing (task_of d q)) (sym desk) (other-placed p proc o stage m made q other beside))
   ]
 
 -- each step keeps it
 pub step-placed : (g : Given) (n : NodeState) (what : What) (incoming : Incoming) (dropped : List (ObjectName × ℕ)) (s : Stepped) → IsGiven g → IsNodeOf g n → IsIncoming incoming → AreTasksPlaced n → step_of g n what incoming dropped ≡ Some s → AreTasksPlaced s.node
 step-placed g n what incoming dropped s given is frame placed e =
-    node-placed g (ticked n incoming) s (node-with g n (ticked n incoming) is refl refl is.side is.home) (step_of-keeps g n what incoming dropped s given is frame e).node placed (step-desk g n what incoming dropped s given is frame e)
+    node-placed g (ticked n incoming) incoming s (node-with g n (ticked n incoming) is refl refl is.side is.home) (step_of-keeps g n what incoming dropped s given is frame e).node placed (step-desk g n what incoming dropped s given is frame e)
 
 first-placed : (g : Given) → AreTasksPlaced (first_node g)
 first-placed g = by_proc (λ p. IsPlacedAt (first_node g).desk p (proc_of (first_node g) p).doing (task_of (first_node g).desk p)) tt tt tt tt

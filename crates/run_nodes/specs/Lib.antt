@@ -3,3 +3,6 @@ pub mod OpenCalls
 pub mod OpenTasks
 pub mod Released
 pub mod AskedHomes
+pub mod ToldAnswers
+pub mod KeptLocks
+pub mod WaitingReleases

@@ -18,6 +18,9 @@ ghost use Rattle.run_nodes.specs.DeskSteps.{NodeMove};
 ghost use Rattle.run_nodes.specs.AskedHomes.{AreCallsAtHomes};
 ghost use Rattle.run_nodes.specs.OpenCalls.{AreCarried};
 ghost use Rattle.run_nodes.specs.Released.{AreReleased};
+ghost use Rattle.run_nodes.specs.WaitingReleases.{AreOpenReleases};
+ghost use Rattle.run_nodes.specs.ToldAnswers.{IsEnded, AreTold};
+ghost use Rattle.run_nodes.specs.KeptLocks.{AreKeptWithout};
 ghost use Rattle.run_nodes.specs.OpenTasks.{AreTasksWithin, AreTasksPlaced, AreTransits};
 
 /// Each event of a node leaves its desk, and what its processes await, as they were; or one process's operation begins, goes
@@ -25,7 +28,7 @@ ghost use Rattle.run_nodes.specs.OpenTasks.{AreTasksWithin, AreTasksPlaced, AreT
 /// one call of a new object, and that of a list, is the one that its operand gives.
 pub fn each_event_moves_its_desk_for_one_operation()
     ensures { (g : Given) (n : NodeState) (what : What) (incoming : Incoming) (dropped : List (ObjectName × ℕ)) (s : Stepped) →
-        IsGiven g → IsNodeOf g n → IsIncoming incoming → step_of g n what incoming dropped ≡ Some s → NodeMove (ticked n incoming) s }
+        IsGiven g → IsNodeOf g n → IsIncoming incoming → step_of g n what incoming dropped ≡ Some s → NodeMove g (ticked n incoming) incoming s }
 {}
 
 /// Wherever a node's events led, what its open calls carry fits its desk. A page on its way home is dirty, and has the bytes
@@ -80,4 +83,34 @@ pub fn open_loads_and_stores_are_at_their_spots()
 
     // So at each node of every run in which no tick is above 2^40.
     ensures runs { (s : Setup) → IsSetup s → (cs : List Choice) (w : World) → world_after s cs ≡ Some w → IsTimely w → (n : ℕ) → is_node s.opening n ≡ true → AreTasksPlaced (w.nodes n) }
+{}
+
+/// An open unlock or delete keeps its lock in a mode that writes, a delete in one that removes, while it waits for a page of
+/// the object, or sends pages or the length home, under its process's own grant; then it sends its release or its removal.
+pub fn a_release_keeps_its_lock_until_it_is_sent()
+    ensures step { (g : Given) (n : NodeState) (what : What) (incoming : Incoming) (dropped : List (ObjectName × ℕ)) (s : Stepped) →
+        IsGiven g → IsNodeOf g n → IsIncoming incoming → AreCarried n → AreOpenReleases n → step_of g n what incoming dropped ≡ Some s → AreOpenReleases s.node }
+    ensures reached { (g : Given) → IsGiven g → (n : NodeState) → Reached g n → AreOpenReleases n }
+
+    // So at each node of every run in which no tick is above 2^40.
+    ensures runs { (s : Setup) → IsSetup s → (cs : List Choice) (w : World) → world_after s cs ≡ Some w → IsTimely w → (n : ℕ) → is_node s.opening n ≡ true → AreOpenReleases (w.nodes n) }
+{}
+
+/// An operation is ended by its desk, which can only refuse a lock, a release or a removal; by the answer to its last call, as that
+/// answer tells; or by a link fault: Kept where a page or the length was sent before a release, Doubt where a lock, a release or a
+/// removal was, else LinkFault.
+pub fn an_operation_ends_by_its_desk_an_answer_or_a_fault()
+    ensures { (g : Given) (n : NodeState) (what : What) (incoming : Incoming) (dropped : List (ObjectName × ℕ)) (s : Stepped) →
+        IsGiven g → IsNodeOf g n → IsIncoming incoming → step_of g n what incoming dropped ≡ Some s → IsEnded g (ticked n incoming) incoming s.note }
+{}
+
+/// So in every run in which no tick is above 2^40 what a process was told of a call is what its home decided, or a link fault; a call
+/// that settles an operation is of that operation; and what was done at a desk changes no lock and no object.
+pub fn processes_are_told_what_was_decided()
+    ensures { (s : Setup) → IsSetup s → (cs : List Choice) (w : World) → world_after s cs ≡ Some w → IsTimely w → AreTold w }
+{}
+
+/// In every run in which no tick is above 2^40 an operation that was answered Kept has no act in the history.
+pub fn an_operation_answered_kept_has_no_act()
+    ensures { (s : Setup) → IsSetup s → (cs : List Choice) (w : World) → world_after s cs ≡ Some w → IsTimely w → AreKeptWithout s w }
 {}

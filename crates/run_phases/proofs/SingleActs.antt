@@ -15,9 +15,12 @@ use Rattle.node_runs.specs.Setups.{Setup, IsSetup}
 use Rattle.node_runs.specs.NodeStates.{Await, OpenOp, proc_of}
 use Rattle.node_runs.specs.Notes.{Told, Note}
 use Rattle.node_runs.specs.NodesKeep.{IsTimely}
-use Rattle.node_runs.specs.Runs.{World, Noted, Choice, world_after}
+use Rattle.node_runs.specs.Runs.{World, Noted, Choice, numbered, world_after}
 use Rattle.node_runs.specs.RunHistories.{is_fault, settled_op, change_reply, act_item, fault_item, begun_item, told_item, open_item, settled_item, decided_item, doing_of, ended_at, ended_by, all_told, items_of, items_from, history_in}
-use Rattle.node_runs.specs.CallsKeep.{EachOf}
+use Rattle.node_runs.specs.CallsKeep.{IsCallAt, IsAwaited, EachOf}
+use Rattle.node_runs.specs.CallsKeep as node_calls
+use Rattle.node_runs.proofs.Calls.{calls-are}
+use Rattle.run_calls.specs.Progress.{IsSettling, IsPart}
 use Rattle.node_runs.specs.DecidedCalls.{IsDecided, IsOther, AreDecidedOnce}
 use Rattle.node_runs.proofs.Bools.{left-true, right-true, equal}
 use Rattle.node_runs.proofs.Receiving.{EachOf-more}
@@ -27,25 +30,14 @@ use Rattle.run_calls.specs.DecidedReplies.{proc_at, IsDecisionOf}
 use Rattle.run_calls.specs.Heard.{IsDoingSince}
 use Rattle.run_calls.specs.LastCalls.{HasNumber, IsOpenNumber, IsOpenOrTold}
 use Rattle.run_calls.proofs.Slots.{settles, same_proc-refl}
-use Rattle.run_calls.proofs.Walks.{first-other, other-not}
+use Rattle.run_calls.proofs.Walks.{first-other, other-not, SomeOf-more}
 use Rattle.run_calls.proofs.Rising.{Adds, nothing, one, note-adds}
-use Rattle.run_calls.proofs.HearingRuns.{heard-are}
+use Rattle.run_calls.proofs.HearingRuns.{same-ask, heard-are}
 use Rattle.run_calls.proofs.Lasting.{last-calls-are, calls-of-procs}
 use Rattle.run_calls.proofs.Following.{EachOf-append}
 use Rattle.run_phases.specs.SingleActs.{IsToldLater, AreToldRising, IsActOf, IsOnlyAct, AreSingleActs}
+use Rattle.run_phases.specs.LastActs.{IsToldAt, IsOpenAt, IsLastOf, IsSettlingCall, IsActOfLast, HasNoAct, HaveOpenNoAct, HasToldNoAct}
 use Rattle.run_phases.proofs.ToldRising.{told-rises}
-
--- an operation that began there and whose last call has this number ended
-abbrev IsToldAt : ProcName → ℕ → Place → Told → Type 0
-IsToldAt p number begun t = (t.proc ≡ p) × (t.number ≡ number) × (t.begun ≡ begun)
-
--- or is open
-abbrev IsOpenAt : ℕ → Place → Option OpenOp → Type 0
-IsOpenAt number begun None = ⊥
-IsOpenAt number begun (Some o) = (o.began.begun ≡ begun) × HasNumber number o.awaits
-
-abbrev IsLastOf : World → ProcName → ℕ → Place → Type 0
-IsLastOf w p number begun = SomeOf (IsToldAt p number begun) (all_told w.trace) ⊎ IsOpenAt number begun (doing_of w p)
 
 -- what is found of a call among those that ended operations
 data FoundCall (p : ProcName) (number : ℕ) (so_far : List Told) : Type 0 where
@@ -121,12 +113,16 @@ module _ (s : Setup) (setup : IsSetup s) (cs : List Choice) (w : World) (e : wor
   one-last p proc begun k l (inr is) (inl at) = absurd (not-both p begun l so_far (open-behind p proc begun k is) at)
   one-last p proc begun k l (inr is) (inr at) = one-open p begun k l (doing_of w p) is at
 
+  -- the note decides the last call of the operation, one that settles it
+  abbrev IsBy : Noted → ProcName → Place → Type 0
+  IsBy j p begun = IsProc p.number × ((k : ℕ) × IsDecisionOf p k j.note × IsLastOf w p k begun × IsSettlingCall w p k)
+
   -- an act is of the decision on the last call of its operation
   abbrev IsActBy : Noted → Item → Type 0
   IsActBy j (Answered x) = Unit {0}
-  IsActBy j (Acted a) = IsProc a.deed.proc.number × ((k : ℕ) × IsDecisionOf a.deed.proc k j.note × IsLastOf w a.deed.proc k a.begun)
+  IsActBy j (Acted a) = IsBy j a.deed.proc a.begun
 
-  act-by : (j : Noted) (x begun : Place) (p : ProcName) (op : Op) (o : Option Reply) → IsProc p.number × ((k : ℕ) × IsDecisionOf p k j.note × IsLastOf w p k begun) → EachOf (IsActBy j) (act_item x begun p op o)
+  act-by : (j : Noted) (x begun : Place) (p : ProcName) (op : Op) (o : Option Reply) → IsBy j p begun → EachOf (IsActBy j) (act_item x begun p op o)
   act-by j x begun p op None is = tt
   act-by j x begun p op (Some reply) is = (is, tt)
 
@@ -138,24 +134,24 @@ module _ (s : Setup) (setup : IsSetup s) (cs : List Choice) (w : World) (e : wor
   begun-by j x None = tt
   begun-by j x (Some t) = fault-by j (is_fault t.reply) x t
 
-  told-by : (j : Noted) (b : Bool) (x : Place) (op : Op) (answer : Answer) (t : Told) → IsProc t.proc.number × ((k : ℕ) × IsDecisionOf t.proc k j.note × IsLastOf w t.proc k t.begun) → EachOf (IsActBy j) (told_item b x op answer t)
+  told-by : (j : Noted) (b : Bool) (x : Place) (op : Op) (answer : Answer) (t : Told) → IsBy j t.proc t.begun → EachOf (IsActBy j) (told_item b x op answer t)
   told-by j true x op answer t is = act-by j x t.begun t.proc op (change_reply answer) is
   told-by j false x op answer t is = (tt, tt)
 
-  open-by : (j : Noted) (x : Place) (p : ProcName) → IsProc p.number → (number : ℕ) (op : Op) (answer : Answer) (o : Option OpenOp) → IsDecisionOf p number j.note → IsOpenNumber number o → ((begun : Place) → IsOpenAt number begun o → IsLastOf w p number begun)
+  open-by : (j : Noted) (x : Place) (p : ProcName) → IsProc p.number → (number : ℕ) (op : Op) (answer : Answer) (o : Option OpenOp) → IsDecisionOf p number j.note → IsSettlingCall w p number → IsOpenNumber number o → ((begun : Place) → IsOpenAt number begun o → IsLastOf w p number begun)
       → EachOf (IsActBy j) (open_item x p op answer o)
-  open-by j x p proc number op answer None decides is last = tt
-  open-by j x p proc number op answer (Some o) decides is last = act-by j x o.began.begun p op (change_reply answer) (proc, (number, decides, last o.began.begun (refl, is)))
+  open-by j x p proc number op answer None decides call is last = tt
+  open-by j x p proc number op answer (Some o) decides call is last = act-by j x o.began.begun p op (change_reply answer) (proc, (number, decides, last o.began.begun (refl, is), call))
 
-  settled-by : (j : Noted) (x : Place) (p : ProcName) (number : ℕ) (op : Op) (answer : Answer) → IsProc p.number → IsDecisionOf p number j.note → IsOpenOrTold p number (proc_of (w.nodes p.node) p.number) so_far
+  settled-by : (j : Noted) (x : Place) (p : ProcName) (number : ℕ) (op : Op) (answer : Answer) → IsProc p.number → IsDecisionOf p number j.note → IsSettlingCall w p number → IsOpenOrTold p number (proc_of (w.nodes p.node) p.number) so_far
       → EachOf (IsActBy j) (settled_item x p op answer (ended_by p number so_far) (doing_of w p))
-  settled-by j x p number op answer proc decides last = by (find-call p number so_far)
+  settled-by j x p number op answer proc decides call last = by (find-call p number so_far)
     where
       by : FoundCall p number so_far → EachOf (IsActBy j) (settled_item x p op answer (ended_by p number so_far) (doing_of w p))
       by (found t is same some) = subst (λ o. EachOf (IsActBy j) (settled_item x p op answer o (doing_of w p))) (sym is)
-          (told-by j (is_fault t.reply) x op answer t (subst (λ (q : ProcName). IsProc q.number × ((k : ℕ) × IsDecisionOf q k j.note × IsLastOf w q k t.begun)) (sym same) (proc, (number, decides, inl some))))
+          (told-by j (is_fault t.reply) x op answer t (subst (λ q. IsBy j q t.begun) (sym same) (proc, (number, decides, inl some, call))))
       by (absent is none) = subst (λ o. EachOf (IsActBy j) (settled_item x p op answer o (doing_of w p))) (sym is)
-          (open-by j x p proc number op answer (doing_of w p) decides (elim last [ inl here ↦ here | inr gone ↦ absurd (none gone) ]) (λ begun at. inr at))
+          (open-by j x p proc number op answer (doing_of w p) decides call (elim last [ inl here ↦ here | inr gone ↦ absurd (none gone) ]) (λ begun at. inr at))
 
   decided-by : (j : Noted) (p : ProcName) (number : ℕ) (ask : Ask) (answer : Answer) → Note.Decided p number ask answer ≡ j.note → IsDecided w j.place (Note.Decided p number ask answer)
       → EachOf (IsActBy j) (decided_item j.place p (settled_op j.place.node ask) answer (ended_by p number so_far) (doing_of w p))
@@ -163,7 +159,7 @@ module _ (s : Setup) (setup : IsSetup s) (cs : List Choice) (w : World) (e : wor
     | inl none ↦ subst (λ o. EachOf (IsActBy j) (decided_item j.place p o answer (ended_by p number so_far) (doing_of w p))) (sym none) tt
     | inr some ↦
         subst (λ o. EachOf (IsActBy j) (decided_item j.place p o answer (ended_by p number so_far) (doing_of w p))) (sym some.1.1)
-        (settled-by j j.place p number some.1.0 answer proc (subst (IsDecisionOf p number) same (refl, refl))
+        (settled-by j j.place p number some.1.0 answer proc (subst (IsDecisionOf p number) same (refl, refl)) (record { home = j.place.node; ask = ask; call = decided.1; settling = some.0 })
         (subst (λ q. IsOpenOrTold q number (proc_of (w.nodes p.node) p.number) so_far) name (last-calls-are s setup cs w e timely p.node p.number proc number j.place.node ask decided.1 some.0)))
   ]
     where
@@ -214,8 +210,63 @@ module _ (s : Setup) (setup : IsSetup s) (cs : List Choice) (w : World) (e : wor
       (EachOf-more (IsActBy m) (λ i. IsOnlyAct i (items_from w so_far older)) (items_of w so_far m.place m.note) (only-act m older once each.1) each.0)
       (singles older once.1 each.1)
 
+  each-adds : EachOf AddsBy w.trace
+  each-adds = EachOf-more (λ (j : Noted). IsDecided w j.place j.note) AddsBy w.trace (λ j decided. note-by j j.note refl decided) (decisions-are s (setup-procs s setup) cs w e).each
+
   -- in every run
   pub acts-once : AreSingleActs (history_in s w).items
-  acts-once =
-      let decisions = decisions-are s (setup-procs s setup) cs w e in
-      singles w.trace decisions.once (EachOf-more (λ (j : Noted). IsDecided w j.place j.note) AddsBy w.trace (λ j decided. note-by j j.note refl decided) decisions.each)
+  acts-once = singles w.trace (decisions-are s (setup-procs s setup) cs w e).once each-adds
+
+  act-last : (j : Noted) (i : Item) → IsActBy j i → IsActOfLast w i
+  act-last j (Answered x) by = tt
+  act-last j (Acted a) by = (by.1.0, by.1.2, by.1.3)
+
+  lasts : (notes : List Noted) → EachOf AddsBy notes → EachOf (IsActOfLast w) (items_from w so_far notes)
+  lasts [] each = tt
+  lasts (m ∷ older) each =
+      EachOf-append (IsActOfLast w) (items_of w so_far m.place m.note) (items_from w so_far older)
+      (EachOf-more (IsActBy m) (IsActOfLast w) (items_of w so_far m.place m.note) (act-last m) each.0) (lasts older each.1)
+
+  pub acts-of-last : EachOf (IsActOfLast w) (history_in s w).items
+  acts-of-last = lasts w.trace each-adds
+
+  -- an operation of which no last call settles it has no act
+  no-act : (p : ProcName) (begun : Place) → ((k : ℕ) → IsLastOf w p k begun → IsSettlingCall w p k → ⊥) → HasNoAct s w p begun
+  no-act p begun none = EachOf-more (IsActOfLast w) (λ i. IsActOf p begun i → ⊥) (history_in s w).items each acts-of-last
+    where
+      each : (i : Item) → IsActOfLast w i → IsActOf p begun i → ⊥
+      each (Answered x) last is = is
+      each (Acted a) last is = none last.0 (subst (λ x. IsLastOf w p last.0 x) is.1 (subst (λ q. IsLastOf w q last.0 a.begun) is.0 last.1)) (subst (λ q. IsSettlingCall w q last.0) is.0 last.2)
+
+  -- an open one that awaits what doesn't settle it
+  pub open-no-act : HaveOpenNoAct s w
+  open-no-act n p proc o doing part = no-act (proc_at n p) o.began.begun by
+    where
+      behind : EachOf (λ (t : Told). t.proc ≡ proc_at n p → t.begun.tick < o.began.begun.tick) so_far
+      behind = (subst (IsDoingSince (proc_at n p) so_far w.trace (w.nodes n).tick (proc_of (w.nodes n) p).last) doing ((heard-are s setup (setup-procs s setup) cs w e timely).procs n p proc).doing).behind
+
+      call-of : (a : Await) (k : ℕ) → IsPart a → HasNumber k a → IsAwaited (w.calls n p) a → IsSettlingCall w (proc_at n p) k → ⊥
+      call-of (Await.Answer c) k part number call settles = part (subst IsSettling (same-ask (numbered k (w.calls n p)) settles.home c.home settles.ask c.ask settles.call (subst (λ i. IsCallAt (w.calls n p) i c.home c.ask) number call)) settles.settling)
+      call-of (Await.Page u page) k part number call settles = number
+
+      by : (k : ℕ) → IsLastOf w (proc_at n p) k o.began.begun → IsSettlingCall w (proc_at n p) k → ⊥
+      by k (inl told) settles = not-both (proc_at n p) o.began.begun k so_far behind told
+      by k (inr open_at) settles =
+          call-of o.awaits k part (subst (IsOpenAt k o.began.begun) doing open_at).1 (subst (node_calls.IsOpenAt (w.calls n p)) doing ((calls-are s (setup-procs s setup) cs w e).opened n p proc)) settles
+
+  -- one that ended
+  told-each : (ts : List Told) → ((t : Told) → SomeOf (λ u. u ≡ t) ts → SomeOf (λ u. u ≡ t) so_far) → EachOf (HasToldNoAct s w) ts
+  told-each [] among = tt
+  told-each (t ∷ ts) among = (here, told-each ts (λ u some. among u (inr some)))
+    where
+      here : HasToldNoAct s w t
+      here home ask call part = no-act t.proc t.begun by
+        where
+          by : (k : ℕ) → IsLastOf w t.proc k t.begun → IsSettlingCall w t.proc k → ⊥
+          by k last settles =
+              let there : SomeOf (IsToldAt t.proc t.number t.begun) so_far = SomeOf-more (λ u. u ≡ t) (IsToldAt t.proc t.number t.begun) so_far (λ u same. (ap (λ (x : Told). x.proc) same, ap (λ (x : Told). x.number) same, ap (λ (x : Told). x.begun) same)) (among t (inl refl)) in
+              let same : k ≡ t.number = one-last t.proc (calls-of-procs s setup cs w e timely t.proc.node t.proc.number t.number home ask call) t.begun k t.number last (inl there) in
+              part (subst IsSettling (same-ask (numbered t.number (w.calls t.proc.node t.proc.number)) settles.home home settles.ask ask (subst (λ i. IsCallAt (w.calls t.proc.node t.proc.number) i settles.home settles.ask) same settles.call) call) settles.settling)
+
+  pub told-no-act : EachOf (HasToldNoAct s w) (all_told w.trace)
+  told-no-act = told-each so_far (λ t some. some)

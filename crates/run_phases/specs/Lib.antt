@@ -4,3 +4,4 @@ pub mod Phases
 pub mod Paced
 pub mod DecisionOrder
 pub mod PacedSample
+pub mod LastActs

@@ -7,10 +7,11 @@ ghost use Rattle.node_runs.specs.Setups.{Setup, IsSetup};
 ghost use Rattle.node_runs.specs.NodesKeep.{IsTimely};
 ghost use Rattle.node_runs.specs.Runs.{Choice, World, world_after, world_of, IsRun, HasEnded};
 ghost use Rattle.node_runs.specs.RunHistories.{all_told, history_in, history_of};
-ghost use Rattle.node_runs.specs.CallsKeep.{HasProcs};
+ghost use Rattle.node_runs.specs.CallsKeep.{HasProcs, EachOf};
 ghost use Rattle.run_phases.specs.FittingAnswers.{AreFittingAnswers};
 ghost use Rattle.run_phases.specs.DecisionOrder.{AreDecisionsRising};
 ghost use Rattle.run_phases.specs.SingleActs.{AreToldRising, AreSingleActs};
+ghost use Rattle.run_phases.specs.LastActs.{IsActOfLast, HaveOpenNoAct, HasToldNoAct};
 ghost use Rattle.run_phases.specs.Phases.{AreInPhase};
 ghost use Rattle.run_phases.specs.Paced.{ArePaced};
 ghost use Rattle.run_phases.specs.PacedSample as sample;
@@ -37,6 +38,14 @@ pub fn operations_end_in_order()
 /// In every run in which no tick is above 2^40 no operation has two acts in the history.
 pub fn an_operation_acts_once()
     ensures { (s : Setup) → IsSetup s → (cs : List Choice) (w : World) → world_after s cs ≡ Some w → IsTimely w → AreSingleActs (history_in s w).items }
+{}
+
+/// And each act is of a decision on the last call of its operation, one that settles it. So while an operation awaits a page, or the answer
+/// to a page or a length that it sent, no act of it stands; nor does one where it ended then.
+pub fn an_act_is_of_a_call_that_settles()
+    ensures acts { (s : Setup) → IsSetup s → (cs : List Choice) (w : World) → world_after s cs ≡ Some w → IsTimely w → EachOf (IsActOfLast w) (history_in s w).items }
+    ensures open_ops { (s : Setup) → IsSetup s → (cs : List Choice) (w : World) → world_after s cs ≡ Some w → IsTimely w → HaveOpenNoAct s w }
+    ensures ended { (s : Setup) → IsSetup s → (cs : List Choice) (w : World) → world_after s cs ≡ Some w → IsTimely w → EachOf (HasToldNoAct s w) (all_told w.trace) }
 {}
 
 /// In every run in which no tick is above 2^40 marks keep the phases apart: an operation of a phase began above the marks of

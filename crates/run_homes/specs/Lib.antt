@@ -1,0 +1,4 @@
+pub mod DecidedEffects
+pub mod HistoryHomes
+pub mod HomeWords
+pub mod ToldRooms

@@ -1,0 +1,6 @@
+pub mod Grants
+pub mod Live
+pub mod EntryMoves
+pub mod LiveRun
+pub mod Standing
+pub mod OpenDecisions

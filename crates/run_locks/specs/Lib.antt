@@ -1,0 +1,3 @@
+pub mod LiveLocks
+pub mod StandingLocks
+pub mod OpenDecisions

@@ -1,0 +1,70 @@
+-- What a home finds where it decides a call that its process still has open: what the call needs, but for the room of a page or
+-- a length.
+use Rattle.std.specs.Prelude.{◌≡◌, ◌≢◌, ℕ, true, is_some, Option, Some, None, List, [], ◌∷◌}
+use Rattle.uid_names.specs.Names.{ProcName}
+use Rattle.dom_history.specs.Objects.{is_node}
+use Rattle.object_store.specs.HomeStates.{attr_of}
+use Rattle.lock_manager.specs.Grants.{grant_of}
+use Rattle.ring_messages.specs.Bodies.{Ask, Answer}
+use Rattle.page_server.specs.Decisions.{is_granted, may_remove}
+use Rattle.fault_handler.specs.Invariant.{IsProc}
+use Rattle.node_runs.specs.Setups.{Setup}
+use Rattle.node_runs.specs.NodeStates.{Await, OpenOp, proc_of}
+use Rattle.node_runs.specs.Notes.{Note}
+use Rattle.node_runs.specs.Runs.{Noted, World}
+use Rattle.node_runs.specs.CallsKeep.{EachOf}
+use Rattle.node_runs.specs.Replays.{Held}
+use Rattle.run_calls.specs.DecidedReplies.{proc_at}
+use Rattle.run_homes.specs.HistoryHomes.{held_then}
+
+-- the object is there, and the process's node holds the grant, or the process the lock of what it removes
+abbrev pub Finds : Held → ProcName → Ask → Type 0
+Finds h p (Ask.PageIn u k) = is_some (attr_of h.home u) ≡ true
+Finds h p (Ask.PageOut u k grant base bytes) = (is_some (attr_of h.home u) ≡ true) × (is_granted h.locks grant u p.node ≡ true)
+Finds h p (Ask.AttrOut u n grant base) = (is_some (attr_of h.home u) ≡ true) × (is_granted h.locks grant u p.node ≡ true)
+Finds h p (Ask.Remove u) = (is_some (attr_of h.home u) ≡ true) × (may_remove (grant_of p u h.locks.grants) ≡ true)
+Finds h p ask = Unit {0}
+
+-- a decision on the call of this number found it so
+abbrev pub IsFound : Held → ProcName → ℕ → Note → Type 0
+IsFound h p number (Note.Decided q k ask answer) = q ≡ p → k ≡ number → Finds h p ask
+IsFound h p number note = Unit {0}
+
+-- each of these did, by the home as the notes before it left it
+abbrev pub AreFound : Setup → ProcName → ℕ → List Noted → Type 0
+AreFound s p number [] = Unit {0}
+AreFound s p number (j ∷ older) = IsFound (held_then s j.place.node older) p number j.note × AreFound s p number older
+
+abbrev pub IsAwaitFound : Setup → ProcName → List Noted → Await → Type 0
+IsAwaitFound s p notes (Await.Answer c) = AreFound s p c.waiting.number notes
+IsAwaitFound s p notes (Await.Page u k) = Unit {0}
+
+abbrev pub IsOpenFound : Setup → ProcName → List Noted → Option OpenOp → Type 0
+IsOpenFound s p notes None = Unit {0}
+IsOpenFound s p notes (Some o) = IsAwaitFound s p notes o.awaits
+
+-- each open call
+abbrev pub AreOpenFound : Setup → World → Type 0
+AreOpenFound s w = (n p : ℕ) → is_node s.opening n ≡ true → IsProc p → IsOpenFound s (proc_at n p) w.trace (proc_of (w.nodes n) p).doing
+
+-- so this is how it is answered: a removal is done, and no page and no length is refused for its grant
+abbrev pub IsRight : Ask → Answer → Type 0
+IsRight (Ask.PageOut u k grant base bytes) answer = answer ≢ Answer.NoGrant
+IsRight (Ask.AttrOut u n grant base) answer = answer ≢ Answer.NoGrant
+IsRight (Ask.Remove u) answer = answer ≡ Answer.Done
+IsRight ask answer = Unit {0}
+
+abbrev pub IsRightNote : ProcName → ℕ → Note → Type 0
+IsRightNote p number (Note.Decided q k ask answer) = q ≡ p → k ≡ number → IsRight ask answer
+IsRightNote p number note = Unit {0}
+
+abbrev pub IsAwaitRight : ProcName → List Noted → Await → Type 0
+IsAwaitRight p notes (Await.Answer c) = EachOf (λ (j : Noted). IsRightNote p c.waiting.number j.note) notes
+IsAwaitRight p notes (Await.Page u k) = Unit {0}
+
+abbrev pub IsOpenRight : ProcName → List Noted → Option OpenOp → Type 0
+IsOpenRight p notes None = Unit {0}
+IsOpenRight p notes (Some o) = IsAwaitRight p notes o.awaits
+
+abbrev pub AreOpenRight : Setup → World → Type 0
+AreOpenRight s w = (n p : ℕ) → is_node s.opening n ≡ true → IsProc p → IsOpenRight (proc_at n p) w.trace (proc_of (w.nodes n) p).doing
