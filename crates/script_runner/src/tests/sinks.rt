@@ -52,7 +52,8 @@ fn a_journal_that_fails_has_a_first_part(rt: HostRuntime) -> Result<(), Fail> {
         let mut journal = MemSink::new(rt.alloc(), room, &[])?;
         assert_eq!(rt; run(rt.alloc(), &[], &mut out, &mut journal)?, 6);
         assert_eq!(rt; out.bytes(), REPORT);
-        assert_eq!(rt; journal.bytes(), &whole.bytes()[..room]);
+        assert_eq!(rt; journal.bytes().len(), room);
+        assert!(rt; whole.bytes().starts_with(journal.bytes()));
     }
     Ok(())
 }

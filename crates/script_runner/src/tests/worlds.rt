@@ -40,12 +40,15 @@ fn turns(alloc: Global, script: &[u8], number: &str) -> Result<Outcome, Fail> {
     run(alloc, &["run", "--turns", number], source, out)
 }
 
-/// How many lines of a journal have these bytes in them.
+/// How often these bytes stand in a journal.
 fn count(journal: &[u8], part: &[u8]) -> usize {
-    journal
-        .split(|byte| *byte == b'\n')
-        .filter(|line| line.windows(part.len()).any(|bytes| bytes == part))
-        .count()
+    let mut count = 0_usize;
+    for i in 0..journal.len() {
+        if journal[i..].starts_with(part) {
+            count = count.saturating_add(1);
+        }
+    }
+    count
 }
 
 /// Whether a script in the turns of some numbers has this report.
