@@ -1,7 +1,8 @@
 //! A node alone with one process, and with the object that it works on: resident loads and stores, or locks and unlocks.
 //! What is counted are events.
-ghost use Rattle.std.specs.Prelude.{IfOk};
-ghost use Rattle.dom_history.specs.Ranges.{IsOp};
+ghost use Rattle.std.specs.Prelude.{◌≡◌, false, IfOk};
+ghost use Rattle.dom_history.specs.declared.op.Want.TheVariants.{Phase};
+ghost use Rattle.measure.specs.Repeating.{want_of};
 
 use crate::process;
 use crate::repeat::Repeat;
@@ -20,7 +21,11 @@ pub enum Deeds {
     Locks,
 }
 
-fn program(alloc: Global, deeds: Deeds, uid: Uid) -> Result<Repeat> {
+/// The program, before it was asked.
+fn program(alloc: Global, deeds: Deeds, uid: Uid) -> Result<Repeat>
+    ensures whole { IfOk result (λ program. program.spent ≡ false) }
+    ensures fresh { IfOk result (λ program. want_of program ≡ Phase) }
+{
     let (mode, spot, count) = (Mode::Write, Spot::Of(uid, 0), 1);
     // What each name of an object keeps.
     let _number = uid.number();

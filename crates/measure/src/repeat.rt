@@ -1,39 +1,38 @@
 //! A program that does one operation, and then two others in turn, whatever it is told.
 ghost use Rattle.std.specs.Prelude.{◌≡◌, false};
 ghost use Rattle.dom_history.specs.Ranges.{IsOp};
-ghost use Rattle.measure.specs.Repeating.{after};
+ghost use Rattle.measure.specs.Repeating.{following};
 
 use dom_history::{Op, Program, Reply, Want};
 use std::alloc::Global;
 use std::marker::Model;
 use uid_names::NoMemory;
 
-/// Where it stands: what it wants now. Before it was asked it waits for the first phase.
+/// Which operation it wants now.
 #[derive(Clone, Copy, Debug, PartialEq, Eq)]
-enum Stage {
-    Before,
+enum Turn {
     First,
     Odd,
     Even,
 }
 
-fn after(stage: Stage) -> Stage
-    ensures { result ≡ after stage }
+fn following(turn: Option<Turn>) -> Turn
+    ensures { result ≡ following turn }
 {
-    match stage {
-        Stage::Before => Stage::First,
-        Stage::First | Stage::Even => Stage::Odd,
-        Stage::Odd => Stage::Even,
+    match turn {
+        None => Turn::First,
+        Some(Turn::First | Turn::Even) => Turn::Odd,
+        Some(Turn::Odd) => Turn::Even,
     }
 }
 
-/// The program.
+/// The program. Before it was asked it has no turn, and waits for the first phase.
 #[derive(Drop)]
 pub struct Repeat {
     first: Op,
     odd: Op,
     even: Op,
-    stage: Stage,
+    turn: Option<Turn>,
     spent: bool,
 }
 
@@ -43,7 +42,7 @@ impl Model for Repeat {
 
     ghost Value = { Repeated };
 
-    ghost view = { λ r. record { first = r.first; odd = r.odd; even = r.even; stage = r.stage; spent = r.spent } };
+    ghost view = { λ r. record { first = r.first; odd = r.odd; even = r.even; turn = r.turn; spent = r.spent } };
 
     ghost invariant = { λ r. IsOp r.first × (IsOp r.odd × IsOp r.even) };
 }
@@ -51,7 +50,7 @@ impl Model for Repeat {
 impl Repeat {
     ghost use Rattle.std.specs.Prelude.{◌≡◌, false};
     ghost use Rattle.dom_history.specs.declared.op.Want.TheVariants.{Phase};
-    ghost use Rattle.measure.specs.Repeating.{want_of};
+    ghost use Rattle.measure.specs.Repeating.{op_at, want_of};
 
     /// Does the first operation, and then the others in turn.
     pub fn new(first: Op, odd: Op, even: Op) -> Repeat
@@ -65,8 +64,19 @@ impl Repeat {
             first,
             odd,
             even,
-            stage: Stage::Before,
+            turn: None,
             spent: false,
+        }
+    }
+
+    fn operation(&self, turn: Turn) -> &Op
+        ensures value { result.now ≡ op_at turn self.now }
+        ensures range { IsOp result.now }
+    {
+        match turn {
+            Turn::First => &self.first,
+            Turn::Odd => &self.odd,
+            Turn::Even => &self.even,
         }
     }
 }
@@ -83,13 +93,11 @@ impl Program for Repeat {
     ghost spent = { λ r. r.spent };
 
     fn next(&mut self, alloc: Global, _last: Option<&Reply>) -> Result<Want, NoMemory> {
+        // Until the turn is done; where it finds no memory the value stays so.
         self.spent = true;
-        self.stage = after(self.stage);
-        let op = match self.stage {
-            Stage::Before | Stage::First => self.first.copy(alloc)?,
-            Stage::Odd => self.odd.copy(alloc)?,
-            Stage::Even => self.even.copy(alloc)?,
-        };
+        let turn = following(self.turn);
+        self.turn = Some(turn);
+        let op = self.operation(turn).copy(alloc)?;
         self.spent = false;
         Ok(Want::Do(op))
     }
