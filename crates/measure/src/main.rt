@@ -19,12 +19,15 @@ macro_rules! timed {
 
 mod desk;
 mod home;
+mod node;
+mod repeat;
 mod ring;
 mod scripts;
 mod worlds;
 
 use anyhow::{Context, Result};
 use dom_text::decimal;
+use node::Deeds;
 use std::env;
 use std::time::CpuClock;
 use uid_names::{NodeId, ProcId, Uid};
@@ -35,6 +38,7 @@ const NAMES: &str =
     "lock-frames-written lock-frames-read page-outs-written page-outs-read journals-written \
     journals-read home-locks home-page-outs desk-loads desk-stores desk-evictions cache-touches-64 cache-touches-256 \
     cache-evictions-64 cache-evictions-256 scripts-read shells-made store-operations \
+    node-accesses node-locks xorshift-steps \
     world-mixed world-resident world-locks world-evictions";
 
 /// Does a measure so often; how much was done, and in how many microseconds.
@@ -58,6 +62,9 @@ fn take(rt: &HostRuntime, name: &str, count: u32) -> Result<(u64, u64)> {
         "scripts-read" => scripts::read(rt, count),
         "shells-made" => scripts::make_shells(rt, count),
         "store-operations" => scripts::operate(rt, count),
+        "node-accesses" => node::happen(rt, Deeds::Accesses, count),
+        "node-locks" => node::happen(rt, Deeds::Locks, count),
+        "xorshift-steps" => steps(rt, count),
         "world-mixed" => worlds::run(rt, Work::Mixed, count),
         "world-resident" => worlds::run(rt, Work::Resident, count),
         "world-locks" => worlds::run(rt, Work::Locks, count),
@@ -84,6 +91,17 @@ fn object() -> Result<Uid>
     ensures { IfOk result (λ u. u ≡ record { counter = 2; home = 2 }) }
 {
     Ok(Uid::from_parts(2, process(2, 1)?.node()))
+}
+
+/// Steps of a generator of 64 bits, which tell how fast a machine is.
+fn steps(rt: &HostRuntime, count: u32) -> Result<(u64, u64)> {
+    let mut number = 0x9E37_79B9_7F4A_7C15u64;
+    timed!(rt, count, _i => {
+        number ^= number << 13;
+        number ^= number >> 7;
+        number ^= number << 17;
+        u32::from(number != 0)
+    })
 }
 
 fn run_one(rt: &HostRuntime, name: &str, count: &str) -> Result<()> {

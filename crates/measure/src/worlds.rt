@@ -1,9 +1,10 @@
-//! Worlds of nodes: scripts are run on them, and their journals written. What is counted are events.
-use anyhow::{Context, Result};
-use journal_text::write_journal;
-use dom_history::NodeNames;
-use script_reader::{Script, read_script};
-use script_runner::{Ran, run_script};
+//! Worlds of nodes: scripts are run on them as the program runs them, from their bytes to the report's and the journal's. What
+//! is counted are events.
+ghost use Rattle.std.specs.Prelude.{◌<◌};
+
+use anyhow::Result;
+use dom_io::{MemSink, MemSource};
+use script_runner::run_domain;
 use std::alloc::Global;
 use uid_names::{ByteList, NoMemory};
 
@@ -42,11 +43,16 @@ fn objects(alloc: Global, script: &mut ByteList, count: u32, room: u32) -> Resul
 }
 
 /// The commands of a process in a phase, on an object that moves on from phase to phase.
-fn turn_of(alloc: Global, script: &mut ByteList, q: u32, phase: u32) -> Result<(), NoMemory> {
+fn turn_of(alloc: Global, script: &mut ByteList, q: u32, phase: u32) -> Result<(), NoMemory>
+    requires process { q < 32 }
+    requires phase { phase < 1000 }
+{
     let (node, proc, object) = (q / 4 + 1, q % 4 + 1, (q + phase * 5) % 32);
     let place = (q * 97 + phase * 131) % 4_000;
     script.extend(format!(in alloc; "n{node}.{proc} lock o{object} w\n")?.as_bytes())?;
-    script.extend(format!(in alloc; "n{node}.{proc} store o{object} {place} \"12345678\"\n")?.as_bytes())?;
+    script.extend(format!(in alloc;
+        "n{node}.{proc} store o{object} {place} \"12345678\"\n"
+    )?.as_bytes())?;
     script.extend(format!(in alloc; "n{node}.{proc} load o{object} {place} 8\n")?.as_bytes())?;
     script.extend(format!(in alloc; "n{node}.{proc} length o{object}\n")?.as_bytes())?;
     script.extend(format!(in alloc; "n{node}.{proc} unlock o{object}\n")?.as_bytes())
@@ -74,7 +80,9 @@ fn resident(alloc: Global) -> Result<ByteList, NoMemory> {
         script.extend(format!(in alloc; "n{node}.1 lock o{n} w\n")?.as_bytes())?;
         for i in 0..COMMANDS / 16 - 1 {
             let place = i % 4 * 1_024;
-            script.extend(format!(in alloc; "n{node}.1 store o{n} {place} \"12345678\"\n")?.as_bytes())?;
+            script.extend(format!(in alloc;
+                "n{node}.1 store o{n} {place} \"12345678\"\n"
+            )?.as_bytes())?;
             script.extend(format!(in alloc; "n{node}.1 load o{n} {place} 8\n")?.as_bytes())?;
         }
     }
@@ -113,25 +121,36 @@ fn text(alloc: Global, work: Work) -> Result<ByteList, NoMemory> {
     }
 }
 
-fn names_of(alloc: Global, script: &Script) -> Result<NodeNames, NoMemory> {
-    let mut names = Vec::new(alloc);
-    for row in script.nodes() {
-        names.push(row.name.copy(alloc)?)?;
+/// The most bytes that a report or a journal has here.
+const ROOM: usize = 8_000_000;
+
+/// The words that ask for the turns of this number.
+fn words_of(alloc: Global, turns: u32) -> Result<Vec<String>> {
+    let mut words = Vec::new(alloc);
+    for word in ["run", "--turns"] {
+        words.push(String::from_str(alloc, word)?)?;
     }
-    NodeNames::from_list(alloc, names.as_slice())
+    words.push(format!(in alloc; "{turns}")?)?;
+    Ok(words)
 }
 
-/// Runs a script in the turns of this number, and writes its journal; how many events there were.
-fn run_once(alloc: Global, script: &Script, names: &NodeNames, turns: u32) -> Result<u32> {
-    let Ran { events, answers } =
-        run_script(alloc, script, Some(u64::from(turns)), 1 << 40).context("no run")?;
-    let lines = write_journal(alloc, &events, names)?;
-    anyhow::ensure!(!lines.bytes().is_empty() && !answers.items().is_empty(), "no events");
-    Ok(u32::try_from(events.items().len())?)
+/// Runs a script in the turns of this number; how many lines its journal has.
+fn run_once(alloc: Global, script: &[u8], turns: u32) -> Result<u32> {
+    let words = words_of(alloc, turns)?;
+    let mut source = MemSource::new(alloc, script, &[])?;
+    let mut out = MemSink::new(alloc, ROOM, &[])?;
+    let mut journal = MemSink::new(alloc, ROOM, &[])?;
+    let status = run_domain(alloc, words.as_slice(), &mut source, &mut out, &mut journal);
+    anyhow::ensure!(status == 0, "no run");
+    let mut lines = 0_u32;
+    for byte in journal.bytes() {
+        lines = lines.saturating_add(u32::from(*byte == b'\n'));
+    }
+    Ok(lines)
 }
 
+/// Runs a script so often, each time in other turns.
 pub fn run(rt: &HostRuntime, work: Work, count: u32) -> Result<(u64, u64)> {
-    let script = read_script(rt.alloc(), text(rt.alloc(), work)?.bytes())?;
-    let names = names_of(rt.alloc(), &script)?;
-    timed!(rt, count, i => run_once(rt.alloc(), &script, &names, i)?)
+    let script = text(rt.alloc(), work)?;
+    timed!(rt, count, i => run_once(rt.alloc(), script.bytes(), i)?)
 }
