@@ -4,3 +4,4 @@ pub mod EntryMoves
 pub mod LiveRun
 pub mod Standing
 pub mod OpenDecisions
+pub mod KnownRooms
