@@ -187,7 +187,7 @@ module _ (s : Setup) (setup : IsSetup s) (cs : List Choice) (old : World) (e : w
   after = world_with old (place_at c step) c.what step
 
   -- what is right of a home stays so
-  known-still : HomeStep (given s c.node) n c.what next.is.incoming step → (u : ObjectName) (o : Option Known) → IsKnownRight (old.nodes u.home).side.home u o → IsKnownRight (after.nodes u.home).side.home u o
+  pub known-still : HomeStep (given s c.node) n c.what next.is.incoming step → (u : ObjectName) (o : Option Known) → IsKnownRight (old.nodes u.home).side.home u o → IsKnownRight (after.nodes u.home).side.home u o
   known-still home u o is = elim (cases_eq u.home c.node) [
     | inr away ↦ subst (λ (x : NodeState). IsKnownRight x.side.home u o) (sym (put-other old.nodes c.node u.home step.node away)) is
     | inl here ↦ subst (λ (x : NodeState). IsKnownRight x.side.home u o) (sym (put-same old.nodes c.node u.home step.node here)) (at_home o (subst (λ a. IsKnownRight (old.nodes a).side.home u o) here is))

@@ -5,3 +5,4 @@ pub mod LiveRun
 pub mod Standing
 pub mod OpenDecisions
 pub mod KnownRooms
+pub mod KnownPages
