@@ -4,3 +4,5 @@ pub mod EntryMoves
 pub mod LiveRun
 pub mod Standing
 pub mod OpenDecisions
+pub mod KnownRooms
+pub mod KnownPages

@@ -349,7 +349,8 @@ module _ (s : Setup) (setup : IsSetup s) (old : World) (c : Choice) (new : World
     -- a grant that was heard has its row
     module _ (u : ObjectName) (k : Mode) (grant stamp room len : ℕ) where
       abbrev HasRow : Type 0
-      HasRow = (row_at (locks_of old) P u ≡ Some (k, grant)) × (served_of old P u.home ≡ length mine)
+      HasRow = (row_at (locks_of old) P u ≡ Some (k, grant)) × (served_of old P u.home ≡ length mine) × (to : ℕ) × IsCallAt mine (length mine) to (Ask.Lock u k) × (kind : ObjKind)
+          × WasAnswered old.trace u.home P (length mine) (Answer.Granted grant stamp kind room len)
 
       row-by : (kind : ObjKind) (number : ℕ) (x : OpenOp) (a : Asked) → (proc_of n p).doing ≡ Some x → x.awaits ≡ Await.Answer a → a.waiting.number ≡ number → open_call_of n.desk p ≡ Some (calls.Lock u k) → IsCallOf x.began.op (task_of n.desk p) (Some (calls.Lock u k))
           → SomeOf (λ (j : Noted). IsAnswerOf P number (Answer.Granted grant stamp kind room len) j.note) old.trace → HasRow
@@ -365,7 +366,7 @@ module _ (s : Setup) (setup : IsSetup s) (old : World) (c : Choice) (new : World
           (subst (λ i. SomeOf (λ (j : Noted). IsAnswerOf P i (Answer.Granted grant stamp kind room len) j.note) old.trace) last some) in
           let least = low old next.decisions next.replies P u.home (length mine) (Answer.Granted grant stamp kind room len) answered in
           let most = below old next.decisions next.replies P u.home in
-          ((live c.node p proc).granted a.home u k grant stamp kind room len lock answered, omega (arith, least, most))
+          ((live c.node p proc).granted a.home u k grant stamp kind room len lock answered, omega (arith, least, most), a.home, lock, kind, answered)
         where
           lock-is : (ask : Ask) → IsRequestOf (moving_of n.desk p) (calls.Lock u k) ask → ask ≡ Ask.Lock u k
           lock-is (Ask.Lock v l) is = ap (λ w. Ask.Lock w l) is.0 ∙ ap (λ y. Ask.Lock u y) is.1
@@ -404,7 +405,7 @@ module _ (s : Setup) (setup : IsSetup s) (old : World) (c : Choice) (new : World
           by (Await.Answer a) awaits named = row-by kind number x a is awaits named opened (subst (λ (b : BegunOp). IsCallOf b.op (task_of n.desk p) (Some (calls.Lock u k))) began of) some
           by (Await.Page v i) awaits named = absurd named
 
-      got-row : (cause : Cause) (may : MayCome n.desk p cause) → IsOf n.desk p cause o.op → IsTaken next.is.incoming n.desk p (proc_of n p).doing cause may → cause ≡ Cause.AnswerCame (LockAnswer.Granted u k grant stamp room len) → HasRow
+      pub got-row : (cause : Cause) (may : MayCome n.desk p cause) → IsOf n.desk p cause o.op → IsTaken next.is.incoming n.desk p (proc_of n p).doing cause may → cause ≡ Cause.AnswerCame (LockAnswer.Granted u k grant stamp room len) → HasRow
       got-row (Cause.AnswerCame a) may of taken is =
           let same : a ≡ LockAnswer.Granted u k grant stamp room len = cause-answer a (LockAnswer.Granted u k grant stamp room len) is in
           let found = granted-call may.call may.answer u k grant stamp room len (may.says ∙ ap Some same) in

@@ -1,3 +1,4 @@
 pub mod LiveLocks
 pub mod StandingLocks
 pub mod OpenDecisions
+pub mod KnownRooms

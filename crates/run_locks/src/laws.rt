@@ -5,6 +5,7 @@ ghost use Rattle.node_runs.specs.NodesKeep.{IsTimely};
 ghost use Rattle.node_runs.specs.Runs.{Choice, World, world_after};
 ghost use Rattle.run_locks.specs.LiveLocks.{AreLive};
 ghost use Rattle.run_locks.specs.StandingLocks.{AreStanding};
+ghost use Rattle.run_locks.specs.KnownRooms.{AreKnownRight, ArePagesRight};
 ghost use Rattle.run_locks.specs.OpenDecisions.{AreOpenFound, AreOpenRight};
 
 /// In every run in which no tick is above 2^40: a lock that is Held, and whose release or removal was not sent, has its row at its
@@ -27,4 +28,11 @@ pub fn homes_stand_for_what_is_kept()
 pub fn an_open_call_finds_what_it_needs()
     ensures found { (s : Setup) → IsSetup s → (cs : List Choice) (w : World) → world_after s cs ≡ Some w → IsTimely w → AreOpenFound s w }
     ensures right { (s : Setup) → IsSetup s → (cs : List Choice) (w : World) → world_after s cs ≡ Some w → IsTimely w → AreOpenRight s w }
+{}
+
+/// In every run in which no tick is above 2^40 the room that a desk knows of an object is the object's, as long as that is there, and the
+/// length that it knows lies within it; and each resident page is one of its object's.
+pub fn what_is_known_of_a_room_is_right()
+    ensures known { (s : Setup) → IsSetup s → (cs : List Choice) (w : World) → world_after s cs ≡ Some w → IsTimely w → AreKnownRight s w }
+    ensures pages { (s : Setup) → IsSetup s → (cs : List Choice) (w : World) → world_after s cs ≡ Some w → IsTimely w → ArePagesRight s w }
 {}
