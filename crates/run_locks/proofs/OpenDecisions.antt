@@ -1,6 +1,6 @@
 -- In every run a home that decides an open call finds what it needs.
-use Rattle.std.proofs.Common.{◌≡◌, ◌≢◌, ℕ, ◌+◌, ◌≤◌, ◌<◌, Bool, true, false, List, [], ◌∷◌, length, Option, Some, None, IfSome, inl, inr, refl, sym, ap, subst, ◌∙◌, arith}
-use Rattle.std.specs.Prelude.{◌==◌, ◌&&◌, not, is_some, unwrap_or}
+use Rattle.std.proofs.Common.{◌≡◌, ◌≢◌, ℕ, ◌+◌, ◌≤◌, ◌<◌, Bool, true, false, List, [], ◌∷◌, length, Option, Some, None, IfSome, IsSome, inl, inr, refl, sym, ap, subst, ◌∙◌, arith}
+use Rattle.std.specs.Prelude.{◌*◌, ◌==◌, ◌&&◌, not, is_some, unwrap_or}
 use Rattle.std.proofs.lemmas.Bool.{cases_eq}
 use Rattle.std.proofs.lemmas.Bool.Decides.{nat_tests}
 use Rattle.uid_names.specs.Names.{ProcName, ObjectName}
@@ -14,19 +14,38 @@ use Rattle.dom_history.specs.Replies.{may_write}
 use Rattle.dom_history.specs.Objects.{is_node}
 use Rattle.object_store.specs.declared.attributes.Attr.{Attr}
 use Rattle.object_store.specs.HomeStates.{attr_of}
+use Rattle.object_store.specs.Objects.{room_of}
 use Rattle.object_store.specs.Rules.{has_page, has_length, stamp_of}
+use Rattle.page_store.specs.Volumes.{page_of as page_in_volume}
+use Rattle.page_cache.specs.Caches.{Resident, is_page, page_at}
+use Rattle.uid_names.specs.declared.limits.TheConstants.{PAGE_BYTES}
+use Rattle.uid_names.specs.Names.{same_uid}
+use Rattle.uid_names.proofs.Orders.{same_uid_is}
+use Rattle.fault_handler.specs.declared.lengths.Known.{Known}
+use Rattle.fault_handler.specs.declared.tasks.Task.{Task}
+use Rattle.fault_handler.specs.Lengths.{known_of, length_of}
+use Rattle.fault_handler.specs.Tasks.{page_of, IsTask}
+use Rattle.fault_handler.proofs.PageLists.{found-uid, found-page}
+use Rattle.fault_handler.proofs.TransitKeeps.{keeps_writing-keeps}
+use Rattle.desk_laws.proofs.Facts.{known-kept}
+use Rattle.run_homes.specs.ToldRooms.{IsRoomOf}
+use Rattle.run_nodes.specs.OpenTasks.{IsTaskWithin}
+use Rattle.run_nodes.proofs.OpenTasks.{runs-within}
+use Rattle.run_locks.specs.KnownRooms.{IsKnownRight, IsPageOf}
+use Rattle.run_locks.proofs.KnownRooms.{known-are}
+use Rattle.run_locks.proofs.KnownPages.{task-page, each-find, pages-are}
 use Rattle.lock_manager.specs.declared.grants.Grant.{Grant}
 use Rattle.lock_manager.specs.Grants.{grant_of, held_in}
 use Rattle.call_once.specs.Calls.{last_of}
 use Rattle.ring_messages.specs.Bodies.{Ask, Answer, ask_of}
 use Rattle.ring_messages.specs.Frames.{Message, caller_of}
-use Rattle.page_server.specs.Decisions.{decide, write_answer, remove_answer, is_granted, may_remove}
+use Rattle.page_server.specs.Decisions.{decide, page_answer, write_answer, remove_answer, is_granted, may_remove}
 use Rattle.fault_handler.specs.declared.entries.LockEntry.{LockEntry}
 use Rattle.fault_handler.specs.Entries.{state_in, grant_in, is_released, keeps, keeps_writing}
 use Rattle.fault_handler.specs.Transits.{coming}
-use Rattle.fault_handler.specs.Desks.{DeskState, entries_of, entry_at, moving_of}
+use Rattle.fault_handler.specs.Desks.{DeskState, entries_of, entry_at, open_call_of, task_of, moving_of}
 use Rattle.fault_handler.specs.Outcomes.{Turn, Moved}
-use Rattle.fault_handler.specs.Invariant.{IsProc, FitsTransit}
+use Rattle.fault_handler.specs.Invariant.{IsProc, is_access, FitsTransit, FitsOpen}
 use Rattle.fault_handler.proofs.Fours.{by_proc, any-of}
 use Rattle.node_runs.specs.Setups.{Setup, IsSetup, Given, given}
 use Rattle.node_runs.specs.NodeStates.{Asked, Await, BegunOp, OpenOp, ProcState, NodeState, first_node, proc_of, name_of}
@@ -54,13 +73,13 @@ use Rattle.run_calls.specs.DecidedReplies.{proc_at}
 use Rattle.run_calls.proofs.HearingRuns.{IsKeptNext, same-ask, every-kept-run}
 use Rattle.run_nodes.specs.DeskSteps.{doing_after, IsSameAwait, IsSameDoing, NodeMove, still, moved}
 use Rattle.run_nodes.specs.AskedHomes.{IsAtHome, AreCallsAtHomes}
-use Rattle.run_nodes.specs.OpenCalls.{writes_under, Carries, CarriesOpen, AreCarried}
+use Rattle.run_nodes.specs.OpenCalls.{writes_under, HasSent, IsPageSent, IsLengthSent, Carries, CarriesOpen, AreCarried}
 use Rattle.run_nodes.proofs.AskedHomes.{calls-at-homes}
 use Rattle.run_nodes.proofs.DeskSteps.{step-desk}
 use Rattle.run_nodes.proofs.OpenCalls.{runs-carry}
 use Rattle.run_homes.specs.HistoryHomes.{held_then}
 use Rattle.run_locks.specs.LiveLocks.{row_at, locks_of, served_of, AreLive}
-use Rattle.run_locks.specs.OpenDecisions.{Finds, IsFound, AreFound, IsAwaitFound, IsOpenFound, AreOpenFound, IsRight, IsRightNote, IsAwaitRight, IsOpenRight, AreOpenRight}
+use Rattle.run_locks.specs.OpenDecisions.{Finds, IsFound, AreFound, IsAwaitFound, IsOpenFound, AreOpenFound, IsPageTold, IsWriteTold, IsRight, IsRightNote, IsAwaitRight, IsOpenRight, AreOpenRight}
 use Rattle.run_locks.proofs.Live.{call-within}
 use Rattle.run_locks.proofs.LiveRun.{end-none, caller-sends, asked-home, link-call, live-are}
 use Rattle.run_locks.proofs.Standing.{any-writes, row-there}
@@ -93,22 +112,20 @@ row-removes None m number is removes = absurd (cc)
 row-removes (Some g) m number is removes = ap mode_removes (ap (λ (o : Option (Mode × ℕ)). (unwrap_or o (m, number)).0) is) ∙ removes
 
 -- what a home decides of it is right
+write-right : (there granted current : Bool) (stamp : ℕ) → there ≡ true → granted ≡ true → IsWriteTold (write_answer there granted current stamp)
+write-right true true true stamp is given = tt
+write-right true true false stamp is given = tt
+write-right true false current stamp is given = absurd (cc)
+write-right false granted current stamp is given = absurd (cc)
+
+page-right : (there : Bool) (stamp : ℕ) (bytes : List ℕ) → there ≡ true → IsPageTold (page_answer there stamp bytes)
+page-right true stamp bytes is = tt
+page-right false stamp bytes is = absurd (cc)
+
 right-answer : (h : Held) (p : ProcName) (ask : Ask) → Finds h p ask → IsRight ask (decide h.home h.locks p ask).answer
-right-answer h p (Ask.PageIn u k) found = tt
-right-answer h p (Ask.PageOut u k grant base bytes) found = written (has_page (attr_of h.home u) k) (base == stamp_of (attr_of h.home u)) (stamp_of (attr_of h.home u)) (is_granted h.locks grant u p.node) found.1
-  where
-    written : (there current : Bool) (stamp : ℕ) (granted : Bool) → granted ≡ true → write_answer there granted current stamp ≢ Answer.NoGrant
-    written false current stamp granted is = λ e. absurd (cc)
-    written true true stamp true is = λ e. absurd (cc)
-    written true false stamp true is = λ e. absurd (cc)
-    written true current stamp false is = absurd (cc)
-right-answer h p (Ask.AttrOut u n grant base) found = written (has_length (attr_of h.home u) n) (base == stamp_of (attr_of h.home u)) (stamp_of (attr_of h.home u)) (is_granted h.locks grant u p.node) found.1
-  where
-    written : (there current : Bool) (stamp : ℕ) (granted : Bool) → granted ≡ true → write_answer there granted current stamp ≢ Answer.NoGrant
-    written false current stamp granted is = λ e. absurd (cc)
-    written true true stamp true is = λ e. absurd (cc)
-    written true false stamp true is = λ e. absurd (cc)
-    written true current stamp false is = absurd (cc)
+right-answer h p (Ask.PageIn u k) found = page-right (has_page (attr_of h.home u) k) (stamp_of (attr_of h.home u)) (page_in_volume h.home.pages u.counter k) found
+right-answer h p (Ask.PageOut u k grant base bytes) found = write-right (has_page (attr_of h.home u) k) (is_granted h.locks grant u p.node) (base == stamp_of (attr_of h.home u)) (stamp_of (attr_of h.home u)) found.0 found.1
+right-answer h p (Ask.AttrOut u n grant base) found = write-right (has_length (attr_of h.home u) n) (is_granted h.locks grant u p.node) (base == stamp_of (attr_of h.home u)) (stamp_of (attr_of h.home u)) found.0 found.1
 right-answer h p (Ask.Lock u m) found = tt
 right-answer h p (Ask.Unlock u) found = tt
 right-answer h p (Ask.Remove u) found = ap (λ b. remove_answer b (may_remove (grant_of p u h.locks.grants))) found.0 ∙ ap (remove_answer true) found.1
@@ -126,6 +143,24 @@ right-note h p number (Note.Decided q k ask answer) is found = λ same numbered_
 right-notes : (s : Setup) (p : ProcName) (number : ℕ) (notes : List Noted) → AreAnswered s notes → AreFound s p number notes → EachOf (λ (j : Noted). IsRightNote p number j.note) notes
 right-notes s p number [] are found = tt
 right-notes s p number (j ∷ older) are found = (right-note (held_then s j.place.node older) p number j.note are.0 found.0, right-notes s p number older are.1 found.1)
+
+-- a page, or a length, of an object that is there
+has-page : (o : Option Attr) (k room : ℕ) → is_some o ≡ true → room_of o ≡ room → k < room → has_page o k ≡ true
+has-page None k room there is below = absurd (cc)
+has-page (Some attr) k room there is below = let low : k < attr.room = omega (arith, is, below) in grind (arith, nat_tests, low)
+
+has-length : (o : Option Attr) (len room : ℕ) → is_some o ≡ true → room_of o ≡ room → len ≤ PAGE_BYTES * room → has_length o len ≡ true
+has-length None len room there is within = absurd (cc)
+has-length (Some attr) len room there is within = let low : len ≤ PAGE_BYTES * attr.room = subst (λ r. len ≤ PAGE_BYTES * r) (sym is) within in grind (arith, nat_tests, low)
+
+-- the open load or store whose page comes
+coming-task : (pages : List Resident) (entries : List (List LockEntry)) (q : ℕ) (b : Bool) (o : Option Task) (u : ObjectName) (k : ℕ) → FitsOpen pages entries q b o (coming u k) → (task : Task) × (o ≡ Some task) × IsTask task × (task.uid ≡ u) × (page_of task ≡ k)
+coming-task pages entries q true (Some task) u k fits =
+    let moves : (same_uid u task.uid && (k == page_of task)) ≡ true = fits.comes refl in
+    (task, refl, fits.allowed.range, sym (same_uid_is u task.uid (left-true (same_uid u task.uid) (k == page_of task) moves)), sym (equal k (page_of task) (right-true (same_uid u task.uid) (k == page_of task) moves)))
+coming-task pages entries q true None u k fits = absurd fits
+coming-task pages entries q false None u k fits = absurd (let e = fits.0 in cc)
+coming-task pages entries q false (Some task) u k fits = absurd fits
 
 -- a note that decides nothing finds nothing
 quiet-found : (h : Held) (p : ProcName) (number : ℕ) (note : Note) → IsNoDecision note → IsFound h p number note
@@ -183,15 +218,22 @@ module _ (s : Setup) (setup : IsSetup s) (cs : List Choice) (old : World) (e : w
     there-at : (m : Mode) (grant : ℕ) → row_at (locks_of old) (proc_at a q) u ≡ Some (m, grant) → is_some (attr_of (held_then s c.node old.trace).home u) ≡ true
     there-at m grant row = ap (λ (h : Held). is_some (attr_of h.home u)) held ∙ subst (λ b. is_some (attr_of (old.nodes b).side.home u) ≡ true) here (row-there s setup cs old e timely (proc_at a q) u (m, grant) row)
 
-    written : (grant : ℕ) → writes_under (old.nodes a).desk.entries u grant q ≡ true → (is_some (attr_of (held_then s c.node old.trace).home u) ≡ true) × (is_granted (held_then s c.node old.trace).locks grant u a ≡ true)
+    written : (grant : ℕ) → writes_under (old.nodes a).desk.entries u grant q ≡ true → (m : Mode) × (row_at (locks_of old) (proc_at a q) u ≡ Some (m, grant)) × (is_granted (held_then s c.node old.trace).locks grant u a ≡ true)
     written grant under =
         let entry = entry_at (old.nodes a).desk.entries q u in
         let x = writing-entry entry (left-true (keeps_writing entry) (grant_in entry == grant) under) in
         let number : x.0.grant ≡ grant = sym (ap grant_in x.2) ∙ equal (grant_in entry) grant (right-true (keeps_writing entry) (grant_in entry == grant) under) in
         let row : row_at (locks_of old) (proc_at a q) u ≡ Some (x.1, grant) = (live a q proc).row u x.0 x.1 x.2 x.5 x.3 ∙ ap (λ i. Some (x.1, i)) number in (
-          there-at x.1 grant row,
+          x.1,
+          row,
           ap (λ (h : Held). is_granted h.locks grant u a) held ∙ subst (λ b. is_granted (locks_of old b) grant u a ≡ true) here (any-writes (proc_at a q) u x.1 grant (locks_of old u.home).grants row x.4),
         )
+
+    room-at : (m : Mode) (grant room len : ℕ) → row_at (locks_of old) (proc_at a q) u ≡ Some (m, grant) → IsRoomOf (old.nodes u.home).side.home u room len → room_of (attr_of (held_then s c.node old.trace).home u) ≡ room
+    room-at m grant room len row is = ap (λ (h : Held). room_of (attr_of h.home u)) held ∙ subst (λ b. room_of (attr_of (old.nodes b).side.home u) ≡ room) here (is.room (row-there s setup cs old e timely (proc_at a q) u (m, grant) row))
+
+    page-at : (m : Mode) (grant k : ℕ) → row_at (locks_of old) (proc_at a q) u ≡ Some (m, grant) → IsPageOf (old.nodes u.home).side.home u k → has_page (attr_of (held_then s c.node old.trace).home u) k ≡ true
+    page-at m grant k row is = has-page (attr_of (held_then s c.node old.trace).home u) k is.0 (there-at m grant row) (room-at m grant is.0 0 row is.1) is.2
 
     removed : (m : Mode) (grant : ℕ) → mode_removes m ≡ true → row_at (locks_of old) (proc_at a q) u ≡ Some (m, grant) → may_remove (grant_of (proc_at a q) u (held_then s c.node old.trace).locks.grants) ≡ true
     removed m grant removes row =
@@ -215,16 +257,51 @@ module _ (s : Setup) (setup : IsSetup s) (cs : List Choice) (old : World) (e : w
     last : k.waiting.number ≡ length (old.calls a q)
     last = (subst (Agrees (old.nodes a).desk q (proc_of (old.nodes a) q).last) doing (kept_node.agrees q proc)).1.1.number ∙ next.calls.last a q proc
 
+    -- the page that comes, and the one that goes
+    page-in : (u : ObjectName) (i : ℕ) → moving_of (old.nodes a).desk q ≡ coming u i → IsPageOf (old.nodes u.home).side.home u i
+    page-in u i moves =
+        let d = (old.nodes a).desk in
+        let found = coming-task d.cache.pages d.entries q (is_access (open_call_of d q)) (task_of d q) u i (subst (FitsOpen d.cache.pages d.entries q (is_access (open_call_of d q)) (task_of d q)) moves (kept_node.desk.calls q proc)) in
+        let within : IsTaskWithin d.known found.0 = subst (λ o. IfSome o (IsTaskWithin d.known)) found.1 (runs-within s setup cs old e timely a node q proc) in
+        let page = task-page (old.nodes found.0.uid.home).side.home found.0 (known_of found.0.uid d.known) found.2 within (known-are s setup cs old e timely a node found.0.uid) in
+        subst (IsPageOf (old.nodes u.home).side.home u) found.4 (subst (λ w. IsPageOf (old.nodes w.home).side.home w (page_of found.0)) found.3 page)
+
+    page-sent : (u : ObjectName) (i : ℕ) (bytes : List ℕ) → HasSent bytes (page_at (old.nodes a).desk.cache.pages u i) → IsPageOf (old.nodes u.home).side.home u i
+    page-sent u i bytes sent = by (page_at pages u i) refl sent (each-find Page (is_page u i) pages (pages-are s setup cs old e timely a node))
+      where
+        pages : List Resident
+        pages = (old.nodes a).desk.cache.pages
+
+        Page : ObjectName → ℕ → Type 0
+        Page w k = IsPageOf (old.nodes w.home).side.home w k
+
+        by : (r : Option Resident) → page_at pages u i ≡ r → HasSent bytes r → IfSome r (λ x. Page x.uid x.page) → Page u i
+        by None is sent page = absurd sent
+        by (Some r) is sent page = subst (λ k. Page u k) (found-page pages u i r is) (subst (λ w. Page w r.page) (found-uid pages u i r is) page)
+
+    length-sent : (u : ObjectName) (len : ℕ) (m : Mode) (grant : ℕ) → u.home ≡ c.node → row_at (locks_of old) (proc_at a q) u ≡ Some (m, grant) → len ≤ length_of (known_of u (old.nodes a).desk.known) → (o : Option Known) → known_of u (old.nodes a).desk.known ≡ o
+        → IsKnownRight (old.nodes u.home).side.home u o → keeps (entry_at (old.nodes a).desk.entries q u) ≡ true → has_length (attr_of (held_then s c.node old.trace).home u) len ≡ true
+    length-sent u len m grant here row most (Some k) is right kept =
+        let least = ap length_of is in
+        let high = right.within in
+        has-length (attr_of (held_then s c.node old.trace).home u) len k.room (there-at a q proc u here m grant row) (room-at a q proc u here m grant k.room k.length row right) (omega (arith, most, least, high))
+    length-sent u len m grant here row most None is right kept = absurd (let none : IsSome {T = Known} None = subst IsSome is (known-kept (old.nodes a).desk q kept_node.desk proc u kept) in cc)
+
     finds : (ask : Ask) → k.ask ≡ ask → IsAtHome c.node ask → IsCallAt (old.calls a q) k.waiting.number c.node ask → served_of old P c.node < k.waiting.number → Finds (held_then s c.node old.trace) P ask
     finds (Ask.PageIn u i) is at call fresh =
         let moves : moving_of (old.nodes a).desk q ≡ coming u i = subst (Carries (old.nodes a).desk q) is carries in
         let fits = subst (FitsTransit (old.nodes a).desk.cache.pages (old.nodes a).desk.entries q) moves (kept_node.desk.moved.each q proc) in
         let row = kept-row a q proc u (sym at) fits.1 in
-        there-at a q proc u (sym at) row.0 row.1 row.2
+        page-at a q proc u (sym at) row.0 row.1 i row.2 (page-in u i moves)
     finds (Ask.PageOut u i grant base bytes) is at call fresh =
-        let found = any-of (writes_under (old.nodes a).desk.entries u grant) (subst (Carries (old.nodes a).desk q) is carries).granted in
-        written a found.0 found.1 u (sym at) grant found.2
-    finds (Ask.AttrOut u len grant base) is at call fresh = written a q proc u (sym at) grant (subst (Carries (old.nodes a).desk q) is carries).granted
+        let sent : IsPageSent (old.nodes a).desk q u i grant base bytes = subst (Carries (old.nodes a).desk q) is carries in
+        let found = any-of (writes_under (old.nodes a).desk.entries u grant) sent.granted in
+        let row = written a found.0 found.1 u (sym at) grant found.2 in
+        (page-at a found.0 found.1 u (sym at) row.0 grant i row.1 (page-sent u i bytes sent.page), row.2)
+    finds (Ask.AttrOut u len grant base) is at call fresh =
+        let sent : IsLengthSent (old.nodes a).desk q u len grant base = subst (Carries (old.nodes a).desk q) is carries in
+        let row = written a q proc u (sym at) grant sent.granted in
+        (length-sent u len row.0 grant (sym at) row.1 sent.length (known_of u (old.nodes a).desk.known) refl (known-are s setup cs old e timely a node u) (keeps_writing-keeps (entry_at (old.nodes a).desk.entries q u) (left-true (keeps_writing (entry_at (old.nodes a).desk.entries q u)) _ sent.granted)), row.2)
     finds (Ask.Lock u m) is at call fresh = tt
     finds (Ask.Unlock u) is at call fresh = tt
     finds (Ask.Remove u) is at call fresh =

@@ -1,9 +1,9 @@
--- What a home finds where it decides a call that its process still has open: what the call needs, but for the room of a page or
--- a length.
-use Rattle.std.specs.Prelude.{◌≡◌, ◌≢◌, ℕ, true, is_some, Option, Some, None, List, [], ◌∷◌}
+-- What a home finds where it decides a call that its process still has open: what the call needs.
+use Rattle.std.specs.Prelude.{◌≡◌, ℕ, true, is_some, Option, Some, None, List, [], ◌∷◌}
 use Rattle.uid_names.specs.Names.{ProcName}
 use Rattle.dom_history.specs.Objects.{is_node}
 use Rattle.object_store.specs.HomeStates.{attr_of}
+use Rattle.object_store.specs.Rules.{has_page, has_length}
 use Rattle.lock_manager.specs.Grants.{grant_of}
 use Rattle.ring_messages.specs.Bodies.{Ask, Answer}
 use Rattle.page_server.specs.Decisions.{is_granted, may_remove}
@@ -17,11 +17,12 @@ use Rattle.node_runs.specs.Replays.{Held}
 use Rattle.run_calls.specs.DecidedReplies.{proc_at}
 use Rattle.run_homes.specs.HistoryHomes.{held_then}
 
--- the object is there, and the process's node holds the grant, or the process the lock of what it removes
+-- the object is there, with room for the page or the length; the process's node holds the grant, or the process the lock of what it
+-- removes
 abbrev pub Finds : Held → ProcName → Ask → Type 0
-Finds h p (Ask.PageIn u k) = is_some (attr_of h.home u) ≡ true
-Finds h p (Ask.PageOut u k grant base bytes) = (is_some (attr_of h.home u) ≡ true) × (is_granted h.locks grant u p.node ≡ true)
-Finds h p (Ask.AttrOut u n grant base) = (is_some (attr_of h.home u) ≡ true) × (is_granted h.locks grant u p.node ≡ true)
+Finds h p (Ask.PageIn u k) = has_page (attr_of h.home u) k ≡ true
+Finds h p (Ask.PageOut u k grant base bytes) = (has_page (attr_of h.home u) k ≡ true) × (is_granted h.locks grant u p.node ≡ true)
+Finds h p (Ask.AttrOut u n grant base) = (has_length (attr_of h.home u) n ≡ true) × (is_granted h.locks grant u p.node ≡ true)
 Finds h p (Ask.Remove u) = (is_some (attr_of h.home u) ≡ true) × (may_remove (grant_of p u h.locks.grants) ≡ true)
 Finds h p ask = Unit {0}
 
@@ -47,10 +48,20 @@ IsOpenFound s p notes (Some o) = IsAwaitFound s p notes o.awaits
 abbrev pub AreOpenFound : Setup → World → Type 0
 AreOpenFound s w = (n p : ℕ) → is_node s.opening n ≡ true → IsProc p → IsOpenFound s (proc_at n p) w.trace (proc_of (w.nodes n) p).doing
 
--- so this is how it is answered: a removal is done, and no page and no length is refused for its grant
+-- so this is how it is answered: with its page; by taken or not, for its base alone; by done
+abbrev pub IsPageTold : Answer → Type 0
+IsPageTold (Answer.Page stamp bytes) = Unit {0}
+IsPageTold answer = ⊥
+
+abbrev pub IsWriteTold : Answer → Type 0
+IsWriteTold (Answer.Stored stamp) = Unit {0}
+IsWriteTold (Answer.Stale stamp) = Unit {0}
+IsWriteTold answer = ⊥
+
 abbrev pub IsRight : Ask → Answer → Type 0
-IsRight (Ask.PageOut u k grant base bytes) answer = answer ≢ Answer.NoGrant
-IsRight (Ask.AttrOut u n grant base) answer = answer ≢ Answer.NoGrant
+IsRight (Ask.PageIn u k) answer = IsPageTold answer
+IsRight (Ask.PageOut u k grant base bytes) answer = IsWriteTold answer
+IsRight (Ask.AttrOut u n grant base) answer = IsWriteTold answer
 IsRight (Ask.Remove u) answer = answer ≡ Answer.Done
 IsRight ask answer = Unit {0}
 

@@ -22,9 +22,10 @@ pub fn homes_stand_for_what_is_kept()
     ensures { (s : Setup) → IsSetup s → (cs : List Choice) (w : World) → world_after s cs ≡ Some w → IsTimely w → AreStanding w }
 {}
 
-/// And where a home decides a call that its process still has open, it finds what the call needs: the object of a page or a length,
-/// with the grant under which it is sent; the object of a removal, with a lock that may remove it. So an open removal is answered
-/// Done, and no open page and no open length is refused for its grant.
+/// And where a home decides a call that its process still has open, it finds what the call needs: the object with its page, or with room
+/// for its length, and the grant under which it is sent; the object of a removal, with a lock that may remove it. So an open page-in is
+/// answered with its page, an open page-out or attr-out by Stored or Stale, and an open removal by Done: never by no object, nor by no
+/// grant.
 pub fn an_open_call_finds_what_it_needs()
     ensures found { (s : Setup) → IsSetup s → (cs : List Choice) (w : World) → world_after s cs ≡ Some w → IsTimely w → AreOpenFound s w }
     ensures right { (s : Setup) → IsSetup s → (cs : List Choice) (w : World) → world_after s cs ≡ Some w → IsTimely w → AreOpenRight s w }
