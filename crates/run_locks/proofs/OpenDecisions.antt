@@ -363,7 +363,7 @@ module _ (s : Setup) (setup : IsSetup s) (cs : List Choice) (old : World) (e : w
 
       at-node : NodeMove g n next.is.incoming step → IsOpenFound s (proc_at c.node q) after.trace (proc_of step.node q).doing
       at-node (still desk same quiet uncalled) = same-found home c.node q next.is.node proc (proc_of n q).doing (proc_of step.node q).doing refl (same q proc) was
-      at-node (moved p o stage m owner is_at made at_desk doing others note call side) = elim (cases_eq q p) [
+      at-node (moved p o stage m owner is_at moves at_desk doing others note call side) = elim (cases_eq q p) [
         | inl there ↦
             subst (λ r. IsOpenFound s (proc_at c.node q) after.trace (proc_of step.node r).doing) (sym there)
             (subst (IsOpenFound s (proc_at c.node q) after.trace) (sym doing) (new-found-at p o m.turn (subst IsNoDecision (sym note) (end-none stage (name_of g p) (proc_of n p).phase o m.turn)) there))
