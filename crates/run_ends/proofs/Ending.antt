@@ -1,49 +1,37 @@
 -- Where no event is enabled and no call is open, all nodes have ended.
-use Rattle.std.proofs.Common.{◌≡◌, ◌≢◌, ℕ, zero, suc, ◌+◌, ◌<◌, ◌≤◌, Bool, true, false, cond, List, [], ◌∷◌, ◌++◌, map, Option, Some, None, inl, inr, refl, sym, ap, subst, ◌∙◌, arith}
-use Rattle.std.specs.Prelude.{◌==◌, ◌&&◌, ◌||◌, ◌^◌, nat_le, nat_lt, not, is_none, find, flat_map}
+use Rattle.std.proofs.Common.{◌≡◌, ◌≢◌, ℕ, zero, suc, ◌+◌, ◌<◌, ◌≤◌, Bool, true, false, cond, List, [], ◌∷◌, map, Option, Some, None, inl, inr, refl, sym, ap, subst, ◌∙◌, arith}
+use Rattle.std.specs.Prelude.{◌==◌, ◌&&◌, ◌||◌, ◌^◌, nat_le, nat_lt, not, is_none, find}
 use Rattle.std.specs.List.{list_any, list_all}
 use Rattle.std.proofs.lemmas.Bool.{cases_eq, eq-eqb, ne_eqb}
 use Rattle.std.proofs.lemmas.Bool.Decides.{nat_tests}
 use Rattle.uid_names.proofs.ListLemmas.{by_cases}
 use Rattle.dom_history.specs.declared.event.What.{What}
-use Rattle.dom_history.specs.declared.event.What.TheVariants.{Begin, Go, Take, Ready, Mark}
+use Rattle.dom_history.specs.declared.event.What.TheVariants.{Begin, Go, Ready}
 use Rattle.dom_history.specs.declared.plan.FateRow.{FateRow}
 use Rattle.dom_history.specs.Histories.{SomeOf}
 use Rattle.dom_history.specs.Objects.{is_node}
-use Rattle.fault_handler.specs.Desks.{procs}
 use Rattle.fault_handler.specs.Conditions.{IsIdle}
 use Rattle.fault_handler.specs.Invariant.{IsProc}
-use Rattle.fault_handler.proofs.Fours.{by_proc}
 use Rattle.node_runs.specs.Setups.{Setup, IsSetup, given}
 use Rattle.node_runs.specs.NodeStates.{Await, OpenOp, NodeState, proc_of, is_at_end, is_marked, is_ended}
-use Rattle.node_runs.specs.Incomings.{Incoming, has_program, has_come, may_go}
+use Rattle.node_runs.specs.Incomings.{Incoming, may_happen, has_program, has_come, may_go}
 use Rattle.node_runs.specs.Doings.{node_numbers, others_marked}
 use Rattle.node_runs.specs.NodesKeep.{IsTimely}
-use Rattle.node_runs.specs.Runs.{World, SentMark, HasEnded, choice_of, mark_of}
-use Rattle.node_runs.specs.CallsKeep.{EachOf}
+use Rattle.node_runs.specs.Runs.{World, SentMark, HasEnded, choice_of, incoming_of, mark_of}
 use Rattle.node_runs.proofs.SettingUp.{setup-procs}
 use Rattle.run_phases.specs.Phases.{IsMarkBelow, IsNodeInPhase, AreInPhase}
 use Rattle.run_phases.proofs.InPhases.{in_phases-are}
 use Rattle.world_runs.specs.ByPlace.{by_place}
-use Rattle.world_runs.specs.Gone.{notices_at}
-use Rattle.world_runs.specs.Waiting.{Entry, waiting}
-use Rattle.world_runs.specs.Turns.{starts_of, oldest, takes_at, coming_to, is_enabled, enabled_events, after_turns}
-use Rattle.world_runs.proofs.Among.{Among, among-left, among-right}
+use Rattle.world_runs.specs.Turns.{coming_to, enabled_events, after_turns}
+use Rattle.world_runs.proofs.Among.{Among}
 use Rattle.world_runs.proofs.Happening.{nodes-kept}
 use Rattle.world_runs.proofs.Merging.{Merged, turns-merge}
 use Rattle.run_ends.specs.OpenAsks.{IsAnswerAwaited, HasCall, HasNoCall}
-use Rattle.run_ends.proofs.NotEnabled.{flat-among, not-enabled}
 use Rattle.run_ends.proofs.MarkCounts.{marks_of}
 use Rattle.run_ends.proofs.LinkMarks.{was_sent, AreLinkMarks, turns-link-marks}
-use Rattle.run_ends.proofs.FirstWaiting.{both-true, marks-parts, enable, first-enabled}
+use Rattle.run_ends.proofs.FirstWaiting.{both-true, marks-parts, enable}
+use Rattle.run_ends.proofs.Stuck.{true-false, never, start-comes, ready-comes, nothing-waits}
 use Rattle.run_ends.proofs.Waits.{idle-without, none-in-transit}
-
-true-false : (b : Bool) → b ≡ true → b ≡ false → ⊥
-true-false true h g = absurd (cc)
-true-false false h g = absurd (cc)
-
-proc-among : (p : ℕ) → IsProc p → Among p procs
-proc-among = by_proc (λ p. Among p procs) (inl refl) (inr (inl refl)) (inr (inr (inl refl))) (inr (inr (inr (inl refl))))
 
 number-low : (a : ℕ) → Among a node_numbers → 1 ≤ a
 number-low zero is = absurd (none is)
@@ -92,9 +80,6 @@ module _ (s : Setup) (setup : IsSetup s) (plan : List FateRow) (cs : List ℕ) (
   merged : Merged s w
   merged = (turns-merge s setup plan cs w e).merged timely
 
-  few : s.opening.nodes ≤ 8
-  few = setup.start.nodes_high
-
   in_phases : AreInPhase s merged.world
   in_phases = in_phases-are s setup (map choice_of (by_place w.done)) merged.world merged.run (λ n. subst (λ (x : NodeState). x.tick ≤ 2 ^ 40) (merged.like.nodes n) (timely n))
 
@@ -108,24 +93,8 @@ module _ (s : Setup) (setup : IsSetup s) (plan : List FateRow) (cs : List ℕ) (
     abbrev x : NodeState
     x = w.nodes n
 
-    -- nothing that may come is enabled
-    never : (what : What) → Among what (coming_to plan w n) → is_enabled s w n what ≡ true → ⊥
-    never what comes is = true-false (is_enabled s w n what) is (not-enabled s few plan w none n node what comes)
-
-    start-comes : (p : ℕ) → IsProc p → (what : What) → Among what (starts_of p) → Among what (coming_to plan w n)
-    start-comes p proc what is = among-left what (flat_map starts_of procs) (notices_at plan w n ++ (takes_at plan w n ++ Ready x.phase ∷ [])) (flat-among starts_of p what procs (proc-among p proc) is)
-
-    ready-comes : Among (Ready x.phase) (coming_to plan w n)
-    ready-comes =
-        among-right (Ready x.phase) (flat_map starts_of procs) (notices_at plan w n ++ (takes_at plan w n ++ Ready x.phase ∷ []))
-        (among-right (Ready x.phase) (notices_at plan w n) (takes_at plan w n ++ Ready x.phase ∷ [])
-        (among-right (Ready x.phase) (takes_at plan w n) (Ready x.phase ∷ []) (inl refl)))
-
-    take-comes : (from : ℕ) → Among from node_numbers → (what : What) → Among what (oldest from (waiting plan from n w.done)) → Among what (coming_to plan w n)
-    take-comes from number what is =
-        among-right what (flat_map starts_of procs) (notices_at plan w n ++ (takes_at plan w n ++ Ready x.phase ∷ []))
-        (among-right what (notices_at plan w n) (takes_at plan w n ++ Ready x.phase ∷ [])
-        (among-left what (takes_at plan w n) (Ready x.phase ∷ []) (flat-among (λ a. oldest a (waiting plan a n w.done)) from what node_numbers number is)))
+    enables : (what : What) (incoming : Incoming) → Among what (coming_to plan w n) → incoming_of w n what ≡ Some incoming → may_happen (given s n) x what incoming ≡ true → ⊥
+    enables what incoming comes received may = never s setup plan w none n node alive what comes (enable s setup plan cs w e timely n alive what incoming received may)
 
     -- no page is on its way
     idle : (p : ℕ) → IsProc p → IsIdle x.desk p
@@ -143,49 +112,32 @@ module _ (s : Setup) (setup : IsSetup s) (plan : List FateRow) (cs : List ℕ) (
         of_await : (o : OpenOp) → (proc_of x p).doing ≡ Some o → (a : Await) → o.awaits ≡ a → is_at_end x p ≡ true
         of_await o is (Await.Answer c) awaits = absurd (no_call n node p proc (subst HasCall (sym is) (subst IsAnswerAwaited (sym awaits) tt)))
         of_await o is (Await.Page u k) awaits =
-            absurd (never (Go p) (start-comes p proc (Go p) (inr (inl refl)))
-            (enable s setup plan cs w e timely n alive (Go p) Incoming.Nothing refl
+            absurd (enables (Go p) Incoming.Nothing (start-comes s setup plan w none n node alive p proc (Go p) (inr (inl refl))) refl
             (both-true (has_program (given s n) p) (may_go x.desk (proc_of x p).doing) has
-            (ap (may_go x.desk) is ∙ ap (has_come x.desk) awaits ∙ ap (λ b. not b) (none-in-transit x.desk idle u k)))))
+            (ap (may_go x.desk) is ∙ ap (has_come x.desk) awaits ∙ ap (λ b. not b) (none-in-transit x.desk idle u k))))
 
         by : (o : Option OpenOp) → (proc_of x p).doing ≡ o → is_at_end x p ≡ true
         by None is =
             by_cases (is_at_end x p) (is_at_end x p ≡ true) (λ h. h)
-            (λ h. absurd (never (Begin p) (start-comes p proc (Begin p) (inl refl))
-            (enable s setup plan cs w e timely n alive (Begin p) Incoming.Nothing refl
+            (λ h. absurd (enables (Begin p) Incoming.Nothing (start-comes s setup plan w none n node alive p proc (Begin p) (inl refl)) refl
             (both-true (has_program (given s n) p) (is_none (proc_of x p).doing && not (is_at_end x p)) has
-            (both-true (is_none (proc_of x p).doing) (not (is_at_end x p)) (ap (λ (o : Option OpenOp). is_none o) is) (ap (λ b. not b) h))))))
+            (both-true (is_none (proc_of x p).doing) (not (is_at_end x p)) (ap (λ (o : Option OpenOp). is_none o) is) (ap (λ b. not b) h)))))
         by (Some o) is = of_await o is o.awaits refl
 
     -- and its mark was sent
     is-ready : x.ready ≡ true
     is-ready =
         by_cases x.ready (x.ready ≡ true) (λ h. h)
-        (λ h. absurd (never (Ready x.phase) ready-comes
-        (enable s setup plan cs w e timely n alive (Ready x.phase) Incoming.Nothing refl
+        (λ h. absurd (enables (Ready x.phase) Incoming.Nothing (ready-comes s setup plan w none n node alive) refl
         (both-true (x.phase == x.phase) (not x.ready && list_all (is_at_end x) (given s n).programs) (eq-eqb x.phase x.phase refl)
         (both-true (not x.ready) (list_all (is_at_end x) (given s n).programs) (ap (λ b. not b) h)
-        (all-among (is_at_end x) (given s n).programs (λ p is. program-ends p (among-any (given s n).programs p is))))))))
-
-    -- nothing waits on a link to the node
-    nothing-waits : (from : ℕ) → Among from node_numbers → waiting plan from n w.done ≡ []
-    nothing-waits from number = by (waiting plan from n w.done) refl
-      where
-        stuck : (what : What) (ws : List Entry) → waiting plan from n w.done ≡ ws → oldest from ws ≡ what ∷ [] → ⊥
-        stuck what ws is one =
-            let each = subst (EachOf (λ (y : What). is_enabled s w n y ≡ true)) one (first-enabled s setup plan cs w e timely n alive from ws is) in
-            never what (take-comes from number what (subst (λ (xs : List Entry). Among what (oldest from xs)) (sym is) (subst (Among what) (sym one) (inl refl)))) each.0
-
-        by : (ws : List Entry) → waiting plan from n w.done ≡ ws → waiting plan from n w.done ≡ []
-        by [] is = is
-        by (Entry.Copy index ∷ more) is = absurd (stuck (Take from index) (Entry.Copy index ∷ more) is refl)
-        by (Entry.Mark phase ∷ more) is = absurd (stuck (Mark from phase) (Entry.Mark phase ∷ more) is refl)
+        (all-among (is_at_end x) (given s n).programs (λ p is. program-ends p (among-any (given s n).programs p is)))))))
 
     -- each mark that another sent was taken
     mark-taken : (from k : ℕ) → Among from node_numbers → from ≢ n → (m : SentMark) → mark_of w from k ≡ Some m → is_marked x from k ≡ true
     mark-taken from k number other m found =
         let parts = marks-parts s setup plan cs w e timely from n k in
-        let empty = ap (marks_of k) (nothing-waits from number) in
+        let empty = ap (marks_of k) (nothing-waits s setup plan w none n node alive cs e timely from number) in
         let one : was_sent from n (mark_of w from k) ≡ 1 = ap (λ b. cond b 0 (cond (is_none (mark_of w from k)) 0 1)) (ne_eqb from n other) ∙ ap {B = ℕ} (λ (o : Option SentMark). cond (is_none o) 0 1) found in
         taken-all (is_marked x from k) (omega (arith, parts, empty, one))
 

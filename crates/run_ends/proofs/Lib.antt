@@ -3,5 +3,8 @@ pub mod MarkCounts
 pub mod MarkSteps
 pub mod LinkMarks
 pub mod FirstWaiting
+pub mod Stuck
+pub mod OpenRuns
+pub mod NothingComing
 pub mod Waits
 pub mod Ending

@@ -4,11 +4,14 @@ ghost use Rattle.dom_history.specs.declared.plan.FateRow.{FateRow};
 ghost use Rattle.dom_history.specs.declared.event.What.{What};
 ghost use Rattle.dom_history.specs.Objects.{is_node};
 ghost use Rattle.node_runs.specs.Setups.{Setup, IsSetup, given};
-ghost use Rattle.node_runs.specs.NodeStates.{is_ended};
+ghost use Rattle.fault_handler.specs.Invariant.{IsProc};
+ghost use Rattle.node_runs.specs.NodeStates.{OpenOp, proc_of, is_ended};
 ghost use Rattle.node_runs.specs.CallsKeep.{EachOf};
 ghost use Rattle.node_runs.specs.NodesKeep.{IsTimely};
-ghost use Rattle.node_runs.specs.Runs.{World, HasEnded};
+ghost use Rattle.node_runs.specs.Runs.{Choice, World, world_after, HasEnded};
 ghost use Rattle.world_runs.specs.Turns.{takes_at, is_enabled, enabled_events, after_turns};
+ghost use Rattle.world_runs.specs.Waiting.{waiting};
+ghost use Rattle.world_runs.specs.OpenNotices.{open_notices};
 ghost use Rattle.run_ends.specs.OpenAsks.{HasNoCall};
 
 /// What waits first on a link to a node that has not ended is enabled there, be it a frame or a mark.
@@ -16,6 +19,22 @@ pub fn what_waits_first_on_a_link_is_enabled()
     ensures { (s : Setup) (plan : List FateRow) → IsSetup s → (cs : List ℕ) (w : World) →
         after_turns s plan cs ≡ Some w → IsTimely w → (n : ℕ) → is_node s.opening n ≡ true → is_ended (given s n) (w.nodes n) ≡ false →
         EachOf (λ (what : What). is_enabled s w n what ≡ true) (takes_at plan w n) }
+{}
+
+/// While an operation is open no node has ended, in every run in which no tick is above 2^40: so the home of an open call has not.
+pub fn no_node_ends_while_an_operation_is_open()
+    ensures { (s : Setup) → IsSetup s → (cs : List Choice) (w : World) → world_after s cs ≡ Some w → IsTimely w →
+        (n p : ℕ) → is_node s.opening n ≡ true → IsProc p → (o : OpenOp) → (proc_of (w.nodes n) p).doing ≡ Some o →
+        (a : ℕ) → is_node s.opening a ≡ true → is_ended (given s a) (w.nodes a) ≡ false }
+{}
+
+/// Where no event is enabled, no notice is open, and while an operation is open nothing waits on any link.
+pub fn where_no_event_is_enabled_nothing_is_on_its_way()
+    ensures links { (s : Setup) (plan : List FateRow) → IsSetup s → (cs : List ℕ) (w : World) → after_turns s plan cs ≡ Some w → IsTimely w →
+        (n p : ℕ) → is_node s.opening n ≡ true → IsProc p → (o : OpenOp) → (proc_of (w.nodes n) p).doing ≡ Some o → enabled_events s plan w ≡ [] →
+        (from to : ℕ) → is_node s.opening from ≡ true → is_node s.opening to ≡ true → waiting plan from to w.done ≡ [] }
+    ensures notices { (s : Setup) (plan : List FateRow) → IsSetup s → (w : World) → enabled_events s plan w ≡ [] →
+        (n : ℕ) → is_node s.opening n ≡ true → open_notices s plan w n ≡ [] }
 {}
 
 /// Where no event is enabled and no call is open, all nodes have ended.
