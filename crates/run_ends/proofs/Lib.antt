@@ -6,5 +6,6 @@ pub mod FirstWaiting
 pub mod Stuck
 pub mod OpenRuns
 pub mod NothingComing
+pub mod AnsweredCalls
 pub mod Waits
 pub mod Ending

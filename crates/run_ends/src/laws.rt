@@ -1,11 +1,13 @@
 //! Laws of ends. Each stands on a function without a body, so that the check proves it.
-ghost use Rattle.std.specs.Prelude.{◌≡◌, ℕ, true, false, Some, List, []};
+ghost use Rattle.std.specs.Prelude.{◌≡◌, ℕ, true, false, Some, is_some, List, []};
 ghost use Rattle.dom_history.specs.declared.plan.FateRow.{FateRow};
 ghost use Rattle.dom_history.specs.declared.event.What.{What};
 ghost use Rattle.dom_history.specs.Objects.{is_node};
+ghost use Rattle.page_server.specs.Serving.{serve_of};
+ghost use Rattle.run_calls.specs.DecidedReplies.{proc_at};
 ghost use Rattle.node_runs.specs.Setups.{Setup, IsSetup, given};
 ghost use Rattle.fault_handler.specs.Invariant.{IsProc};
-ghost use Rattle.node_runs.specs.NodeStates.{OpenOp, proc_of, is_ended};
+ghost use Rattle.node_runs.specs.NodeStates.{Asked, Await, OpenOp, proc_of, is_ended};
 ghost use Rattle.node_runs.specs.CallsKeep.{EachOf};
 ghost use Rattle.node_runs.specs.NodesKeep.{IsTimely};
 ghost use Rattle.node_runs.specs.Runs.{Choice, World, world_after, HasEnded};
@@ -26,6 +28,13 @@ pub fn no_node_ends_while_an_operation_is_open()
     ensures { (s : Setup) → IsSetup s → (cs : List Choice) (w : World) → world_after s cs ≡ Some w → IsTimely w →
         (n p : ℕ) → is_node s.opening n ≡ true → IsProc p → (o : OpenOp) → (proc_of (w.nodes n) p).doing ≡ Some o →
         (a : ℕ) → is_node s.opening a ≡ true → is_ended (given s a) (w.nodes a) ≡ false }
+{}
+
+/// A home answers the request of an open call each time it comes, in every run in which no tick is above 2^40: it is never too old.
+pub fn a_home_answers_each_open_call()
+    ensures { (s : Setup) → IsSetup s → (cs : List Choice) (w : World) → world_after s cs ≡ Some w → IsTimely w →
+        (n p : ℕ) → is_node s.opening n ≡ true → IsProc p → (o : OpenOp) → (proc_of (w.nodes n) p).doing ≡ Some o → (c : Asked) → o.awaits ≡ Await.Answer c →
+        is_some (serve_of (w.nodes c.home).side (proc_at n p) c.waiting.number c.ask).answer ≡ true }
 {}
 
 /// Where no event is enabled, no notice is open, and while an operation is open nothing waits on any link.
