@@ -7,5 +7,6 @@ pub mod Stuck
 pub mod OpenRuns
 pub mod NothingComing
 pub mod AnsweredCalls
+pub mod ToldFrames
 pub mod Waits
 pub mod Ending

@@ -39,7 +39,7 @@ cond-among true x y xs (inr is) = inr is
 cond-among false x y xs (inl is) = absurd (let e = is.0 in cc)
 cond-among false x y xs (inr is) = is
 
-filter-among : {A : Type 0} (p : A → Bool) (x : A) (xs : List A) → p x ≡ true → Among x xs → Among x (filter p xs)
+pub filter-among : {A : Type 0} (p : A → Bool) (x : A) (xs : List A) → p x ≡ true → Among x xs → Among x (filter p xs)
 filter-among p x [] passes is = is
 filter-among p x (y ∷ ys) passes (inl same) = cond-among (p y) x y (filter p ys) (inl (ap p (sym same) ∙ passes, same))
 filter-among p x (y ∷ ys) passes (inr is) = cond-among (p y) x y (filter p ys) (inr (filter-among p x ys passes is))

@@ -6,6 +6,7 @@ use Rattle.dom_history.specs.Objects.{is_node}
 use Rattle.fault_handler.specs.Invariant.{IsProc}
 use Rattle.node_runs.specs.Setups.{Setup, IsSetup, given}
 use Rattle.node_runs.specs.NodeStates.{OpenOp, NodeState, proc_of, is_ended}
+use Rattle.node_runs.specs.Incomings.{has_program}
 use Rattle.node_runs.specs.NodesKeep.{IsTimely}
 use Rattle.node_runs.specs.Runs.{World, choice_of}
 use Rattle.world_runs.specs.ByPlace.{by_place}
@@ -13,7 +14,7 @@ use Rattle.world_runs.specs.Waiting.{waiting}
 use Rattle.world_runs.specs.Turns.{enabled_events, after_turns}
 use Rattle.world_runs.proofs.Merging.{turns-merge}
 use Rattle.run_ends.proofs.NotEnabled.{node-among}
-use Rattle.run_ends.proofs.OpenRuns.{none-ended}
+use Rattle.run_ends.proofs.OpenRuns.{none-ended, open-program}
 use Rattle.run_ends.proofs.Stuck.{nothing-waits}
 
 module _ (s : Setup) (plan : List FateRow) (setup : IsSetup s) (cs : List ℕ) (w : World) (e : after_turns s plan cs ≡ Some w) (timely : IsTimely w) (n p : ℕ) (node : is_node s.opening n ≡ true) (proc : IsProc p)
@@ -24,6 +25,12 @@ module _ (s : Setup) (plan : List FateRow) (setup : IsSetup s) (cs : List ℕ) (
       ap (λ (x : NodeState). is_ended (given s a) x) (merged.like.nodes a)
       ∙ none-ended s setup (map choice_of (by_place w.done)) merged.world merged.run (λ m. subst (λ (x : NodeState). x.tick ≤ 2 ^ 40) (merged.like.nodes m) (timely m)) n p node proc o
       (ap (λ (x : NodeState). (proc_of x p).doing) (sym (merged.like.nodes n)) ∙ open_op) a other
+
+  pub driven : has_program (given s n) p ≡ true
+  driven =
+      let merged = (turns-merge s setup plan cs w e).merged timely in
+      open-program s setup (map choice_of (by_place w.done)) merged.world merged.run (λ m. subst (λ (x : NodeState). x.tick ≤ 2 ^ 40) (merged.like.nodes m) (timely m)) n p node proc o
+      (ap (λ (x : NodeState). (proc_of x p).doing) (sym (merged.like.nodes n)) ∙ open_op)
 
   pub no-link : enabled_events s plan w ≡ [] → (from to : ℕ) → is_node s.opening from ≡ true → is_node s.opening to ≡ true → waiting plan from to w.done ≡ []
   no-link none from to sender receiver = nothing-waits s setup plan w none to receiver (all-alive to receiver) cs e timely from (node-among s setup.start.nodes_high from sender)

@@ -25,6 +25,9 @@ module _ (s : Setup) (setup : IsSetup s) (cs : List Choice) (w : World) (e : wor
   in_phase : AreInPhase s w
   in_phase = in_phases-are s setup cs w e timely
 
+  pub open-program : (n p : ℕ) → is_node s.opening n ≡ true → IsProc p → (o : OpenOp) → (proc_of (w.nodes n) p).doing ≡ Some o → has_program (given s n) p ≡ true
+  open-program n p node proc o open_op = (subst (IsOpenInPhase s w.marks n p (proc_of (w.nodes n) p).phase) open_op ((in_phase.nodes n node).procs p proc).doing).0
+
   over-all : (n p : ℕ) → is_node s.opening n ≡ true → has_program (given s n) p ≡ true → (a : ℕ) → is_node s.opening a ≡ true → s.phases < (w.nodes a).phase → s.phases < (proc_of (w.nodes n) p).phase
   over-all n p node has a other over =
       past-sent ((w.nodes a).tick + 1) n s.phases p (has_program (given s n)) w.marks has (λ q. (proc_of (w.nodes n) q).phase)

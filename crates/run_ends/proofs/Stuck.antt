@@ -41,11 +41,14 @@ module _ (s : Setup) (setup : IsSetup s) (plan : List FateRow) (w : World) (none
     abbrev x : NodeState
     x = w.nodes n
 
+    pub notice-comes : (what : What) → Among what (notices_at plan w n) → Among what (coming_to plan w n)
+    notice-comes what is =
+        among-right what (flat_map starts_of procs) (notices_at plan w n ++ (takes_at plan w n ++ Ready x.phase ∷ []))
+        (among-left what (notices_at plan w n) (takes_at plan w n ++ Ready x.phase ∷ []) is)
+
     pub no-notice : open_notices s plan w n ≡ []
     no-notice = filter-none (is_enabled s w n) (notices_at plan w n)
-        (λ what is. not-enabled s few plan w none n node what
-        (among-right what (flat_map starts_of procs) (notices_at plan w n ++ (takes_at plan w n ++ Ready x.phase ∷ []))
-        (among-left what (notices_at plan w n) (takes_at plan w n ++ Ready x.phase ∷ []) is)))
+        (λ what is. not-enabled s few plan w none n node what (notice-comes what is))
 
     module _ (alive : is_ended (given s n) (w.nodes n) ≡ false) where
       -- nothing that may come is enabled

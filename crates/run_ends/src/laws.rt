@@ -14,6 +14,8 @@ ghost use Rattle.node_runs.specs.Runs.{Choice, World, world_after, HasEnded};
 ghost use Rattle.world_runs.specs.Turns.{takes_at, is_enabled, enabled_events, after_turns};
 ghost use Rattle.world_runs.specs.Waiting.{waiting};
 ghost use Rattle.world_runs.specs.OpenNotices.{open_notices};
+ghost use Rattle.world_runs.specs.Gone.{gone_in};
+ghost use Rattle.run_ends.specs.FramesOfCalls.{IsToldIfOf};
 ghost use Rattle.run_ends.specs.OpenAsks.{HasNoCall};
 
 /// What waits first on a link to a node that has not ended is enabled there, be it a frame or a mark.
@@ -44,6 +46,13 @@ pub fn where_no_event_is_enabled_nothing_is_on_its_way()
         (from to : ℕ) → is_node s.opening from ≡ true → is_node s.opening to ≡ true → waiting plan from to w.done ≡ [] }
     ensures notices { (s : Setup) (plan : List FateRow) → IsSetup s → (w : World) → enabled_events s plan w ≡ [] →
         (n : ℕ) → is_node s.opening n ≡ true → open_notices s plan w n ≡ [] }
+{}
+
+/// And each frame of an open call that was lost or is late was told to its process.
+pub fn where_no_event_is_enabled_each_lost_frame_was_told()
+    ensures { (s : Setup) (plan : List FateRow) → IsSetup s → (cs : List ℕ) (w : World) → after_turns s plan cs ≡ Some w → IsTimely w →
+        (n p : ℕ) → is_node s.opening n ≡ true → IsProc p → (o : OpenOp) → (proc_of (w.nodes n) p).doing ≡ Some o → (c : Asked) → o.awaits ≡ Await.Answer c → enabled_events s plan w ≡ [] →
+        EachOf (IsToldIfOf w (proc_at n p) c.waiting.number) (gone_in plan w.done) }
 {}
 
 /// Where no event is enabled and no call is open, all nodes have ended.
