@@ -1,0 +1,12 @@
+pub mod NotEnabled
+pub mod MarkCounts
+pub mod MarkSteps
+pub mod LinkMarks
+pub mod FirstWaiting
+pub mod Stuck
+pub mod OpenRuns
+pub mod NothingComing
+pub mod AnsweredCalls
+pub mod ToldFrames
+pub mod Waits
+pub mod Ending

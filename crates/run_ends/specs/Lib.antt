@@ -1,0 +1,2 @@
+pub mod OpenAsks
+pub mod FramesOfCalls

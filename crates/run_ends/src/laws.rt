@@ -1,0 +1,62 @@
+//! Laws of ends. Each stands on a function without a body, so that the check proves it.
+ghost use Rattle.std.specs.Prelude.{◌≡◌, ℕ, true, false, Some, is_some, List, []};
+ghost use Rattle.dom_history.specs.declared.plan.FateRow.{FateRow};
+ghost use Rattle.dom_history.specs.declared.event.What.{What};
+ghost use Rattle.dom_history.specs.Objects.{is_node};
+ghost use Rattle.page_server.specs.Serving.{serve_of};
+ghost use Rattle.run_calls.specs.DecidedReplies.{proc_at};
+ghost use Rattle.node_runs.specs.Setups.{Setup, IsSetup, given};
+ghost use Rattle.fault_handler.specs.Invariant.{IsProc};
+ghost use Rattle.node_runs.specs.NodeStates.{Asked, Await, OpenOp, proc_of, is_ended};
+ghost use Rattle.node_runs.specs.CallsKeep.{EachOf};
+ghost use Rattle.node_runs.specs.NodesKeep.{IsTimely};
+ghost use Rattle.node_runs.specs.Runs.{Choice, World, world_after, HasEnded};
+ghost use Rattle.world_runs.specs.Turns.{takes_at, is_enabled, enabled_events, after_turns};
+ghost use Rattle.world_runs.specs.Waiting.{waiting};
+ghost use Rattle.world_runs.specs.OpenNotices.{open_notices};
+ghost use Rattle.world_runs.specs.Gone.{gone_in};
+ghost use Rattle.run_ends.specs.FramesOfCalls.{IsToldIfOf};
+ghost use Rattle.run_ends.specs.OpenAsks.{HasNoCall};
+
+/// What waits first on a link to a node that has not ended is enabled there, be it a frame or a mark.
+pub fn what_waits_first_on_a_link_is_enabled()
+    ensures { (s : Setup) (plan : List FateRow) → IsSetup s → (cs : List ℕ) (w : World) →
+        after_turns s plan cs ≡ Some w → IsTimely w → (n : ℕ) → is_node s.opening n ≡ true → is_ended (given s n) (w.nodes n) ≡ false →
+        EachOf (λ (what : What). is_enabled s w n what ≡ true) (takes_at plan w n) }
+{}
+
+/// While an operation is open no node has ended, in every run in which no tick is above 2^40: so the home of an open call has not.
+pub fn no_node_ends_while_an_operation_is_open()
+    ensures { (s : Setup) → IsSetup s → (cs : List Choice) (w : World) → world_after s cs ≡ Some w → IsTimely w →
+        (n p : ℕ) → is_node s.opening n ≡ true → IsProc p → (o : OpenOp) → (proc_of (w.nodes n) p).doing ≡ Some o →
+        (a : ℕ) → is_node s.opening a ≡ true → is_ended (given s a) (w.nodes a) ≡ false }
+{}
+
+/// A home answers the request of an open call each time it comes, in every run in which no tick is above 2^40: it is never too old.
+pub fn a_home_answers_each_open_call()
+    ensures { (s : Setup) → IsSetup s → (cs : List Choice) (w : World) → world_after s cs ≡ Some w → IsTimely w →
+        (n p : ℕ) → is_node s.opening n ≡ true → IsProc p → (o : OpenOp) → (proc_of (w.nodes n) p).doing ≡ Some o → (c : Asked) → o.awaits ≡ Await.Answer c →
+        is_some (serve_of (w.nodes c.home).side (proc_at n p) c.waiting.number c.ask).answer ≡ true }
+{}
+
+/// Where no event is enabled, no notice is open, and while an operation is open nothing waits on any link.
+pub fn where_no_event_is_enabled_nothing_is_on_its_way()
+    ensures links { (s : Setup) (plan : List FateRow) → IsSetup s → (cs : List ℕ) (w : World) → after_turns s plan cs ≡ Some w → IsTimely w →
+        (n p : ℕ) → is_node s.opening n ≡ true → IsProc p → (o : OpenOp) → (proc_of (w.nodes n) p).doing ≡ Some o → enabled_events s plan w ≡ [] →
+        (from to : ℕ) → is_node s.opening from ≡ true → is_node s.opening to ≡ true → waiting plan from to w.done ≡ [] }
+    ensures notices { (s : Setup) (plan : List FateRow) → IsSetup s → (w : World) → enabled_events s plan w ≡ [] →
+        (n : ℕ) → is_node s.opening n ≡ true → open_notices s plan w n ≡ [] }
+{}
+
+/// And each frame of an open call that was lost or is late was told to its process.
+pub fn where_no_event_is_enabled_each_lost_frame_was_told()
+    ensures { (s : Setup) (plan : List FateRow) → IsSetup s → (cs : List ℕ) (w : World) → after_turns s plan cs ≡ Some w → IsTimely w →
+        (n p : ℕ) → is_node s.opening n ≡ true → IsProc p → (o : OpenOp) → (proc_of (w.nodes n) p).doing ≡ Some o → (c : Asked) → o.awaits ≡ Await.Answer c → enabled_events s plan w ≡ [] →
+        EachOf (IsToldIfOf w (proc_at n p) c.waiting.number) (gone_in plan w.done) }
+{}
+
+/// Where no event is enabled and no call is open, all nodes have ended.
+pub fn without_open_calls_no_turn_is_stuck()
+    ensures { (s : Setup) (plan : List FateRow) → IsSetup s → (cs : List ℕ) (w : World) →
+        after_turns s plan cs ≡ Some w → IsTimely w → enabled_events s plan w ≡ [] → HasNoCall s w → HasEnded s w }
+{}
