@@ -5,7 +5,7 @@ use Rattle.std.proofs.lemmas.Bool.{cases_eq}
 use Rattle.std.proofs.lemmas.Bool.Decides.{nat_tests}
 use Rattle.std.proofs.lemmas.List.Elements.{All-nil, All-cons, All-head, All-tail}
 use Rattle.uid_names.specs.Names.{ProcName, ObjectName, same_proc, same_uid}
-use Rattle.uid_names.specs.Modes.{mode_writes, mode_removes}
+use Rattle.uid_names.specs.Modes.{mode_removes, modes_clash}
 use Rattle.uid_names.specs.Rows.{row_lt, same_row}
 use Rattle.uid_names.specs.InOrder.{put_in_order}
 use Rattle.uid_names.specs.declared.lock_row.LockRow.{LockRow}
@@ -13,6 +13,7 @@ use Rattle.uid_names.specs.declared.limits.TheConstants.{VOLUME_ROOM}
 use Rattle.uid_names.specs.declared.mode.Mode.{Mode}
 use Rattle.uid_names.specs.declared.mode.Mode.TheVariants.{Read, Write}
 use Rattle.uid_names.proofs.ListLemmas.{by_cases}
+use Rattle.uid_names.proofs.Codes.{modes_clash-sym}
 use Rattle.uid_names.proofs.InOrder.{AllPairs-head, AllPairs-tail}
 use Rattle.uid_names.proofs.Orders.{same_row_is, same_uid_is, same_proc_is}
 use Rattle.dom_history.specs.StoreEffects.{StoreEffect, Makes, TakesLock, FreesLock, Deletes, Writes, Maps, Unmaps}
@@ -106,31 +107,29 @@ module _ (q : ProcName) (v : ObjectName) where
   only false false c w is = refl
   only a b false w is = absurd (cc)
 
-  left-or : (a b : Bool) → a ≡ true → (a || b) ≡ true
-  left-or true b is = refl
-  left-or false b is = absurd (cc)
-
-  right-or : (a b : Bool) → b ≡ true → (a || b) ≡ true
-  right-or true b is = refl
-  right-or false b is = is
+  -- a holder that may remove the object conflicts with every other one
+  removes-clash : (p : ProcName) (m : Mode) (o : ProcName) (k : Mode) → mode_removes m ≡ true → modes_clash p m o k ≡ true
+  removes-clash p Read o k is = absurd (cc)
+  removes-clash p Write o Read is = refl
+  removes-clash p Write o Write is = refl
 
   -- the grant of the process stands first
-  own-first : (g k : Grant) → same_row q v g.row ≡ true → mode_writes g.row.mode ≡ true → are_in_conflict g k ≡ false → IsOwn k
-  own-first g k row writes free =
+  own-first : (g k : Grant) → same_row q v g.row ≡ true → mode_removes g.row.mode ≡ true → are_in_conflict g k ≡ false → IsOwn k
+  own-first g k row removes free =
       let names = same_row_is q v g.row row in
-      only (same_uid v k.row.uid) (same_proc q k.row.proc) (mode_writes g.row.mode || mode_writes k.row.mode) (left-or (mode_writes g.row.mode) (mode_writes k.row.mode) writes)
-      (subst (λ u. (same_uid u k.row.uid && (not (same_proc q k.row.proc) && (mode_writes g.row.mode || mode_writes k.row.mode))) ≡ false) (sym names.1)
-      (subst (λ p. (same_uid g.row.uid k.row.uid && (not (same_proc p k.row.proc) && (mode_writes g.row.mode || mode_writes k.row.mode))) ≡ false) (sym names.0) free))
+      only (same_uid v k.row.uid) (same_proc q k.row.proc) (modes_clash g.row.proc g.row.mode k.row.proc k.row.mode) (removes-clash g.row.proc g.row.mode k.row.proc k.row.mode removes)
+      (subst (λ u. (same_uid u k.row.uid && (not (same_proc q k.row.proc) && modes_clash g.row.proc g.row.mode k.row.proc k.row.mode)) ≡ false) (sym names.1)
+      (subst (λ p. (same_uid g.row.uid k.row.uid && (not (same_proc p k.row.proc) && modes_clash g.row.proc g.row.mode k.row.proc k.row.mode)) ≡ false) (sym names.0) free))
 
   -- or later: then the first is not on the object
-  own-later : (g h : Grant) → same_row q v g.row ≡ false → same_row q v h.row ≡ true → mode_writes h.row.mode ≡ true → are_in_conflict g h ≡ false → IsOwn g
-  own-later g h other row writes free =
+  own-later : (g h : Grant) → same_row q v g.row ≡ false → same_row q v h.row ≡ true → mode_removes h.row.mode ≡ true → are_in_conflict g h ≡ false → IsOwn g
+  own-later g h other row removes free =
       let names = same_row_is q v h.row row in
       by (same_uid v g.row.uid) (same_proc q g.row.proc) refl refl
       (let e : same_uid g.row.uid h.row.uid ≡ same_uid v g.row.uid = subst (λ u. same_uid g.row.uid h.row.uid ≡ same_uid u g.row.uid) (sym names.1) (flip-uid g.row.uid h.row.uid) in
       let f : same_proc g.row.proc h.row.proc ≡ same_proc q g.row.proc = subst (λ p. same_proc g.row.proc h.row.proc ≡ same_proc p g.row.proc) (sym names.0) (flip-proc g.row.proc h.row.proc) in
-      subst (λ a. (a && (not (same_proc q g.row.proc) && (mode_writes g.row.mode || mode_writes h.row.mode))) ≡ false) e
-      (subst (λ b. (same_uid g.row.uid h.row.uid && (not b && (mode_writes g.row.mode || mode_writes h.row.mode))) ≡ false) f free))
+      subst (λ a. (a && (not (same_proc q g.row.proc) && modes_clash g.row.proc g.row.mode h.row.proc h.row.mode)) ≡ false) e
+      (subst (λ b. (same_uid g.row.uid h.row.uid && (not b && modes_clash g.row.proc g.row.mode h.row.proc h.row.mode)) ≡ false) f free))
     where
       flip-uid : (a b : ObjectName) → same_uid a b ≡ same_uid b a
       flip-uid a b = grind (arith, nat_tests)
@@ -138,17 +137,17 @@ module _ (q : ProcName) (v : ObjectName) where
       flip-proc : (a b : ProcName) → same_proc a b ≡ same_proc b a
       flip-proc a b = grind (arith, nat_tests)
 
-      w : (mode_writes g.row.mode || mode_writes h.row.mode) ≡ true
-      w = right-or (mode_writes g.row.mode) (mode_writes h.row.mode) writes
+      w : modes_clash g.row.proc g.row.mode h.row.proc h.row.mode ≡ true
+      w = modes_clash-sym g.row.proc g.row.mode h.row.proc h.row.mode ∙ removes-clash h.row.proc h.row.mode g.row.proc g.row.mode removes
 
-      by : (a b : Bool) → same_uid v g.row.uid ≡ a → same_proc q g.row.proc ≡ b → (same_uid v g.row.uid && (not (same_proc q g.row.proc) && (mode_writes g.row.mode || mode_writes h.row.mode))) ≡ false → IsOwn g
-      by a b is_a is_b clear = is_a ∙ (only a b (mode_writes g.row.mode || mode_writes h.row.mode) w
-          (subst (λ x. (x && (not b && (mode_writes g.row.mode || mode_writes h.row.mode))) ≡ false) is_a (subst (λ y. (same_uid v g.row.uid && (not y && (mode_writes g.row.mode || mode_writes h.row.mode))) ≡ false) is_b clear))
+      by : (a b : Bool) → same_uid v g.row.uid ≡ a → same_proc q g.row.proc ≡ b → (same_uid v g.row.uid && (not (same_proc q g.row.proc) && modes_clash g.row.proc g.row.mode h.row.proc h.row.mode)) ≡ false → IsOwn g
+      by a b is_a is_b clear = is_a ∙ (only a b (modes_clash g.row.proc g.row.mode h.row.proc h.row.mode) w
+          (subst (λ x. (x && (not b && modes_clash g.row.proc g.row.mode h.row.proc h.row.mode)) ≡ false) is_a (subst (λ y. (same_uid v g.row.uid && (not y && modes_clash g.row.proc g.row.mode h.row.proc h.row.mode)) ≡ false) is_b clear))
           ∙ sym (ap (λ x. x && same_uid v g.row.uid) is_b ∙ ap (λ x. b && x) is_a))
 
-  each-own : (grants : List Grant) (h : Grant) → AreCompatible grants → grant_of q v grants ≡ Some h → mode_writes h.row.mode ≡ true → All IsOwn grants
-  each-own [] h pairs found writes = absurd (cc)
-  each-own (g ∷ rest) h pairs found writes = by (same_row q v g.row) refl found (λ later. each-own rest h (AllPairs-tail (λ a b. are_in_conflict a b ≡ false) g rest pairs) later writes)
+  each-own : (grants : List Grant) (h : Grant) → AreCompatible grants → grant_of q v grants ≡ Some h → mode_removes h.row.mode ≡ true → All IsOwn grants
+  each-own [] h pairs found removes = absurd (cc)
+  each-own (g ∷ rest) h pairs found removes = by (same_row q v g.row) refl found (λ later. each-own rest h (AllPairs-tail (λ a b. are_in_conflict a b ≡ false) g rest pairs) later removes)
     where
       free : All (λ k. are_in_conflict g k ≡ false) rest
       free = AllPairs-head (λ a b. are_in_conflict a b ≡ false) g rest pairs
@@ -156,11 +155,11 @@ module _ (q : ProcName) (v : ObjectName) where
       by : (b : Bool) → same_row q v g.row ≡ b → (if b then Some g else grant_of q v rest) ≡ Some h → (grant_of q v rest ≡ Some h → All IsOwn rest) → All IsOwn (g ∷ rest)
       by true row is later =
           let same : g ≡ h = cc in
-          let wrote : mode_writes g.row.mode ≡ true = subst (λ x. mode_writes x.row.mode ≡ true) (sym same) writes in
-          All-cons IsOwn g rest (subst (λ u. same_uid v u ≡ true) (same_row_is q v g.row row).1 (uid-itself v) ∙ sym row) (all-more (λ k. are_in_conflict g k ≡ false) IsOwn rest (λ k clear. own-first g k row wrote clear) free)
+          let removing : mode_removes g.row.mode ≡ true = subst (λ x. mode_removes x.row.mode ≡ true) (sym same) removes in
+          All-cons IsOwn g rest (subst (λ u. same_uid v u ≡ true) (same_row_is q v g.row row).1 (uid-itself v) ∙ sym row) (all-more (λ k. are_in_conflict g k ≡ false) IsOwn rest (λ k clear. own-first g k row removing clear) free)
       by false row is later =
           let holds = found-all (λ k. are_in_conflict g k ≡ false) (λ k. same_row q v k.row) rest h free is in
-          All-cons IsOwn g rest (own-later g h row (passes rest is) writes holds) (later is)
+          All-cons IsOwn g rest (own-later g h row (passes rest is) removes holds) (later is)
         where
           passes : (ks : List Grant) → grant_of q v ks ≡ Some h → same_row q v h.row ≡ true
           passes [] found = absurd (cc)
@@ -175,10 +174,6 @@ module _ (q : ProcName) (v : ObjectName) where
   alone-filter (g ∷ grants) all =
       ap (λ b. if not b then g ∷ filter (λ k. not (is_on v k)) grants else filter (λ k. not (is_on v k)) grants) (All-head IsOwn g grants all)
       ∙ ap (λ ks. if not (same_row q v g.row) then g ∷ ks else ks) (alone-filter grants (All-tail IsOwn g grants all))
-
-removes-writes : (m : Mode) → mode_removes m ≡ true → mode_writes m ≡ true
-removes-writes Read is = absurd (cc)
-removes-writes Write is = refl
 
 -- what is told by the effects of homes alone
 pub rows-home : (n : ℕ) (past : List StoreEffect) → rows n (home_effects past) ≡ rows n past
@@ -215,7 +210,7 @@ module _ (n : ℕ) (past : List StoreEffect) (h : Held) (table : IsTable h.locks
 
   alone : (q : ProcName) (v : ObjectName) (o : Option Grant) → grant_of q v h.locks.grants ≡ o → may_remove o ≡ true → filter (λ g. not (is_on v g)) h.locks.grants ≡ grants_without q v h.locks.grants
   alone q v None found may = absurd (cc)
-  alone q v (Some g) found may = alone-filter q v h.locks.grants (each-own q v h.locks.grants g table.compatible found (removes-writes g.row.mode may))
+  alone q v (Some g) found may = alone-filter q v h.locks.grants (each-own q v h.locks.grants g table.compatible found may)
 
   remove-right : (q : ProcName) (v : ObjectName) → n ≡ v.home → (there held : Bool) → may_remove (grant_of q v h.locks.grants) ≡ held
       → IsRight q (Ask.Remove v) (remove_answer there held) (if there && held then record { grants = filter (λ g. not (is_on v g)) h.locks.grants; last = h.locks.last } else h.locks).grants
