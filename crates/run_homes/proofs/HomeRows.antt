@@ -11,7 +11,6 @@ use Rattle.uid_names.specs.InOrder.{put_in_order}
 use Rattle.uid_names.specs.declared.lock_row.LockRow.{LockRow}
 use Rattle.uid_names.specs.declared.limits.TheConstants.{VOLUME_ROOM}
 use Rattle.uid_names.specs.declared.mode.Mode.{Mode}
-use Rattle.uid_names.specs.declared.mode.Mode.TheVariants.{Read, Write}
 use Rattle.uid_names.proofs.ListLemmas.{by_cases}
 use Rattle.uid_names.proofs.Codes.{modes_clash-sym}
 use Rattle.uid_names.proofs.InOrder.{AllPairs-head, AllPairs-tail}
@@ -35,6 +34,7 @@ use Rattle.node_runs.specs.CallsKeep.{EachOf}
 use Rattle.node_runs.specs.Replays.{Held, after_note, after_if, replay, first_held, IsAnswered, AreAnswered}
 use Rattle.node_runs.specs.RunHistories.{settled_op, change_reply}
 use Rattle.run_nodes.specs.AskedHomes.{IsAtHome}
+use Rattle.run_homes.proofs.Removals.{removes-clash}
 use Rattle.run_homes.specs.DecidedEffects.{home_effects, effect_if, noted_effect, decided_effects}
 use Rattle.run_homes.specs.HistoryHomes.{held_then}
 
@@ -106,12 +106,6 @@ module _ (q : ProcName) (v : ObjectName) where
   only false true c w is = refl
   only false false c w is = refl
   only a b false w is = absurd (cc)
-
-  -- a holder that may remove the object conflicts with every other one
-  removes-clash : (p : ProcName) (m : Mode) (o : ProcName) (k : Mode) → mode_removes m ≡ true → modes_clash p m o k ≡ true
-  removes-clash p Read o k is = absurd (cc)
-  removes-clash p Write o Read is = refl
-  removes-clash p Write o Write is = refl
 
   -- the grant of the process stands first
   own-first : (g k : Grant) → same_row q v g.row ≡ true → mode_removes g.row.mode ≡ true → are_in_conflict g k ≡ false → IsOwn k

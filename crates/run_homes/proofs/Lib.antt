@@ -5,3 +5,4 @@ pub mod Presence
 pub mod HistoryHomes
 pub mod HomeWords
 pub mod ToldRooms
+pub mod Removals

@@ -2,13 +2,14 @@
 use Rattle.std.proofs.Common.{◌≡◌, ℕ, ◌+◌, Bool, true, false, Option, Some, None, refl, sym, ap, subst, ◌∙◌, arith}
 use Rattle.std.specs.Prelude.{◌&&◌, ◌||◌, if◌then◌else◌, is_some, is_none}
 use Rattle.std.proofs.lemmas.Bool.Decides.{nat_tests}
+use Rattle.uid_names.proofs.Codes.{modes_clash-sym}
 use Rattle.uid_names.specs.Names.{ProcName, ObjectName, same_proc, same_uid}
-use Rattle.uid_names.specs.Modes.{mode_writes, mode_removes, modes_clash}
+use Rattle.uid_names.specs.Modes.{mode_removes, modes_clash}
 use Rattle.uid_names.specs.declared.mode.Mode.{Mode}
-use Rattle.uid_names.specs.declared.mode.Mode.TheVariants.{Read, Write}
 use Rattle.uid_names.proofs.Orders.{same_proc_is, same_uid_is}
 use Rattle.object_store.specs.declared.attributes.Attr.{Attr}
 use Rattle.object_store.specs.HomeStates.{HomeState, attr_of}
+use Rattle.run_homes.proofs.Removals.{removes-clash}
 use Rattle.lock_manager.specs.declared.grants.Grant.{Grant}
 use Rattle.lock_manager.specs.Grants.{grant_of, held_in, conflict_of}
 use Rattle.lock_manager.specs.Tables.{Table, IsTable, with_grant, without_grant, without_grants_on}
@@ -58,25 +59,21 @@ module _ (p : ProcName) (u : ObjectName) where
   decide-grant home locks q (Ask.Make kind room) = refl
   decide-grant home locks q (Ask.ListLocks after) = refl
 
-pub removes-writes : (m : Mode) → mode_removes m ≡ true → mode_writes m ≡ true
-removes-writes Read is = absurd (cc)
-removes-writes Write is = refl
-
 -- where one process holds an object to remove it, no other holds it
 pub alone : (p q : ProcName) (u v : ObjectName) (locks : Table) → IsTable locks → may_remove (grant_of q v locks.grants) ≡ true → same_uid u v ≡ true → same_proc p q ≡ false → held_in (grant_of p u locks.grants) ≡ None
 alone p q u v locks table may on other = by (grant_of p u locks.grants) (grant_of q v locks.grants) refl refl may
   where
-    clash : (a b : Bool) → b ≡ true → (a || b) ≡ false → ⊥
-    clash true b is never = absurd (cc)
-    clash false true is never = absurd (cc)
-    clash false false is never = absurd (cc)
+    clash : (m k : Mode) → mode_removes k ≡ true → modes_clash p m q k ≡ false → ⊥
+    clash m k removes never =
+        let always : modes_clash p m q k ≡ true = modes_clash-sym p m q k ∙ removes-clash q k p m removes in
+        absurd (cc)
 
     by : (a b : Option Grant) → grant_of p u locks.grants ≡ a → grant_of q v locks.grants ≡ b → may_remove b ≡ true → held_in a ≡ None
     by None b is found may = refl
     by (Some x) None is found may = absurd (cc)
     by (Some x) (Some y) is found may =
         let theirs : grant_of q u locks.grants ≡ Some y = ap (λ w. grant_of q w locks.grants) (same_uid_is u v on) ∙ found in
-        absurd (clash (mode_writes x.row.mode) (mode_writes y.row.mode) (removes-writes y.row.mode may) (holders-compatible p q u locks.grants x y table.compatible is theirs other))
+        absurd (clash x.row.mode y.row.mode may (holders-compatible p q u locks.grants x y table.compatible is theirs other))
 
 -- a row stays where its process did not ask about it
 module _ (p : ProcName) (u : ObjectName) (m : Mode) (g : ℕ) (home : HomeState) (locks : Table) (table : IsTable locks) (was : held_in (grant_of p u locks.grants) ≡ Some (m, g)) where
