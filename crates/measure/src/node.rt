@@ -15,7 +15,7 @@ use std::alloc::Global;
 use uid_names::{ByteList, Mode, NodeId, ObjKind, Opening, Uid};
 
 /// What the process does in turn, once it has locked the object.
-#[derive(Clone, Copy, Debug, PartialEq, Eq)]
+#[derive(Clone, Copy)]
 pub enum Deeds {
     Accesses,
     Locks,

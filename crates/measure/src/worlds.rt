@@ -9,7 +9,7 @@ use std::alloc::Global;
 use uid_names::{ByteList, NoMemory};
 
 /// Which script is run.
-#[derive(Clone, Copy, Debug, PartialEq, Eq)]
+#[derive(Clone, Copy)]
 pub enum Work {
     /// 32 processes on eight nodes of eight frames; in each phase each locks, loads, stores and unlocks an object that
     /// another one had before.

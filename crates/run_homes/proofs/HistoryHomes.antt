@@ -1,6 +1,5 @@
 -- At each place of the history of a run the homes have what it says.
 use Rattle.std.proofs.Common.{◌≡◌, ℕ, List, [], ◌∷◌, ◌++◌, Option, Some, None, IfSome, sym, ap, subst, ◌∙◌}
-use Rattle.uid_names.specs.Names.{ProcName, ObjectName}
 use Rattle.uid_names.specs.declared.ids.Place.{Place}
 use Rattle.dom_history.specs.Locks.{rows}
 use Rattle.dom_history.specs.Objects.{is_present}
@@ -20,7 +19,7 @@ use Rattle.node_runs.proofs.SettingUp.{setup-procs}
 use Rattle.run_nodes.specs.AskedHomes.{IsAtHome, AreCallsAtHomes}
 use Rattle.run_nodes.proofs.AskedHomes.{calls-at-homes}
 use Rattle.run_homes.specs.DecidedEffects.{home_effects, decided_effects}
-use Rattle.run_homes.specs.HistoryHomes.{past_then, AreHomesThen, AreHomesAlways}
+use Rattle.run_homes.specs.HistoryHomes.{past_then, AreHomesAlways}
 use Rattle.run_homes.proofs.HomeEffects.{notes-right, effects-right}
 use Rattle.run_homes.proofs.HomeRows.{IsMeantAt, table-then, rows-home, rows-then}
 use Rattle.run_homes.proofs.Presence.{present-home, objects-there}
@@ -35,7 +34,7 @@ answered-behind s [] ys are = are
 answered-behind s (x ∷ xs) ys are = answered-behind s xs ys are.1
 
 -- what was decided was asked of its home
-asked-home : (o : Option Asked) (home : ℕ) (ask : Ask) → IfSome o (λ k. IsAtHome k.home k.ask) → AsksThis o home ask → IsAtHome home ask
+pub asked-home : (o : Option Asked) (home : ℕ) (ask : Ask) → IfSome o (λ k. IsAtHome k.home k.ask) → AsksThis o home ask → IsAtHome home ask
 asked-home None home ask at is = absurd is
 asked-home (Some k) home ask at is = subst (IsAtHome home) is.1 (subst (λ h. IsAtHome h k.ask) is.0 at)
 

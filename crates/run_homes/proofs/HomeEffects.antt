@@ -1,6 +1,6 @@
 -- What a history says that homes did is what they decided, in the same order.
-use Rattle.std.proofs.Common.{◌≡◌, ℕ, Bool, true, false, List, [], ◌∷◌, ◌++◌, Option, Some, None, inl, inr, refl, sym, ap, subst, ◌∙◌, append-nil, append_assoc}
-use Rattle.std.specs.Prelude.{◌==◌, ◌&&◌, ◌⊎◌, find, if◌then◌else◌}
+use Rattle.std.proofs.Common.{◌≡◌, ℕ, Bool, true, false, List, [], ◌∷◌, ◌++◌, Option, Some, None, inl, inr, refl, sym, ap, subst, ◌∙◌, append_assoc}
+use Rattle.std.specs.Prelude.{◌==◌, ◌&&◌, if◌then◌else◌}
 use Rattle.std.proofs.lemmas.Bool.{eq-eqb}
 use Rattle.std.proofs.lemmas.List.Elements.{filter-append}
 use Rattle.uid_names.proofs.ListLemmas.{by_cases}
@@ -19,7 +19,7 @@ use Rattle.node_runs.specs.NodeStates.{OpenOp, proc_of}
 use Rattle.node_runs.specs.Notes.{Told, Note}
 use Rattle.node_runs.specs.NodesKeep.{IsTimely}
 use Rattle.node_runs.specs.Runs.{World, Noted, Choice, numbered, world_after}
-use Rattle.node_runs.specs.RunHistories.{is_fault, settled_op, change_reply, act_item, all_told, entry_at, fault_item, begun_item, told_item, open_item, settled_item, decided_item, doing_of, ended_at, ended_by, items_of, items_from}
+use Rattle.node_runs.specs.RunHistories.{is_fault, settled_op, change_reply, act_item, all_told, fault_item, begun_item, told_item, open_item, settled_item, decided_item, doing_of, ended_at, ended_by, items_of, items_from}
 use Rattle.node_runs.specs.CallsKeep.{AsksThis, EachOf}
 use Rattle.node_runs.specs.DecidedCalls.{IsDecided, IsOther, IsFirst, AreDecidedOnce}
 use Rattle.node_runs.proofs.Bools.{left-true, right-true, equal}
@@ -263,7 +263,8 @@ find-call w p number (t ∷ so_far) told = by_cases (same_proc t.proc p && (t.nu
       ])
     ])
 
-same-home : (o : _) (a b : ℕ) (x y : Ask) → AsksThis o a x → AsksThis o b y → a ≡ b
+-- a call asks one home
+pub same-home : (o : _) (a b : ℕ) (x y : Ask) → AsksThis o a x → AsksThis o b y → a ≡ b
 same-home None a b x y is other = absurd is
 same-home (Some c) a b x y is other = sym is.0 ∙ other.0
 

@@ -1,28 +1,27 @@
 -- The lock rows of a home are those that its decisions leave.
-use Rattle.std.proofs.Common.{◌≡◌, ◌≢◌, ℕ, ◌+◌, ◌<◌, Bool, true, false, List, [], ◌∷◌, ◌++◌, length, Option, Some, None, inl, inr, refl, sym, ap, subst, ◌∙◌, arith}
-use Rattle.std.specs.Prelude.{◌==◌, ◌&&◌, ◌||◌, not, nat_le, if◌then◌else◌, is_some, is_none, find, filter, All, AllPairs, slice_index_or}
+use Rattle.std.proofs.Common.{◌≡◌, ◌≢◌, ℕ, ◌+◌, Bool, true, false, List, [], ◌∷◌, ◌++◌, length, Option, Some, None, inl, inr, refl, sym, ap, subst, ◌∙◌, arith}
+use Rattle.std.specs.Prelude.{◌==◌, ◌&&◌, not, nat_le, if◌then◌else◌, is_some, is_none, find, filter, All, AllPairs, slice_index_or}
 use Rattle.std.proofs.lemmas.Bool.{cases_eq}
 use Rattle.std.proofs.lemmas.Bool.Decides.{nat_tests}
-use Rattle.std.proofs.lemmas.List.Elements.{All-nil, All-cons, All-head, All-tail}
+use Rattle.std.proofs.lemmas.List.Elements.{All-cons, All-head, All-tail}
 use Rattle.uid_names.specs.Names.{ProcName, ObjectName, same_proc, same_uid}
 use Rattle.uid_names.specs.Modes.{mode_removes, modes_clash}
 use Rattle.uid_names.specs.Rows.{row_lt, same_row}
-use Rattle.uid_names.specs.InOrder.{put_in_order}
 use Rattle.uid_names.specs.declared.lock_row.LockRow.{LockRow}
 use Rattle.uid_names.specs.declared.limits.TheConstants.{VOLUME_ROOM}
 use Rattle.uid_names.specs.declared.mode.Mode.{Mode}
 use Rattle.uid_names.proofs.ListLemmas.{by_cases}
 use Rattle.uid_names.proofs.Codes.{modes_clash-sym}
 use Rattle.uid_names.proofs.InOrder.{AllPairs-head, AllPairs-tail}
-use Rattle.uid_names.proofs.Orders.{same_row_is, same_uid_is, same_proc_is}
+use Rattle.uid_names.proofs.Orders.{same_row_is}
 use Rattle.dom_history.specs.StoreEffects.{StoreEffect, Makes, TakesLock, FreesLock, Deletes, Writes, Maps, Unmaps}
 use Rattle.dom_history.specs.Locks.{rows, rows_with, rows_without}
 use Rattle.object_store.specs.declared.attributes.Attr.{Attr}
 use Rattle.object_store.specs.Objects.{rooms}
 use Rattle.object_store.specs.HomeStates.{attr_of}
 use Rattle.lock_manager.specs.declared.grants.Grant.{Grant}
-use Rattle.lock_manager.specs.Grants.{grant_lt, rows_of, is_on, grant_of, conflict_of, grants_with, grants_without}
-use Rattle.lock_manager.specs.Tables.{Table, IsTable, are_in_conflict}
+use Rattle.lock_manager.specs.Grants.{rows_of, is_on, grant_of, conflict_of, grants_with, grants_without}
+use Rattle.lock_manager.specs.Tables.{IsTable, are_in_conflict}
 use Rattle.lock_manager.proofs.Keeps.{IsTable-none}
 use Rattle.ring_messages.specs.Bodies.{Ask, Answer}
 use Rattle.page_server.specs.Decisions.{decide, lock_answer, remove_answer, make_answer, may_remove}

@@ -1,15 +1,14 @@
 -- At each place of the history of a run a home decides what it says.
-use Rattle.std.proofs.Common.{◌≡◌, ℕ, ◌+◌, Bool, true, false, List, [], ◌∷◌, ◌++◌, Option, Some, None, refl, sym, ap, subst, ◌∙◌, append_assoc}
-use Rattle.std.specs.Prelude.{not, if◌then◌else◌, is_some, find, map}
+use Rattle.std.proofs.Common.{◌≡◌, ℕ, ◌+◌, Bool, true, List, [], ◌∷◌, ◌++◌, Option, Some, None, refl, sym, ap, subst, ◌∙◌, append_assoc}
+use Rattle.std.specs.Prelude.{not, if◌then◌else◌, is_some, find}
 use Rattle.std.specs.Option.{option_map}
 use Rattle.uid_names.proofs.ListLemmas.{by_cases}
-use Rattle.uid_names.specs.Names.{ProcName, ObjectName}
+use Rattle.uid_names.specs.Names.{ObjectName}
 use Rattle.uid_names.specs.Rows.{is_in_conflict, rows_after}
 use Rattle.uid_names.specs.declared.lock_row.LockRow.{LockRow}
 use Rattle.uid_names.specs.declared.mode.Mode.{Mode}
 use Rattle.dom_history.specs.declared.op.Op.TheVariants as ops
 use Rattle.dom_history.specs.declared.op.Reply.TheVariants.{NoObject}
-use Rattle.dom_history.specs.StoreEffects.{StoreEffect}
 use Rattle.dom_history.specs.Locks.{rows}
 use Rattle.dom_history.specs.Objects.{is_node, is_present}
 use Rattle.dom_history.specs.Replies.{conflict_or_fine, home_lock_reply, list_reply}
@@ -17,20 +16,18 @@ use Rattle.object_store.specs.declared.attributes.Attr.{Attr}
 use Rattle.object_store.specs.HomeStates.{attr_of}
 use Rattle.lock_manager.specs.declared.grants.Grant.{Grant}
 use Rattle.lock_manager.specs.Grants.{rows_of, holder_in}
-use Rattle.ring_messages.specs.Bodies.{Ask, Answer}
+use Rattle.ring_messages.specs.Bodies.{Ask}
 use Rattle.page_server.specs.Decisions.{lock_answer}
 use Rattle.node_runs.specs.Setups.{Setup, IsSetup}
-use Rattle.node_runs.specs.NodeStates.{Asked}
 use Rattle.node_runs.specs.NodesKeep.{IsTimely}
 use Rattle.node_runs.specs.Notes.{Note}
 use Rattle.node_runs.specs.Runs.{World, Noted, Choice, world_after}
 use Rattle.node_runs.specs.CallsKeep.{EachOf}
 use Rattle.node_runs.specs.DecidedCalls.{IsDecided}
-use Rattle.node_runs.specs.Replays.{Held, IsAnswered, AreAnswered}
+use Rattle.node_runs.specs.Replays.{IsAnswered, AreAnswered}
 use Rattle.node_runs.proofs.Decisions.{decisions-are}
 use Rattle.node_runs.proofs.Replaying.{replays-are}
 use Rattle.node_runs.proofs.SettingUp.{setup-procs}
-use Rattle.run_nodes.specs.AskedHomes.{IsAtHome}
 use Rattle.run_nodes.specs.ToldAnswers.{Tells}
 use Rattle.run_nodes.proofs.AskedHomes.{calls-at-homes}
 use Rattle.run_homes.specs.HistoryHomes.{held_then, past_then, AreHomesThen}

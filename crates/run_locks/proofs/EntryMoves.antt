@@ -1,6 +1,6 @@
 -- What a desk's move does to the lock entry of an object.
 use Rattle.std.proofs.Common.{◌≡◌, ℕ, Bool, true, false, List, [], Option, Some, None, refl, sym, ap, subst, ◌∙◌}
-use Rattle.std.specs.Prelude.{not, ◌&&◌}
+use Rattle.std.specs.Prelude.{◌&&◌}
 use Rattle.std.specs.Option.{option_map}
 use Rattle.uid_names.specs.Names.{ObjectName, same_uid}
 use Rattle.uid_names.specs.declared.mode.Mode.{Mode}
@@ -12,7 +12,7 @@ use Rattle.dom_history.specs.Locks.{is_held}
 use Rattle.dom_history.specs.Replies.{may_delete}
 use Rattle.fault_handler.specs.declared.entries.LockEntry.{LockEntry}
 use Rattle.fault_handler.specs.Entries.{entry_of, state_in, keeps, noted_if, entries_after, entries_noted}
-use Rattle.fault_handler.specs.Desks.{DeskState, entries_of, entry_at, at, put_at}
+use Rattle.fault_handler.specs.Desks.{DeskState, entries_of, entry_at, put_at}
 use Rattle.fault_handler.specs.Outcomes.{Turn}
 use Rattle.fault_handler.specs.LockCalls.{LockCall, LockAnswer}
 use Rattle.fault_handler.specs.Invariant.{IsProc, IsDesk}
@@ -21,7 +21,7 @@ use Rattle.fault_handler.proofs.LockKeeps.{entry_after, entry_of-after_same, ent
 use Rattle.lock_validate.specs.Releases.{release_ask}
 use Rattle.desk_laws.specs.Causes.{Cause}
 use Rattle.desk_laws.specs.Releasing.{releasing_in}
-use Rattle.desk_laws.specs.Told.{state_set, MaySet}
+use Rattle.desk_laws.specs.Told.{state_set}
 use Rattle.desk_laws.specs.Moves.{Change, Moves}
 use Rattle.desk_laws.proofs.DeskStays.{moves-desk}
 use Rattle.node_runs.proofs.Somes.{some-is}

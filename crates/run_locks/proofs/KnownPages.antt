@@ -1,27 +1,24 @@
 -- In every run each resident page is one of its object's.
-use Rattle.std.proofs.Common.{◌≡◌, ◌≢◌, ℕ, ◌+◌, ◌*◌, ◌≤◌, ◌<◌, Bool, true, false, List, [], ◌∷◌, length, map, Option, Some, None, IfSome, inl, inr, refl, sym, ap, subst, ◌∙◌, arith}
+use Rattle.std.proofs.Common.{◌≡◌, ℕ, ◌+◌, ◌*◌, ◌≤◌, ◌<◌, Bool, true, false, List, [], ◌∷◌, length, Option, Some, None, IfSome, inl, inr, sym, ap, subst, ◌∙◌, arith}
 use Rattle.std.specs.Prelude.{◌/◌, not, filter, find, if◌then◌else◌}
 use Rattle.std.proofs.lemmas.Bool.{cases_eq}
-use Rattle.uid_names.proofs.ListLemmas.{by_cases}
 use Rattle.uid_names.specs.Names.{ObjectName}
 use Rattle.uid_names.specs.declared.limits.TheConstants.{PAGE_BYTES}
-use Rattle.dom_history.specs.Objects.{is_node}
 use Rattle.object_store.specs.HomeStates.{HomeState}
 use Rattle.page_cache.specs.Caches.{Resident, is_of, is_page, page_at}
-use Rattle.page_cache.specs.Changes.{without_page, without_object, with_front, used, changed_if}
-use Rattle.ring_messages.specs.Bodies.{Answer}
+use Rattle.page_cache.specs.Changes.{without_page, with_front, used, changed_if}
 use Rattle.fault_handler.specs.declared.lengths.Known.{Known}
 use Rattle.fault_handler.specs.declared.tasks.Work.{Work}
 use Rattle.fault_handler.specs.declared.tasks.Work.TheVariants.{Load, Store}
 use Rattle.fault_handler.specs.declared.tasks.Task.{Task}
 use Rattle.fault_handler.specs.declared.transits.Transit.{Transit}
-use Rattle.fault_handler.specs.ShownPages.{fresh_page, changed_page, written, as_sent, settled}
+use Rattle.fault_handler.specs.ShownPages.{changed_page, written, as_sent, settled}
 use Rattle.fault_handler.specs.Changes.{settled_by}
 use Rattle.fault_handler.specs.Lengths.{known_of}
 use Rattle.fault_handler.specs.Tasks.{page_of, size_of, IsTask}
 use Rattle.fault_handler.specs.Desks.{DeskState, task_of, moving_of}
 use Rattle.fault_handler.specs.Outcomes.{Turn}
-use Rattle.fault_handler.specs.PageReplies.{PageAnswer, page_answer}
+use Rattle.fault_handler.specs.PageReplies.{PageAnswer}
 use Rattle.fault_handler.specs.Invariant.{IsProc}
 use Rattle.desk_laws.specs.Causes.{Cause, MayCome}
 use Rattle.desk_laws.specs.Moves.{Change, Moves}
@@ -39,12 +36,12 @@ use Rattle.node_runs.proofs.Worlds.{place_at}
 use Rattle.node_runs.proofs.Decisions.{HomeStep, did-home}
 use Rattle.node_runs.proofs.SettingUp.{setup-gives, setup-procs}
 use Rattle.run_calls.proofs.HearingRuns.{IsKeptNext, every-kept-run}
-use Rattle.run_nodes.specs.DeskSteps.{OpMove, apart as desk_apart, moves, NodeMove, still, moved}
-use Rattle.run_nodes.specs.OpenTasks.{IsWithin, IsTaskWithin, AreTasksWithin}
+use Rattle.run_nodes.specs.DeskSteps.{apart as desk_apart, moves, NodeMove, still, moved}
+use Rattle.run_nodes.specs.OpenTasks.{IsWithin, IsTaskWithin}
 use Rattle.run_nodes.proofs.DeskSteps.{step-desk}
 use Rattle.run_nodes.proofs.OpenTasks.{open_task_of, answer-task, runs-within}
 use Rattle.run_homes.specs.ToldRooms.{IsRoomOf}
-use Rattle.run_locks.specs.KnownRooms.{IsKnownRight, AreKnownRight, IsPageOf, ArePagesRight}
+use Rattle.run_locks.specs.KnownRooms.{IsKnownRight, IsPageOf, ArePagesRight}
 use Rattle.run_locks.proofs.KnownRooms.{known-still, known-are}
 
 page-below : (offset n room : ℕ) → 1 ≤ n → offset + n ≤ PAGE_BYTES * room → offset / PAGE_BYTES < room

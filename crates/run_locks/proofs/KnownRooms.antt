@@ -1,6 +1,6 @@
 -- In every run a known room is the object's, and a known length lies within it.
-use Rattle.std.proofs.Common.{◌≡◌, ◌≢◌, ℕ, ◌+◌, ◌*◌, ◌≤◌, Bool, true, false, List, [], ◌∷◌, length, Option, Some, None, IfSome, inl, inr, refl, sym, ap, subst, ◌∙◌, arith}
-use Rattle.std.specs.Prelude.{◌==◌, nat_lt, if◌then◌else◌, unwrap_or}
+use Rattle.std.proofs.Common.{◌≡◌, ℕ, ◌+◌, ◌*◌, ◌≤◌, Bool, true, false, List, [], ◌∷◌, length, Option, Some, None, IfSome, inl, inr, refl, sym, ap, subst, ◌∙◌, arith}
+use Rattle.std.specs.Prelude.{◌==◌, nat_lt, if◌then◌else◌}
 use Rattle.std.proofs.lemmas.Bool.{cases_eq}
 use Rattle.std.proofs.lemmas.Bool.Decides.{nat_tests}
 use Rattle.uid_names.proofs.ListLemmas.{by_cases}
@@ -11,28 +11,24 @@ use Rattle.uid_names.specs.declared.limits.TheConstants.{PAGE_BYTES}
 use Rattle.uid_names.specs.declared.ids.Place.{Place}
 use Rattle.uid_names.specs.declared.mode.Mode.{Mode}
 use Rattle.uid_names.specs.declared.mode.ObjKind.{ObjKind}
-use Rattle.dom_history.specs.Objects.{is_node}
 use Rattle.object_store.specs.HomeStates.{HomeState}
 use Rattle.ring_messages.specs.Bodies.{Ask, Answer}
 use Rattle.fault_handler.specs.declared.lengths.Known.{Known}
-use Rattle.fault_handler.specs.declared.tasks.Work.{Work}
 use Rattle.fault_handler.specs.declared.tasks.Work.TheVariants.{Load, Store}
 use Rattle.fault_handler.specs.declared.tasks.Task.{Task}
 use Rattle.fault_handler.specs.Lengths.{known_name, known_of, room_of, grown, grown_if, sent_length, sent_if, known_after, with_known}
-use Rattle.fault_handler.specs.Changes.{known_sent}
 use Rattle.fault_handler.specs.Desks.{DeskState, task_of, moving_of}
-use Rattle.fault_handler.specs.Outcomes.{Turn, Moved}
+use Rattle.fault_handler.specs.Outcomes.{Turn}
 use Rattle.fault_handler.specs.Accesses.{DeskOp}
 use Rattle.fault_handler.specs.PageReplies.{PageAnswer, page_answer}
 use Rattle.fault_handler.specs.LockCalls.{LockAnswer}
-use Rattle.fault_handler.specs.Invariant.{IsProc}
 use Rattle.fault_handler.proofs.KnownRows.{known_of-with_known, uid-grown, uid-sent}
 use Rattle.desk_laws.specs.Causes.{Cause, MayCome}
 use Rattle.desk_laws.specs.Loading.{IsTaskIn, Does}
 use Rattle.desk_laws.specs.Moves.{Change, Moves}
 use Rattle.node_runs.specs.Setups.{Setup, IsSetup, given}
-use Rattle.node_runs.specs.NodeStates.{NodeState, BegunOp, first_node, proc_of}
-use Rattle.node_runs.specs.Outcomes.{Stage, Stepped}
+use Rattle.node_runs.specs.NodeStates.{NodeState}
+use Rattle.node_runs.specs.Outcomes.{Stepped}
 use Rattle.node_runs.specs.Doings.{ticked}
 use Rattle.node_runs.specs.SentFrames.{IsFrame, IsIncoming}
 use Rattle.node_runs.specs.NodesKeep.{IsTimely}
@@ -48,16 +44,15 @@ use Rattle.node_runs.proofs.Decisions.{HomeStep, apart, decides, did-home}
 use Rattle.node_runs.proofs.SettingUp.{setup-gives, setup-procs}
 use Rattle.run_calls.specs.DecidedReplies.{proc_at, IsAnswerAt, WasAnswered}
 use Rattle.run_calls.proofs.HearingRuns.{IsKeptNext, same-ask, every-kept-run}
-use Rattle.run_nodes.specs.DeskSteps.{OpMove, apart as desk_apart, moves, NodeMove, still, moved}
-use Rattle.run_nodes.specs.OpenTasks.{IsWithin, IsTaskWithin, AreTasksWithin}
+use Rattle.run_nodes.specs.DeskSteps.{apart as desk_apart, moves, NodeMove, still, moved}
+use Rattle.run_nodes.specs.OpenTasks.{IsWithin, IsTaskWithin}
 use Rattle.run_nodes.proofs.DeskSteps.{step-desk}
-use Rattle.run_nodes.proofs.KnownLengths.{IsUp, IsNotLearned, moves-up}
+use Rattle.run_nodes.proofs.KnownLengths.{IsNotLearned, moves-up}
 use Rattle.run_nodes.proofs.OpenTasks.{open_task_of, answer-task, runs-within}
 use Rattle.run_nodes.proofs.AskedHomes.{opens-at-homes, calls-at-homes}
 use Rattle.run_nodes.proofs.OpenCalls.{runs-carry}
 use Rattle.run_homes.specs.ToldRooms.{IsRoomOf, TellsRoom}
 use Rattle.run_homes.proofs.ToldRooms.{room-decided, rooms-told}
-use Rattle.run_locks.specs.LiveLocks.{locks_of}
 use Rattle.run_locks.specs.KnownRooms.{IsKnownRight, AreKnownRight}
 use Rattle.run_locks.proofs.LiveRun.{got-row, live-are}
 

@@ -1,8 +1,7 @@
 -- In every run a lock that is kept has its row at its home, with its grant.
 use Rattle.std.proofs.Common.{◌≡◌, ◌≢◌, ℕ, ◌≤◌, ◌<◌, Bool, true, false, List, [], ◌∷◌, length, Option, Some, None, IfSome, inl, inr, refl, sym, ap, subst, ◌∙◌, arith}
-use Rattle.std.specs.Prelude.{◌&&◌, not, unwrap_or, if◌then◌else◌}
+use Rattle.std.specs.Prelude.{◌&&◌, not, if◌then◌else◌}
 use Rattle.std.proofs.lemmas.Bool.{cases_eq}
-use Rattle.uid_names.proofs.ListLemmas.{by_cases}
 use Rattle.uid_names.specs.Names.{ProcName, ObjectName, same_uid}
 use Rattle.uid_names.specs.Modes.{mode_removes}
 use Rattle.uid_names.specs.declared.mode.Mode.{Mode}
@@ -19,11 +18,9 @@ use Rattle.dom_history.specs.Histories.{SomeOf}
 use Rattle.lock_manager.specs.Tables.{Table}
 use Rattle.call_once.specs.Calls.{Call, call_of, last_of, number_in}
 use Rattle.ring_messages.specs.Bodies.{Ask, Answer, ask_of, body_of_ask, is_request}
-use Rattle.ring_messages.specs.declared.body.Body.{Body}
 use Rattle.ring_messages.specs.Frames.{Message, caller_of}
 use Rattle.ring_messages.proofs.Asking.{asked-body}
 use Rattle.fault_handler.specs.declared.entries.LockEntry.{LockEntry}
-use Rattle.fault_handler.specs.declared.open_call.OpenCall.{OpenCall}
 use Rattle.fault_handler.specs.declared.open_call.OpenCall.TheVariants as calls
 use Rattle.fault_handler.specs.Entries.{entry_of, state_in, is_released, keeps}
 use Rattle.fault_handler.specs.Desks.{DeskState, entries_of, entry_at, state_of, open_call_of, task_of, moving_of}
@@ -39,21 +36,20 @@ use Rattle.desk_laws.specs.Releasing.{releasing_in}
 use Rattle.desk_laws.specs.Turns.{Says}
 use Rattle.desk_laws.proofs.Beside.{moves-beside}
 use Rattle.node_runs.specs.Setups.{Setup, IsSetup, Given, given}
-use Rattle.node_runs.specs.NodeStates.{Asked, Await, BegunOp, OpenOp, ProcState, NodeState, first_node, proc_of, name_of}
+use Rattle.node_runs.specs.NodeStates.{Asked, Await, BegunOp, OpenOp, NodeState, first_node, proc_of, name_of}
 use Rattle.node_runs.specs.Incomings.{Incoming}
 use Rattle.node_runs.specs.Notes.{Note}
-use Rattle.node_runs.specs.Outcomes.{Stage, Stepped, next_call, end_note, open_note}
+use Rattle.node_runs.specs.Outcomes.{Stage, Stepped, next_call}
 use Rattle.node_runs.specs.Doings.{ticked}
 use Rattle.node_runs.specs.Dones.{asking}
-use Rattle.node_runs.specs.Agreements.{IsOpenCall, IsCalling, Agrees}
+use Rattle.node_runs.specs.Agreements.{Agrees}
 use Rattle.node_runs.specs.SentFrames.{IsFrame, IsIncoming}
 use Rattle.node_runs.specs.NodesKeep.{IsNodeOf, IsTimely}
 use Rattle.node_runs.specs.Runs.{World, Noted, Choice, first_world, put, numbered, calls_after, world_with, world_after}
-use Rattle.node_runs.specs.CallsKeep.{AsksThis, IsCallAt, IsOnLink, IsOpenAt, EachOf, AreCalls}
+use Rattle.node_runs.specs.CallsKeep.{IsCallAt, IsOnLink, IsOpenAt, EachOf}
 use Rattle.node_runs.specs.DecidedCalls.{IsDecided, AreDecisions}
 use Rattle.node_runs.proofs.Somes.{some-is}
 use Rattle.node_runs.proofs.Doing.{step_of-did}
-use Rattle.node_runs.proofs.Nodes.{node-with}
 use Rattle.node_runs.proofs.Receiving.{EachOf-more, incoming-is, numbered-each}
 use Rattle.node_runs.proofs.Calls.{put-same, put-other}
 use Rattle.node_runs.proofs.Worlds.{place_at}
@@ -62,9 +58,8 @@ use Rattle.node_runs.proofs.Decisions.{IsNoDecision, HomeStep, apart, decides, d
 use Rattle.node_runs.proofs.SettingUp.{setup-gives, setup-procs}
 use Rattle.run_calls.specs.DecidedReplies.{proc_at, IsAnswerOf, WasAnswered, AreReplies}
 use Rattle.run_calls.specs.LastCalls.{IsOpenNumber}
-use Rattle.run_calls.specs.Progress.{IsApart}
-use Rattle.run_calls.proofs.HearingRuns.{IsKeptNext, same-ask, every-kept-run}
-use Rattle.run_nodes.specs.DeskSteps.{Takes, IsTaken, IsStageOf, IsHomeAsk, IsHomeTurn, OpMove, apart as desk_apart, moves, doing_after, turn_note, turn_call, IsAt, NodeMove, still, moved}
+use Rattle.run_calls.proofs.HearingRuns.{IsKeptNext, every-kept-run}
+use Rattle.run_nodes.specs.DeskSteps.{IsTaken, IsHomeAsk, IsHomeTurn, OpMove, apart as desk_apart, moves, doing_after, turn_note, turn_call, IsAt, NodeMove, still, moved}
 use Rattle.run_nodes.specs.AskedHomes.{IsAtHome, IsOpenAtHome, AreOpenAtHomes, AreCallsAtHomes}
 use Rattle.run_nodes.specs.OpenCalls.{Carries, CarriesOpen, AreCarried}
 use Rattle.run_nodes.specs.Released.{gives_up, is_being_released}
@@ -74,6 +69,8 @@ use Rattle.run_nodes.proofs.OpenCalls.{step-carries, runs-carry}
 use Rattle.run_nodes.proofs.Released.{node-released}
 use Rattle.run_nodes.proofs.EndedOps.{op-request}
 use Rattle.run_nodes.proofs.ToldAnswers.{taken-decided}
+use Rattle.run_homes.proofs.HistoryHomes.{asked-home}
+use Rattle.run_homes.proofs.HomeEffects.{same-home}
 use Rattle.run_locks.specs.LiveLocks.{IsAbout, row_at, IsLive, locks_of, served_of, AreLive}
 use Rattle.run_locks.proofs.Live.{call-within, live-along, not-answered, live-decided, LockThen, as_before as lock_as_before, freed as lock_freed, got as lock_got, live-moved, live-asked}
 use Rattle.run_locks.proofs.EntryMoves.{EntryThen, as_before, freed, noted, got, moves-entry}
@@ -236,14 +233,6 @@ request-asks (Ask.ListLocks after) = refl
 
 pub caller-sends : (m : Message) (ask : Ask) → ask_of m.body ≡ Some ask → caller_of m ≡ proc_at m.from m.proc
 caller-sends m ask asks = ap (λ b. proc_at (if b then m.from else m.to) m.proc) (ap is_request (asked-body m.body ask asks) ∙ request-asks ask)
-
-pub asked-home : (o : Option Asked) (home : ℕ) (ask : Ask) → IfSome o (λ k. IsAtHome k.home k.ask) → AsksThis o home ask → IsAtHome home ask
-asked-home None home ask at is = absurd is
-asked-home (Some k) home ask at is = subst (IsAtHome home) is.1 (subst (λ h. IsAtHome h k.ask) is.0 at)
-
-same-home : (o : Option Asked) (a b : ℕ) (x y : Ask) → AsksThis o a x → AsksThis o b y → a ≡ b
-same-home None a b x y is other = absurd is
-same-home (Some c) a b x y is other = sym is.0 ∙ other.0
 
 -- a request that is taken is of a call
 module _ (s : Setup) (old : World) (c : Choice) (new : World) (next : IsKeptNext s old c new) where

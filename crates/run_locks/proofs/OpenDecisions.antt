@@ -1,5 +1,5 @@
 -- In every run a home that decides an open call finds what it needs.
-use Rattle.std.proofs.Common.{◌≡◌, ◌≢◌, ℕ, ◌+◌, ◌≤◌, ◌<◌, Bool, true, false, List, [], ◌∷◌, length, Option, Some, None, IfSome, IsSome, inl, inr, refl, sym, ap, subst, ◌∙◌, arith}
+use Rattle.std.proofs.Common.{◌≡◌, ℕ, ◌+◌, ◌≤◌, ◌<◌, Bool, true, false, List, [], ◌∷◌, length, Option, Some, None, IfSome, IsSome, inl, inr, refl, sym, ap, subst, ◌∙◌, arith}
 use Rattle.std.specs.Prelude.{◌*◌, ◌==◌, ◌&&◌, not, is_some, unwrap_or}
 use Rattle.std.proofs.lemmas.Bool.{cases_eq}
 use Rattle.std.proofs.lemmas.Bool.Decides.{nat_tests}
@@ -37,28 +37,26 @@ use Rattle.run_locks.proofs.KnownPages.{task-page, each-find, pages-are}
 use Rattle.lock_manager.specs.declared.grants.Grant.{Grant}
 use Rattle.lock_manager.specs.Grants.{grant_of, held_in}
 use Rattle.call_once.specs.Calls.{last_of}
-use Rattle.ring_messages.specs.Bodies.{Ask, Answer, ask_of}
-use Rattle.ring_messages.specs.Frames.{Message, caller_of}
+use Rattle.ring_messages.specs.Bodies.{Ask}
 use Rattle.page_server.specs.Decisions.{decide, page_answer, write_answer, remove_answer, is_granted, may_remove}
 use Rattle.fault_handler.specs.declared.entries.LockEntry.{LockEntry}
-use Rattle.fault_handler.specs.Entries.{state_in, grant_in, is_released, keeps, keeps_writing}
+use Rattle.fault_handler.specs.Entries.{grant_in, keeps, keeps_writing}
 use Rattle.fault_handler.specs.Transits.{coming}
-use Rattle.fault_handler.specs.Desks.{DeskState, entries_of, entry_at, open_call_of, task_of, moving_of}
-use Rattle.fault_handler.specs.Outcomes.{Turn, Moved}
+use Rattle.fault_handler.specs.Desks.{entry_at, open_call_of, task_of, moving_of}
+use Rattle.fault_handler.specs.Outcomes.{Turn}
 use Rattle.fault_handler.specs.Invariant.{IsProc, is_access, FitsTransit, FitsOpen}
 use Rattle.fault_handler.proofs.Fours.{by_proc, any-of}
 use Rattle.node_runs.specs.Setups.{Setup, IsSetup, Given, given}
 use Rattle.node_runs.specs.NodeStates.{Asked, Await, BegunOp, OpenOp, ProcState, NodeState, first_node, proc_of, name_of}
-use Rattle.node_runs.specs.Incomings.{Incoming}
 use Rattle.node_runs.specs.Notes.{Note}
-use Rattle.node_runs.specs.Outcomes.{Stage, Stepped, next_call}
+use Rattle.node_runs.specs.Outcomes.{Stepped}
 use Rattle.node_runs.specs.Doings.{ticked}
 use Rattle.node_runs.specs.Dones.{asking}
 use Rattle.node_runs.specs.Agreements.{Agrees}
 use Rattle.node_runs.specs.NodesKeep.{IsNodeOf, IsTimely}
 use Rattle.node_runs.specs.SentFrames.{IsFrame, IsIncoming}
-use Rattle.node_runs.specs.Runs.{World, Noted, Choice, first_world, numbered, world_with, world_after}
-use Rattle.node_runs.specs.CallsKeep.{AsksThis, IsCallAt, IsOpenAt, EachOf}
+use Rattle.node_runs.specs.Runs.{World, Noted, Choice, numbered, world_with, world_after}
+use Rattle.node_runs.specs.CallsKeep.{IsCallAt, IsOpenAt, EachOf}
 use Rattle.node_runs.specs.DecidedCalls.{IsDecided}
 use Rattle.node_runs.specs.Replays.{Held, held_by, IsAnswered, AreAnswered}
 use Rattle.node_runs.proofs.Bools.{left-true, right-true, equal}
@@ -72,8 +70,8 @@ use Rattle.node_runs.proofs.SettingUp.{setup-gives, setup-procs}
 use Rattle.run_calls.specs.DecidedReplies.{proc_at}
 use Rattle.run_calls.proofs.HearingRuns.{IsKeptNext, same-ask, every-kept-run}
 use Rattle.run_nodes.specs.DeskSteps.{doing_after, IsSameAwait, IsSameDoing, NodeMove, still, moved}
-use Rattle.run_nodes.specs.AskedHomes.{IsAtHome, AreCallsAtHomes}
-use Rattle.run_nodes.specs.OpenCalls.{writes_under, HasSent, IsPageSent, IsLengthSent, Carries, CarriesOpen, AreCarried}
+use Rattle.run_nodes.specs.AskedHomes.{IsAtHome}
+use Rattle.run_nodes.specs.OpenCalls.{writes_under, HasSent, IsPageSent, IsLengthSent, Carries, CarriesOpen}
 use Rattle.run_nodes.proofs.AskedHomes.{calls-at-homes}
 use Rattle.run_nodes.proofs.DeskSteps.{step-desk}
 use Rattle.run_nodes.proofs.OpenCalls.{runs-carry}
@@ -81,7 +79,8 @@ use Rattle.run_homes.specs.HistoryHomes.{held_then}
 use Rattle.run_locks.specs.LiveLocks.{row_at, locks_of, served_of, AreLive}
 use Rattle.run_locks.specs.OpenDecisions.{Finds, IsFound, AreFound, IsAwaitFound, IsOpenFound, AreOpenFound, IsPageTold, IsWriteTold, IsRight, IsRightNote, IsAwaitRight, IsOpenRight, AreOpenRight}
 use Rattle.run_locks.proofs.Live.{call-within}
-use Rattle.run_locks.proofs.LiveRun.{end-none, caller-sends, asked-home, link-call, live-are}
+use Rattle.run_homes.proofs.HistoryHomes.{asked-home}
+use Rattle.run_locks.proofs.LiveRun.{end-none, caller-sends, link-call, live-are}
 use Rattle.run_locks.proofs.Standing.{any-writes, row-there}
 
 -- the entry of what is kept

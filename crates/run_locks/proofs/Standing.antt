@@ -22,7 +22,7 @@ use Rattle.node_runs.specs.Setups.{Setup, IsSetup}
 use Rattle.node_runs.specs.NodesKeep.{IsTimely}
 use Rattle.node_runs.specs.Notes.{Note}
 use Rattle.node_runs.specs.Runs.{World, Noted, Choice, world_after}
-use Rattle.node_runs.specs.Replays.{Held, held_by, after_note, replay, first_held}
+use Rattle.node_runs.specs.Replays.{Held, held_by, after_note, first_held}
 use Rattle.node_runs.proofs.Replaying.{replays-are}
 use Rattle.run_calls.specs.DecidedReplies.{proc_at}
 use Rattle.run_homes.specs.HistoryHomes.{held_then}

@@ -33,7 +33,7 @@ use Rattle.node_runs.specs.Setups.{Given, IsGiven}
 use Rattle.node_runs.specs.NodeStates.{Asked, Await, BegunOp, OpenOp, NodeState, proc_of, name_of}
 use Rattle.node_runs.specs.Operations.{Said, said_to_new, said_to_list}
 use Rattle.node_runs.specs.Incomings.{Incoming}
-use Rattle.node_runs.specs.Notes.{Told, Note}
+use Rattle.node_runs.specs.Notes.{Note}
 use Rattle.node_runs.specs.Outcomes.{Stage, Stepped, end_note, open_note}
 use Rattle.node_runs.specs.Dones.{asking}
 use Rattle.node_runs.specs.Agreements.{IsCallOpen, IsCalling, Agrees}
@@ -42,7 +42,7 @@ use Rattle.node_runs.proofs.Somes.{some-is}
 use Rattle.run_calls.specs.LastCalls.{HasNumber}
 use Rattle.run_calls.specs.Progress.{IsApart}
 use Rattle.run_nodes.specs.DeskSteps.{Takes, IsTaken, IsStageOf, TellsHome, IsOfHome, IsHomeBegin, IsHomeTurn, OpMove, apart, moves, IsAt, turn_note, NodeMove, still, moved}
-use Rattle.run_nodes.specs.ToldAnswers.{Tells, IsReleaseFault, IsFaultOf, IsLockRefusal, IsDeskReply, IsSettled, IsEnded}
+use Rattle.run_nodes.specs.ToldAnswers.{Tells, IsReleaseFault, IsFaultOf, IsLockRefusal, IsDeskReply, IsEnded}
 
 -- how the end of an operation is told, by its cause
 abbrev EndsBy : Cause → Reply → Type 0

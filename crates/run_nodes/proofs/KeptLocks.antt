@@ -1,8 +1,7 @@
 -- In every run an operation that was answered Kept has no act.
-use Rattle.std.proofs.Common.{◌≡◌, ℕ, List, [], ◌∷◌, Some, inl, inr, sym, subst}
+use Rattle.std.proofs.Common.{◌≡◌, List, [], ◌∷◌, Some, inl, inr, subst}
 use Rattle.dom_history.specs.declared.op.Op.{Op}
 use Rattle.dom_history.specs.declared.op.Op.TheVariants as ops
-use Rattle.dom_history.specs.declared.op.Reply.{Reply}
 use Rattle.dom_history.specs.declared.op.Reply.TheVariants as replies
 use Rattle.dom_history.specs.Histories.{SomeOf}
 use Rattle.ring_messages.specs.Bodies.{Ask, Answer}

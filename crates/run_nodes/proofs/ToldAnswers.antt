@@ -1,10 +1,8 @@
 -- In every run what a process was told of a call is what its home decided, or a link fault.
-use Rattle.std.proofs.Common.{◌≡◌, ℕ, Bool, true, false, List, [], ◌∷◌, ◌++◌, Option, Some, None, inl, inr, refl, sym, ap, subst, ◌∙◌}
-use Rattle.std.specs.Prelude.{◌⊎◌}
+use Rattle.std.proofs.Common.{◌≡◌, ℕ, Bool, List, ◌++◌, Option, Some, None, inl, inr, refl, sym, ap, subst, ◌∙◌}
 use Rattle.uid_names.specs.Names.{ObjectName, ProcName}
 use Rattle.dom_history.specs.declared.op.Op.{Op}
 use Rattle.dom_history.specs.declared.op.Op.TheVariants as ops
-use Rattle.dom_history.specs.Objects.{is_node}
 use Rattle.dom_history.specs.Histories.{SomeOf}
 use Rattle.ring_messages.specs.Bodies.{Ask, Answer, ask_of, answer_of, body_of_answer}
 use Rattle.ring_messages.specs.Frames.{Message}
@@ -14,13 +12,12 @@ use Rattle.fault_handler.specs.declared.transits.Transit.{Transit}
 use Rattle.fault_handler.specs.declared.tasks.Task.{Task}
 use Rattle.fault_handler.specs.Desks.{DeskState, open_call_of, task_of, moving_of}
 use Rattle.fault_handler.specs.Invariant.{IsProc}
-use Rattle.fault_handler.specs.Next.{release_op, IsCallOf, IsTaskOf, IsRequest, IsRequestOf}
+use Rattle.fault_handler.specs.Next.{IsCallOf, IsRequest, IsRequestOf}
 use Rattle.node_runs.specs.Setups.{Setup, IsSetup, Given, given}
-use Rattle.node_runs.specs.NodeStates.{Asked, Await, BegunOp, OpenOp, NodeState, proc_of, name_of}
+use Rattle.node_runs.specs.NodeStates.{Asked, OpenOp, NodeState, proc_of}
 use Rattle.node_runs.specs.Incomings.{Incoming}
 use Rattle.node_runs.specs.Outcomes.{Stepped}
 use Rattle.node_runs.specs.Notes.{Told, Note}
-use Rattle.node_runs.specs.Dones.{asking}
 use Rattle.node_runs.specs.Doings.{ticked}
 use Rattle.node_runs.specs.Agreements.{IsCallOpen, IsCalling, Agrees}
 use Rattle.node_runs.specs.SentFrames.{IsFrame, IsIncoming}
@@ -36,13 +33,13 @@ use Rattle.node_runs.proofs.Calls.{Grows, calls-grow}
 use Rattle.node_runs.proofs.CallSteps.{IsFrameProc, CallStep, silent, asked, again, did-calls}
 use Rattle.node_runs.proofs.SettingUp.{setup-gives, setup-procs}
 use Rattle.run_calls.specs.Progress.{IsSettling}
-use Rattle.run_calls.specs.DecidedReplies.{proc_at, IsAnswerOf, IsAnswerAt, WasAnswered, IsReplyOf}
+use Rattle.run_calls.specs.DecidedReplies.{proc_at, IsAnswerOf, IsAnswerAt, IsReplyOf}
 use Rattle.run_calls.specs.LastCalls.{IsOpenNumber}
 use Rattle.run_calls.proofs.Walks.{SomeOf-more}
 use Rattle.run_calls.proofs.HearingRuns.{IsKeptNext, every-kept-run}
 use Rattle.run_nodes.specs.DeskSteps.{Takes}
 use Rattle.run_nodes.specs.AskedHomes.{IsOpAtHome, IsOpenAtHome, AreOpenAtHomes}
-use Rattle.run_nodes.specs.ToldAnswers.{Tells, IsFaultOf, IsSettled, IsEnded, IsAtDesk, IsToldBy, IsTold, AreTold}
+use Rattle.run_nodes.specs.ToldAnswers.{Tells, IsSettled, IsEnded, IsAtDesk, IsToldBy, IsTold, AreTold}
 use Rattle.run_nodes.proofs.AskedHomes.{opens-at-homes}
 use Rattle.run_nodes.proofs.EndedOps.{step-ended}
 

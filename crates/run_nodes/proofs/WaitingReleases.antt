@@ -18,7 +18,7 @@ use Rattle.fault_handler.specs.Desks.{DeskState, entries_of, entry_at, state_of,
 use Rattle.fault_handler.specs.Outcomes.{Turn, Moved}
 use Rattle.fault_handler.specs.Accesses.{DeskOp}
 use Rattle.fault_handler.specs.LockCalls.{LockCall, LockAnswer, open_call, lock_answer}
-use Rattle.fault_handler.specs.Invariant.{IsProc, is_access, IsDesk}
+use Rattle.fault_handler.specs.Invariant.{IsProc, is_access}
 use Rattle.fault_handler.specs.Ready.{IsReadyAt}
 use Rattle.fault_handler.specs.Next.{release_op, IsCallOf, IsTaskOf, IsRequest, IsRequestOf}
 use Rattle.fault_handler.proofs.Fours.{by_proc}
@@ -39,7 +39,6 @@ use Rattle.node_runs.specs.SentFrames.{IsFrame, IsIncoming}
 use Rattle.node_runs.specs.NodesKeep.{IsNodeOf, Reached, starts, steps, IsTimely}
 use Rattle.node_runs.specs.Runs.{World, Choice, world_after}
 use Rattle.node_runs.proofs.Somes.{some-is}
-use Rattle.node_runs.proofs.Nodes.{node-with}
 use Rattle.node_runs.proofs.Receiving.{incoming-is}
 use Rattle.node_runs.proofs.Calls.{put-same, put-other}
 use Rattle.node_runs.proofs.Reaching.{step_of-keeps, Reached-keeps}
@@ -47,7 +46,7 @@ use Rattle.node_runs.proofs.SettingUp.{setup-gives, setup-procs}
 use Rattle.run_calls.proofs.HearingRuns.{IsKeptNext, every-kept-run}
 use Rattle.run_nodes.specs.DeskSteps.{IsHomeAsk, IsHomeBegin, IsHomeTurn, OpMove, apart, moves, doing_after, IsSameAwait, IsSameDoing, NodeMove, still, moved}
 use Rattle.run_nodes.specs.OpenCalls.{Carries, CarriesOpen, AreCarried}
-use Rattle.run_nodes.specs.WaitingReleases.{SendsHome, SendsOrWaits, IsReleaseOpen, IsOpenRelease, AreOpenReleases}
+use Rattle.run_nodes.specs.WaitingReleases.{SendsHome, IsReleaseOpen, IsOpenRelease, AreOpenReleases}
 use Rattle.run_nodes.proofs.DeskSteps.{home-asks, step-desk}
 use Rattle.run_nodes.proofs.OpenCalls.{step-carries, reached-carries, runs-carry}
 

@@ -1,6 +1,6 @@
 -- In every run an operation acts once: each act is of a decision on the last call of its operation, and that call is decided once.
 use Rattle.std.proofs.Common.{◌≡◌, ℕ, ◌<◌, Bool, true, false, List, [], ◌∷◌, ◌++◌, Option, Some, None, inl, inr, refl, sym, ap, subst, ◌∙◌, arith}
-use Rattle.std.specs.Prelude.{◌⊎◌, ◌==◌, ◌&&◌, if◌then◌else◌}
+use Rattle.std.specs.Prelude.{◌==◌, ◌&&◌, if◌then◌else◌}
 use Rattle.std.proofs.lemmas.Bool.{eq-eqb}
 use Rattle.uid_names.proofs.ListLemmas.{by_cases}
 use Rattle.uid_names.proofs.Orders.{same_proc_is}

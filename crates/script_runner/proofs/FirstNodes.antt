@@ -7,6 +7,7 @@ use Rattle.std.proofs.lemmas.List.{length-take, get_or-map, get_or-take}
 use Rattle.std.proofs.lemmas.List.Elements.{All-get_or}
 use Rattle.uid_names.specs.Names.{ProcName, same_proc}
 use Rattle.uid_names.specs.Openings.{Start}
+use Rattle.uid_names.proofs.Orders.{same_proc_is}
 use Rattle.dom_history.specs.declared.op.Want.TheVariants.{Phase}
 use Rattle.dom_history.specs.Follows.{Heard}
 use Rattle.dom_history.specs.Programs.{asked_by}
@@ -22,12 +23,11 @@ use Rattle.node_core.specs.Programs.{program_in, program_by, numbers_in}
 use Rattle.node_core.specs.Nodes.{Noted, Stands, IsGivenBy}
 use Rattle.script_runs.specs.Processes.{processes_of}
 use Rattle.script_runs.specs.Setups.{numbers_at, programs_of, setup_of}
-use Rattle.script_runs.proofs.ProcsWith.{proc_from_same}
 use Rattle.script_runner.specs.Nodes.{shells_among, IsFirstNode}
 
 -- processes of one node and one number are one
 pub proc_is : (p q : ProcName) → p.node == q.node ≡ true → p.number == q.number ≡ true → p ≡ q
-proc_is p q node number = let same : same_proc p q ≡ true = rw (node, number) refl in proc_from_same p q same
+proc_is p q node number = let same : same_proc p q ≡ true = rw (node, number) refl in same_proc_is p q same
 
 itself : (n : ℕ) → n == n ≡ true
 itself n = grind (arith, nat_tests)
@@ -141,11 +141,11 @@ shells_fresh s n p procs = by_shell (program_in (shells_among s n procs) p) refl
     by_shell (Some y) is = ap shell_wants (sym (shell_made s n p procs y is))
 
 -- the frames of a node are those of its row
-pub frames_at : (s : Content) (n : ℕ) → 1 ≤ n → n ≤ length s.nodes → (nodes : List NodeRow) (i : ℕ) (row : NodeRow) → nodes ≡ s.nodes → i ≡ n - 1 → row ≡ slice_index_or nodes i row → row.frames ≡ slice_index_or (map (λ (r : NodeRow). r.frames) s.nodes) (n - 1) 0
-frames_at s n low high nodes i row are at is =
+pub frames_at : (s : Content) (n : ℕ) → 1 ≤ n → n ≤ length s.nodes → (nodes : List NodeRow) (i : ℕ) (first : NodeRow) → nodes ≡ s.nodes → i ≡ n - 1 → first ≡ slice_index_or nodes i first → first.frames ≡ slice_index_or (map (λ (r : NodeRow). r.frames) s.nodes) (n - 1) 0
+frames_at s n low high nodes i first are at is =
     let short : n - 1 < length s.nodes = omega arith in
-    ap (λ (r : NodeRow). r.frames) (is ∙ (ap (λ (rows : List NodeRow). slice_index_or rows i row) are ∙ ap (λ k. slice_index_or s.nodes k row) at))
-    ∙ sym (get_or-map (λ (r : NodeRow). r.frames) s.nodes (n - 1) row 0 short)
+    ap (λ (r : NodeRow). r.frames) (is ∙ (ap (λ (rows : List NodeRow). slice_index_or rows i first) are ∙ ap (λ k. slice_index_or s.nodes k first) at))
+    ∙ sym (get_or-map (λ (r : NodeRow). r.frames) s.nodes (n - 1) first 0 short)
 
 -- a node that was made of what its script gives it
 pub first_node_is : {E : Type 0} (s : Content) (n : ℕ) (setup : NodeSetup) (opening : Start) (shells : List (ℕ × Shelled)) (r : Result (Noted Shelled) E) → setup.node ≡ n → opening ≡ s.opening → shells ≡ shells_among s n (processes_of s.commands)

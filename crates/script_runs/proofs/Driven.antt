@@ -10,6 +10,7 @@ use Rattle.std.proofs.lemmas.List.Folds.{list_any_none}
 use Rattle.uid_names.specs.Names.{ProcName, same_proc, proc_lt}
 use Rattle.uid_names.proofs.Finds.{list_any-and}
 use Rattle.uid_names.proofs.ListLemmas.{by_cases}
+use Rattle.uid_names.proofs.Orders.{same_proc_is}
 use Rattle.dom_history.specs.declared.op.Want.TheVariants.{Done}
 use Rattle.dom_history.specs.Objects.{is_node}
 use Rattle.script_reader.specs.declared.script.CommandRow.{CommandRow}
@@ -25,7 +26,7 @@ use Rattle.node_runs.specs.Incomings.{has_program}
 use Rattle.run_phases.specs.Paced.{is_driven}
 use Rattle.script_runs.specs.Processes.{procs_with, processes_of}
 use Rattle.script_runs.specs.Setups.{numbers_at, programs_of, setup_of}
-use Rattle.script_runs.proofs.ProcsWith.{proc_from_same, procs_from}
+use Rattle.script_runs.proofs.ProcsWith.{procs_from}
 
 or-swap : (a b c : Bool) → (a || (b || c)) ≡ (b || (a || c))
 or-swap true true c = refl
@@ -46,7 +47,7 @@ or-turn false false c = refl
 any-put : (f : ProcName → Bool) (p q : ProcName) (procs later : List ProcName) (b c : Bool) → same_proc q p ≡ c → list_any f later ≡ (f p || list_any f procs)
     → list_any f (if b then q ∷ later else (if c then q ∷ procs else p ∷ q ∷ procs)) ≡ (f p || (f q || list_any f procs))
 any-put f p q procs later true c same rest = ap (λ b. f q || b) rest ∙ or-swap (f q) (f p) (list_any f procs)
-any-put f p q procs later false true same rest = subst (λ r. (f q || list_any f procs) ≡ (f r || (f q || list_any f procs))) (proc_from_same q p same) (or-twice (f q) (list_any f procs))
+any-put f p q procs later false true same rest = subst (λ r. (f q || list_any f procs) ≡ (f r || (f q || list_any f procs))) (same_proc_is q p same) (or-twice (f q) (list_any f procs))
 any-put f p q procs later false false same rest = refl
 
 -- a process among others passes, or one of them does

@@ -8,13 +8,6 @@ use Rattle.uid_names.specs.Names.{ProcName, same_proc, proc_lt}
 use Rattle.script_reader.specs.declared.script.CommandRow.{CommandRow}
 use Rattle.script_runs.specs.Processes.{procs_with, processes_of}
 
--- processes that are the same are equal
-pub proc_from_same : (p q : ProcName) → same_proc p q ≡ true → p ≡ q
-proc_from_same p q e =
-    let node : p.node ≡ q.node = grind (arith, nat_tests, e) in
-    let number : p.number ≡ q.number = grind (arith, nat_tests, e) in
-    rw (node, number) refl
-
 -- processes in order
 abbrev pub Rise : List ProcName → Type 0
 Rise = AllPairs (λ p q. IsTrue (proc_lt p q))

@@ -1,15 +1,13 @@
 -- What a script gives its nodes is a set-up.
-use Rattle.std.proofs.Common.{◌≡◌, ℕ, ◌<◌, ◌≤◌, ◌==◌, Bool, true, false, List, [], ◌∷◌, length, take, map, refl, sym, ◌∙◌, ap, subst, arith, rules, reverse}
+use Rattle.std.proofs.Common.{◌≡◌, ℕ, ◌≤◌, ◌==◌, Bool, true, false, List, [], ◌∷◌, length, take, map, refl, sym, ◌∙◌, ap, subst, arith, rules, reverse}
 use Rattle.std.specs.Prelude.{All, AllPairs, IsTrue, filter, if◌then◌else◌, ◌≢◌, nat_le}
 use Rattle.std.proofs.lemmas.Bool.Decides.{nat_tests}
-use Rattle.std.proofs.lemmas.List.{length-map, length-take, get_or-map}
+use Rattle.std.proofs.lemmas.List.{length-map, length-take}
 use Rattle.std.proofs.lemmas.List.Elements.{All-cons, All-nil, All-head, All-tail, All-weaker, All-map, All-filter}
 use Rattle.std.proofs.lemmas.List.Kept.{AllPairs-cons}
 use Rattle.uid_names.specs.Names.{ProcName, IsProcNumber, same_proc, proc_lt}
-use Rattle.uid_names.specs.NameTexts.{IsNameText}
 use Rattle.uid_names.specs.Openings.{IsStart}
 use Rattle.dom_history.specs.Follows.{Heard}
-use Rattle.dom_history.specs.NodeTexts.{AreNodeNames}
 use Rattle.dom_history.specs.Ranges.{IsWant, IsNodeNumber, AreNamedReplies}
 use Rattle.script_reader.specs.declared.script.NodeRow.{NodeRow}
 use Rattle.script_reader.specs.declared.script.CommandRow.{CommandRow}
@@ -25,21 +23,6 @@ use Rattle.node_runs.specs.Setups.{IsSetup, IsFrames, ArePrograms}
 use Rattle.script_runs.specs.Processes.{processes_of}
 use Rattle.script_runs.specs.Setups.{numbers_at, setup_of}
 use Rattle.script_runs.proofs.ProcsWith.{Rise, pairs-head, pairs-tail, processes_of-rises, processes_of-All}
-
--- the names of a script's nodes
-pub node_names : (s : Content) → IsContent s → AreNodeNames (map (λ n. n.name) s.nodes)
-node_names s content = record {
-  some = subst (λ n. 1 ≤ n) (sym (length-map s.nodes (λ n. n.name))) content.some_node;
-  few = subst (λ n. n ≤ 8) (sym (length-map s.nodes (λ n. n.name))) content.draft.few_nodes;
-  texts = All-map IsNameText (λ (n : NodeRow). n.name) s.nodes (All-weaker IsNode (λ n. IsNameText n.name) (λ n node. node.name) s.nodes content.draft.nodes);
-  once = λ i j d before within.
-      let named : NodeRow = record { name = d; frames = 0 } in
-      let short : j < length s.nodes = subst (λ n. j < n) (length-map s.nodes (λ n. n.name)) within in
-      let earlier : i < length s.nodes = omega arith in
-      let first = get_or-map (λ (n : NodeRow). n.name) s.nodes i named d earlier in
-      let second = get_or-map (λ (n : NodeRow). n.name) s.nodes j named d short in
-      λ same. content.draft.names_apart i j named before short (sym first ∙ (same ∙ second));
-}
 
 -- processes of one node that rise have different numbers
 apart : (n : ℕ) (p q : ProcName) → p.node == n ≡ true → q.node == n ≡ true → IsTrue (proc_lt p q) → p.number ≡ q.number → ⊥

@@ -39,7 +39,7 @@ pub all_taken : {X A : Type 0} (s : IntoIter X A) (xs : List X) (t : IntoIter X 
 all_taken s xs t all y from none =
     sym (append-nil xs) ∙ (ap (λ ys. xs ++ ys) (sym (no_items (into_iter_items t) (sym t.rest.ok.0 ∙ none))) ∙ (sym (taken_front s xs t y) ∙ from))
 
-behind : {A : Type 0} (xs : List A) (y : A) (ys : List A) → slice_get (xs ++ y ∷ ys) (length xs) ≡ Some y
+pub behind : {A : Type 0} (xs : List A) (y : A) (ys : List A) → slice_get (xs ++ y ∷ ys) (length xs) ≡ Some y
 behind [] y ys = refl
 behind (x ∷ xs) y ys = behind xs y ys
 

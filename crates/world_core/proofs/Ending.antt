@@ -19,12 +19,9 @@ use Rattle.world_core.specs.declared.world.World.{World}
 use Rattle.world_core.specs.Ended.{named, own_if, own_of, or_else, program_at, AreNumbered}
 use Rattle.world_core.specs.Stands.{Stands, AreEnded}
 use Rattle.world_core.proofs.Elements.{some_at, map_at, all_at}
+use Rattle.world_core.proofs.Programs.{else-none}
 
 module _ {P : Type 0} where
-  else-none : (o : Option P) → or_else o None ≡ o
-  else-none None = refl
-  else-none (Some y) = refl
-
   not-own : (x : Noted P) (p : ProcName) → x.log.node ≢ p.node → own_of x p ≡ None
   not-own x p differs = ap (λ (b : Bool). own_if b (program_of x p.number)) (ne_eqb x.log.node p.node differs)
 

@@ -17,6 +17,7 @@ use Rattle.world_core.specs.declared.coming.Source.TheVariants as sources
 use Rattle.world_core.specs.declared.notices.Notice.{Notice}
 use Rattle.world_core.specs.declared.station.LinkFrom.{LinkFrom}
 use Rattle.world_core.specs.Stations.{Candidate, start, starts_of, notice_at, notice_incoming, noticed, oldest_of, oldest, passes, candidates}
+use Rattle.world_core.proofs.Elements.{behind}
 
 -- the oldest entry of a link
 pub record IsOldest (ins : List LinkFrom) (i : ℕ) (incoming : Incoming) : Type 0 where
@@ -38,11 +39,6 @@ IsFoundAt notices ins incoming (sources.Link i) = IsOldest ins i incoming
 
 abbrev pub IsFound : List Notice → List LinkFrom → Candidate → Type 0
 IsFound notices ins c = IsFoundAt notices ins c.incoming c.coming.source
-
--- the element behind so many
-behind : {A : Type 0} (xs : List A) (y : A) (ys : List A) → slice_get (xs ++ y ∷ ys) (length xs) ≡ Some y
-behind [] y ys = refl
-behind (x ∷ xs) y ys = behind xs y ys
 
 one_longer : {A : Type 0} (xs : List A) (y : A) → length (xs ++ y ∷ []) ≡ length xs + 1
 one_longer [] y = refl

@@ -65,7 +65,7 @@ module _ {P : Type 0} where
   else-assoc None b c = refl
   else-assoc (Some y) b c = refl
 
-  else-none : (a : Option P) → or_else a None ≡ a
+  pub else-none : (a : Option P) → or_else a None ≡ a
   else-none None = refl
   else-none (Some y) = refl
 

@@ -3,7 +3,7 @@ use Rattle.std.specs.Prelude.{All}
 use Rattle.dom_history.specs.NodeTexts.{AreNodeNames}
 use Rattle.journal_text.specs.Lines.{Names, journal}
 use Rattle.script_runs.specs.Reports.{lines_of, names_of}
-use Rattle.script_runs.proofs.SettingUp.{node_names}
+use Rattle.aegis_shell.proofs.Parts.{node_names}
 use Rattle.script_runner.specs.Reports.{answers_in}
 use Rattle.script_runner.proofs.domain.run_due.Goals as goal
 
