@@ -43,3 +43,4 @@ ops_short node (Map var) uid = short_on (λ u. ops.Map u ∷ []) uid (λ u. one 
 ops_short node (Unmap var) uid = short_on (λ u. ops.Unmap u ∷ []) uid (λ u. one _)
 ops_short node (Loadat address count) uid = short_loads _ (Addr address) count
 ops_short node (Storeat address text) uid = short_stores _ (Addr address) text
+ops_short node _ uid = tt

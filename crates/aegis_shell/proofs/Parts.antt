@@ -13,7 +13,7 @@ use Rattle.script_reader.specs.declared.command.Command.{Command}
 use Rattle.script_reader.specs.declared.script.NodeRow.{NodeRow}
 use Rattle.script_reader.specs.declared.script.CommandRow.{CommandRow}
 use Rattle.std.specs.List.{AllByRecursion}
-use Rattle.script_reader.specs.Arguments.{Given, Home}
+use Rattle.script_reader.specs.Arguments.{Given, Home, HomeNode}
 use Rattle.script_reader.specs.Commands.{IsHome, IsArgument, arguments_of, IsCommand, IsCommandRow}
 use Rattle.script_reader.specs.Places.{places_of}
 use Rattle.script_reader.specs.Scripts.{Content, IsContent, IsNode}
@@ -88,6 +88,7 @@ home_wider nodes (Some node) few h = (h.0, omega (arith, few, h.1))
 
 argument_ranged : (nodes : ℕ) (a : Given) → nodes ≤ MAX_NODES → IsArgument nodes a → IsArgument MAX_NODES a
 argument_ranged nodes (Home home) few h = home_wider nodes home few h
+argument_ranged nodes (HomeNode node) few h = (h.0, omega (arith, few, h.1))
 argument_ranged nodes _ few h = h
 
 arguments_ranged : (nodes : ℕ) (list : List Given) → nodes ≤ MAX_NODES → AllByRecursion (IsArgument nodes) list → AllByRecursion (IsArgument MAX_NODES) list

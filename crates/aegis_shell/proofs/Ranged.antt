@@ -1,5 +1,5 @@
 -- What a process asks is in the ranges of operations.
-use Rattle.std.proofs.Common.{◌≡◌, ℕ, suc, ◌-◌, ◌≤◌, ◌<◌, Bool, true, false, Option, Some, None, List, [], ◌∷◌, length, take, drop, map, reverse, refl, sym, subst, arith, length-take, length-drop}
+use Rattle.std.proofs.Common.{◌≡◌, ℕ, suc, ◌-◌, ◌≤◌, ◌<◌, Bool, true, false, Option, Some, None, List, [], ◌∷◌, ◌++◌, length, take, drop, map, reverse, refl, sym, subst, arith, length-take, length-drop}
 use Prim.Native.Nat.{zero}
 use Rattle.std.specs.Prelude.{max, nat_le, All, IfSome, filter, unwrap_or, cond}
 use Rattle.std.specs.Str.{bytes_eq}
@@ -9,29 +9,41 @@ use Rattle.std.proofs.lemmas.Grind.{reverse_onto}
 use Rattle.std.proofs.lemmas.List.{length-map, get_or-map}
 use Rattle.uid_names.specs.Names.{ProcName, ObjectName, IsName, same_proc}
 use Rattle.uid_names.specs.declared.limits.TheConstants.{PAGE_BYTES, MAX_NODES}
+use Rattle.uid_names.specs.declared.lock_row.LockRow.{LockRow}
 use Rattle.uid_names.specs.declared.opening.Object.{Object}
 use Rattle.dom_history.specs.declared.op.Spot.{Spot}
 use Rattle.dom_history.specs.declared.op.Spot.TheVariants.{Of, Addr}
 use Rattle.dom_history.specs.declared.op.Op.{Op}
 use Rattle.dom_history.specs.declared.op.Op.TheVariants as ops
 use Rattle.dom_history.specs.declared.op.Reply.{Reply}
-use Rattle.dom_history.specs.declared.op.Reply.TheVariants.{Made, Fine, Bytes}
-use Rattle.dom_history.specs.Ranges.{IsOp, IsWant, IsSpot, IsNodeNumber, IsNamedReply, AreNamedReplies, offset_in_page}
+use Rattle.dom_history.specs.declared.op.Reply.TheVariants.{Made, Fine, Bytes, Locks}
+use Rattle.dom_history.specs.Ranges.{IsOp, IsWant, IsSpot, IsNodeNumber, IsRowName, IsNamedReply, AreNamedReplies, offset_in_page}
 use Rattle.dom_history.specs.Follows.{Heard}
 use Rattle.script_reader.specs.declared.command.Command.{Command}
-use Rattle.script_reader.specs.declared.command.Command.TheVariants.{New, Lock, Unlock, Delete, Load, Store, Length, Map, Unmap, Loadat, Storeat}
+use Rattle.script_reader.specs.declared.command.Command.TheVariants.{New, Lock, Unlock, Delete, Load, Store, Length, Map, Unmap, Loadat, Storeat, Bind, Wd, Llkob}
 use Rattle.script_reader.specs.declared.script.VarRow.{VarRow}
 use Rattle.script_reader.specs.declared.script.CommandRow.{CommandRow}
 use Rattle.script_reader.specs.Scripts.{Content, IsContent, IsObject}
 use Rattle.script_reader.specs.Variables.{declared_object}
 use Rattle.script_reader.specs.Commands.{IsHome, IsCommandRow}
+use Rattle.naming_tree.specs.Dialogues.{Dialogue, Ends as Finished, Asks as Asking}
+use Rattle.naming_tree.specs.declared.step.Walked.TheVariants.{At}
+use Rattle.naming_tree.specs.declared.step.NameResult.TheVariants as results
+use Rattle.aegis_shell.specs.declared.outcome.Outcome.{Outcome}
+use Rattle.aegis_shell.specs.declared.outcome.Outcome.TheVariants.{Replied, Came, Written}
+use Rattle.aegis_shell.specs.declared.working.Working.{Working}
 use Rattle.aegis_shell.specs.declared.work.Job.{Job}
-use Rattle.aegis_shell.specs.Bound.{Bound, unbound, bind}
+use Rattle.aegis_shell.specs.Bound.{Bound, bind}
 use Rattle.aegis_shell.specs.Work.{Part, part_of, variable, object_in, or_else, object_of, job_of}
 use Rattle.aegis_shell.specs.Ranges.{IsRanged, IsJob, AreJobs}
 use Rattle.aegis_shell.specs.Operations.{page_rest, behind, loads, loads_if, stores, stores_if, on_object, ops_of}
-use Rattle.aegis_shell.specs.AnswerTexts.{is_done, together}
-use Rattle.aegis_shell.specs.Asking.{Told, Reached, behind_phases, Course, Asks, Ends, on_reply, carry_out, on_course, on_operations, on_phases, bound_after, reach, ask}
+use Rattle.aegis_shell.specs.AnswerTexts.{is_done, together, so_far, path_too_long}
+use Rattle.aegis_shell.specs.Outcomes.{bound_by, bind_if, lock_texts, standing_after}
+use Rattle.aegis_shell.specs.Plans.{Plan, Makes, Talks, Lists, Writes, makes, talks, is_long, is_sound, plan_of, dialogue_of}
+use Rattle.aegis_shell.specs.Replies.{can_be, is_op, is_row, is_uid}
+use Rattle.aegis_shell.specs.Standing.{Standing, first_standing}
+use Rattle.aegis_shell.specs.Asking.{Told, Reached, behind_phases, Course, Asks, Ends, on_reply, carry_out, on_said, converse, is_more, last_row, list_locks, carry, plan_at, course_of, on_course, on_phases, reach, ask}
+use Rattle.aegis_shell.proofs.Fittings.{op_is, row_is, uid_is}
 use Rattle.aegis_shell.proofs.Parts.{jobs_ranged}
 
 -- what variables stand for has a name
@@ -107,30 +119,116 @@ ops_ranged node (Map var) uid own named h = given_on (λ u. ops.Map u ∷ []) ui
 ops_ranged node (Unmap var) uid own named h = given_on (λ u. ops.Unmap u ∷ []) uid named (λ u is. (is, tt))
 ops_ranged node (Loadat address count) uid own named h = loads_ranged _ (Addr address) count refl tt h.1.0.0 h.1.0.1
 ops_ranged node (Storeat address text) uid own named h = stores_ranged _ (Addr address) text refl tt h.1.0.0 h.1.0.1
+ops_ranged node _ uid own named h = tt
 
 -- replies that count together name what the later one names
 together-named : (earlier later : Reply) → IsNamedReply later → IsNamedReply (together earlier later)
 together-named (Bytes first) (Bytes second) named = tt
 together-named earlier later named = named
 
+so_far-named : (last : Option Reply) → IfSome last IsNamedReply → IsNamedReply (so_far last)
+so_far-named None named = tt
+so_far-named (Some reply) named = named
+
+-- what a command comes to names an object, where it is a reply that does
+abbrev IsNamedOutcome : Outcome → Type 0
+IsNamedOutcome (Replied reply) = IsNamedReply reply
+IsNamedOutcome (Came result) = Unit {0}
+IsNamedOutcome (Written text) = Unit {0}
+
 -- an operation that a command asks for is in its ranges, and its reply names an object
 abbrev IsRangedCourse : Course → Type 0
 IsRangedCourse (Asks op) = IsOp op
-IsRangedCourse (Ends reply told) = IsNamedReply reply × AreNamedReplies told
+IsRangedCourse (Ends outcome told) = IsNamedOutcome outcome × AreNamedReplies told
+
+first-named : (last : Option Reply) (told : Told) → AreNamedReplies (last ∷ told) → IfSome last IsNamedReply
+first-named last told named = All-head (λ t. IfSome t IsNamedReply) last told named
+
+others-named : (last : Option Reply) (told : Told) → AreNamedReplies (last ∷ told) → AreNamedReplies told
+others-named last told named = All-tail (λ t. IfSome t IsNamedReply) last told named
 
 replied_ranged : (done : Bool) (reply : Reply) (told : Told) (course : Course) → IsNamedReply reply → AreNamedReplies told → IsRangedCourse course → IsRangedCourse (on_reply done reply told course)
 replied_ranged true reply told course named others ranged = ranged
 replied_ranged false reply told course named others ranged = (named, others)
 
-carried_ranged : (so_far : Reply) (list : List Op) (told : Told) → IsNamedReply so_far → AreNamedReplies told → AreOps list → IsRangedCourse (carry_out so_far list told)
-carried_ranged so_far [] told named others ranged = (named, others)
-carried_ranged so_far (op ∷ rest) [] named others ranged = ranged.0
-carried_ranged so_far (op ∷ rest) (None ∷ told) named others ranged = carried_ranged so_far rest told named (All-tail (λ t. IfSome t IsNamedReply) None told others) ranged.1
-carried_ranged so_far (op ∷ rest) (Some reply ∷ told) named others ranged =
-    let first : IsNamedReply reply = All-head (λ t. IfSome t IsNamedReply) (Some reply) told others in
-    let later = All-tail (λ t. IfSome t IsNamedReply) (Some reply) told others in
-    replied_ranged (is_done reply) reply told (carry_out (together so_far reply) rest told) first later
-    (carried_ranged (together so_far reply) rest told (together-named so_far reply first) later ranged.1)
+carried_ranged : (earlier : Reply) (list : List Op) (told : Told) → IsNamedReply earlier → AreNamedReplies told → AreOps list → IsRangedCourse (carry_out earlier list told)
+carried_ranged earlier [] told named others ranged = (named, others)
+carried_ranged earlier (op ∷ rest) [] named others ranged = ranged.0
+carried_ranged earlier (op ∷ rest) (None ∷ told) named others ranged = carried_ranged earlier rest told named (others-named None told others) ranged.1
+carried_ranged earlier (op ∷ rest) (Some reply ∷ told) named others ranged =
+    let first : IsNamedReply reply = first-named (Some reply) told others in
+    let later = others-named (Some reply) told others in
+    replied_ranged (is_done reply) reply told (carry_out (together earlier reply) rest told) first later
+    (carried_ranged (together earlier reply) rest told (together-named earlier reply first) later ranged.1)
+
+-- a dialogue asks in its ranges, since it would end otherwise
+said_ranged : (fits : Bool) (reply : Reply) (told : Told) (course : Course) → IsNamedReply reply → AreNamedReplies told → IsRangedCourse course → IsRangedCourse (on_said fits (Some reply) told course)
+said_ranged true reply told course named others ranged = ranged
+said_ranged false reply told course named others ranged = (named, others)
+
+chosen_ranged : (on : Bool) (further ended : Course) → (on ≡ true → IsRangedCourse further) → IsRangedCourse ended → IsRangedCourse (cond on further ended)
+chosen_ranged true further ended h k = h refl
+chosen_ranged false further ended h k = k
+
+talked_ranged : (d : Dialogue) (told : Told) → AreNamedReplies told → IsRangedCourse (converse d told)
+talked_ranged (Finished result) told named = (tt, named)
+talked_ranged (Asking op further) [] named = chosen_ranged (is_op op) (Asks op) (Ends (Replied Fine) []) (λ r. op_is op r) (tt, named)
+talked_ranged (Asking op further) (None ∷ told) named =
+    chosen_ranged (is_op op) (Ends (Replied Fine) told) (Ends (Replied Fine) (None ∷ told)) (λ r. (tt, others-named None told named)) (tt, named)
+talked_ranged (Asking op further) (Some reply ∷ told) named =
+    let later = others-named (Some reply) told named in
+    chosen_ranged (is_op op) (on_said (can_be op reply) (Some reply) told (converse (further reply) told)) (Ends (Replied Fine) (Some reply ∷ told))
+    (λ r. said_ranged (can_be op reply) reply told (converse (further reply) told) (first-named (Some reply) told named) later (talked_ranged (further reply) told later)) (tt, named)
+
+-- so does a list of locks, behind a row that is named
+row_named : (row : LockRow) (named : Bool) → is_row row ≡ named → IfSome (cond named (Some (row.uid, row.proc)) None) IsRowName
+row_named row true h = row_is row h
+row_named row false h = tt
+
+last_named : (rows : List LockRow) → IfSome (last_row rows) IsRowName
+last_named [] = tt
+last_named (row ∷ []) = row_named row (is_row row) refl
+last_named (row ∷ (next ∷ rows)) = last_named (next ∷ rows)
+
+listed_ranged : (names : List (List ℕ)) (home : ℕ) (last : Option (ObjectName × ProcName)) (text : List ℕ) (told : Told)
+    → IsNodeNumber home → IfSome last IsRowName → AreNamedReplies told → IsRangedCourse (list_locks names home last text told)
+listed_ranged names home last text [] at row named = (at, row)
+listed_ranged names home last text (None ∷ told) at row named = (tt, others-named None told named)
+listed_ranged names home last text (Some (Locks rows more) ∷ told) at row named =
+    let later = others-named (Some (Locks rows more)) told named in
+    let grown = text ++ lock_texts names rows in
+    chosen_ranged (is_more rows more) (list_locks names home (last_row rows) grown told) (Ends (Written grown) told)
+    (λ r. listed_ranged names home (last_row rows) grown told at (last_named rows) later) (tt, later)
+listed_ranged names home last text (Some reply ∷ told) at row named = (first-named (Some reply) told named, others-named (Some reply) told named)
+
+-- a plan of a command in its ranges
+abbrev IsRangedPlan : Plan → Type 0
+IsRangedPlan (Makes list) = AreOps list
+IsRangedPlan Talks = Unit {0}
+IsRangedPlan (Lists home) = IsNodeNumber home
+IsRangedPlan (Writes text) = Unit {0}
+
+made_ranged : (list : Option (List Op)) → AreGiven list → IsRangedPlan (makes list)
+made_ranged None h = tt
+made_ranged (Some list) h = h
+
+chosen_plan : (t long sound : Bool) (list : Option (List Op)) (text : List ℕ) → AreGiven list → IsRangedPlan (cond t (cond long (Writes text) (cond sound Talks (Writes []))) (makes list))
+chosen_plan true true sound list text h = tt
+chosen_plan true false true list text h = tt
+chosen_plan true false false list text h = tt
+chosen_plan false long sound list text h = made_ranged list h
+
+plan_ranged : (part : Part) (working : Working) (uid : Option ObjectName) (command : Command) → IsNodeNumber part.node → IfSome uid IsName → IsRanged command → IsRangedPlan (plan_of part working uid command)
+plan_ranged part working uid (Wd None) own named h = tt
+plan_ranged part working uid (Llkob node) own named h = h.0
+plan_ranged part working uid command own named h =
+    chosen_plan (talks command) (is_long part working command) (is_sound command) (ops_of part.node command uid) path_too_long (ops_ranged part.node command uid own named h)
+
+course_in_range : (part : Part) (at : Standing) (command : Command) (plan : Plan) (told : Told) → AreNamedReplies told → IsRangedPlan plan → IsRangedCourse (carry part at command plan told)
+course_in_range part at command (Makes list) told named h = carried_ranged Fine list told tt named h
+course_in_range part at command Talks told named h = talked_ranged (dialogue_of part at.working command) told named
+course_in_range part at command (Lists home) told named h = listed_ranged part.names home None _ told h tt named
+course_in_range part at command (Writes text) told named h = (tt, named)
 
 -- a variable that is bound to a name leaves names
 bind-named : (var : List ℕ) (u : ObjectName) (bound : Bound) → IsName u → AreNames bound → AreNames (bind var u bound)
@@ -139,20 +237,21 @@ bind-named var u bound named others other = by_test (bytes_eq var other) where
   by_test true = named
   by_test false = others other
 
-bound_after-named : (c : Command) (reply : Reply) (bound : Bound) → IsNamedReply reply → AreNames bound → AreNames (bound_after c reply bound)
-bound_after-named (New var room home) (Made u) bound named others = bind-named var u bound named others
+found-named : (var : List ℕ) (u : ObjectName) (bound : Bound) (named : Bool) → is_uid u ≡ named → AreNames bound → AreNames (bind_if (cond named (Some (var, u)) None) bound)
+found-named var u bound true h others = bind-named var u bound (uid_is u h) others
+found-named var u bound false h others = others
+
+bound_after-named : (c : Command) (outcome : Outcome) (bound : Bound) → IsNamedOutcome outcome → AreNames bound → AreNames (bind_if (bound_by c outcome) bound)
+bound_after-named (New var room home) (Replied (Made u)) bound named others = bind-named var u bound named others
+bound_after-named (Bind var path) (Came (results.Found (At u kind within))) bound named others = found-named var u bound (is_uid u) refl others
 bound_after-named _ _ bound named others = others
 
 -- what a process wants at a job, if what it wants behind the job is in its ranges
-module _ (names : List (List ℕ)) (c : Command) (bound : Bound) (named : AreNames bound) (further : Bound → Told → Reached)
-    (behind_it : (b : Bound) (t : Told) → AreNames b → AreNamedReplies t → IsWant (further b t).want) where
-  course_ranged : (course : Course) → IsRangedCourse course → IsWant (on_course names c bound further course).want
+module _ (part : Part) (command : Command) (at : Standing) (named : AreNames at.bound) (further : Standing → Told → Reached)
+    (behind_it : (st : Standing) (t : Told) → AreNames st.bound → AreNamedReplies t → IsWant (further st t).want) where
+  course_ranged : (course : Course) → IsRangedCourse course → IsWant (on_course part command at further course).want
   course_ranged (Asks op) h = h
-  course_ranged (Ends reply told) h = behind_it (bound_after c reply bound) told (bound_after-named c reply bound h.0 named) h.1
-
-  given_ranged : (list : Option (List Op)) (told : Told) → AreNamedReplies told → AreGiven list → IsWant (on_operations names c bound further list told).want
-  given_ranged None told others h = behind_it bound told named others
-  given_ranged (Some list) told others h = course_ranged (carry_out Fine list told) (carried_ranged Fine list told tt others h)
+  course_ranged (Ends outcome told) h = behind_it (standing_after part command outcome at) told (bound_after-named command outcome at.bound h.0 named) h.1
 
 -- what is told behind phases is among what is told
 passed-named : (n : ℕ) (told : Told) → AreNamedReplies told → IfSome (behind_phases n told) AreNamedReplies
@@ -179,17 +278,17 @@ object-named job bound declared named = by_declared job.declared declared where
 abbrev pub IsNamedJob : Job → Type 0
 IsNamedJob job = IfSome job.declared IsName
 
-pub reach_ranged : (part : Part) (phase : ℕ) (bound : Bound) (jobs : List Job) (told : Told)
-    → IsNodeNumber part.node → AreNames bound → All IsNamedJob jobs → AreNamedReplies told → AreJobs jobs → IsWant (reach part phase bound jobs told).want
-reach_ranged part phase bound [] told own named jobs_named others ranged = tt
-reach_ranged part phase bound (job ∷ jobs) told own named jobs_named others ranged =
-    let list = ops_of part.node job.command (object_of job bound) in
-    let further = λ (b : Bound) (t : Told). reach part (max phase job.phase) b jobs t in
+pub reach_ranged : (part : Part) (phase : ℕ) (at : Standing) (jobs : List Job) (told : Told)
+    → IsNodeNumber part.node → AreNames at.bound → All IsNamedJob jobs → AreNamedReplies told → AreJobs jobs → IsWant (reach part phase at jobs told).want
+reach_ranged part phase at [] told own named jobs_named others ranged = tt
+reach_ranged part phase at (job ∷ jobs) told own named jobs_named others ranged =
+    let further = λ (st : Standing) (t : Told). reach part (max phase job.phase) st jobs t in
     let here = All-head IsNamedJob job jobs jobs_named in
-    phases_ranged (on_operations part.names job.command bound further list)
-    (λ t t_named. given_ranged part.names job.command bound named further
-    (λ b u b_named u_named. reach_ranged part (max phase job.phase) b jobs u own b_named (All-tail IsNamedJob job jobs jobs_named) u_named (All-tail IsJob job jobs ranged)) list t t_named
-    (ops_ranged part.node job.command (object_of job bound) own (object-named job bound here named) (All-head IsJob job jobs ranged).command))
+    let plan = plan_ranged part at.working (object_of job at.bound) job.command own (object-named job at.bound here named) (All-head IsJob job jobs ranged).command in
+    phases_ranged (λ t. on_course part job.command at further (course_of part at job t))
+    (λ t t_named. course_ranged part job.command at named further
+    (λ st u b_named u_named. reach_ranged part (max phase job.phase) st jobs u own b_named (All-tail IsNamedJob job jobs jobs_named) u_named (All-tail IsJob job jobs ranged))
+    (course_of part at job t) (course_in_range part at job.command (plan_at part at job) t t_named plan))
     (behind_phases (job.phase - phase) told) (passed-named (job.phase - phase) told others)
 
 -- declared objects have names
@@ -237,5 +336,5 @@ reversed-named (t ∷ told) named =
 -- what a process of a script asks
 pub ask_ranged : (s : Content) (p : ProcName) (heard : Heard) → IsContent s → IsNodeNumber p.node → AreNamedReplies heard → IsWant (ask s p heard)
 ask_ranged s p heard content own named =
-    reach_ranged (part_of s p) 1 unbound (part_of s p).jobs (reverse heard) own (λ var. tt) (jobs_named s p content) (reversed-named heard named)
+    reach_ranged (part_of s p) 1 (first_standing (part_of s p)) (part_of s p).jobs (reverse heard) own (λ var. tt) (jobs_named s p content) (reversed-named heard named)
     (jobs_ranged s (declared_object s.objects) p content)

@@ -1,6 +1,6 @@
 -- What a map from the bytes of variables holds, as contracts see it.
 use mathlib.Core.Path.{fun_ext}
-use Rattle.std.proofs.Common.{◌≡◌, ℕ, Some, List, [], ◌∷◌, refl, ◌∙◌, ap, cond, map, Ordering, Less, Equal, Greater}
+use Rattle.std.proofs.Common.{◌≡◌, ℕ, Option, Some, None, List, [], ◌∷◌, refl, ◌∙◌, ap, cond, map, Ordering, Less, Equal, Greater}
 use Rattle.std.specs.BTreeMap.{insert_entry}
 use Rattle.std.specs.Map.{lookup}
 use Rattle.std.specs.FinMap.Entries.{find, put, find-put, by_order}
@@ -9,14 +9,10 @@ use Rattle.std.specs.Cmp.Lexicographic.{slice_cmp, nat_list_eq_equiv}
 use Rattle.std.proofs.lemmas.Cmp.{nat_list_cmp_total}
 use Rattle.std.proofs.lemmas.Map.Text.{is_eq-slice_cmp}
 use Rattle.uid_names.specs.Names.{ObjectName}
-use Rattle.dom_history.specs.declared.op.Reply.{Reply}
-use Rattle.dom_history.specs.declared.op.Reply.TheVariants.{Made}
-use Rattle.script_reader.specs.declared.command.Command.{Command}
-use Rattle.script_reader.specs.declared.command.Command.TheVariants.{New}
 use Rattle.aegis_shell.specs.Bound.{bind}
 use Rattle.aegis_shell.specs.Bindings.{Rows, object_at, rebound}
-use Rattle.aegis_shell.specs.Asking.{bound_after}
-use Rattle.aegis_shell.specs.States.{rows_after}
+use Rattle.aegis_shell.specs.Outcomes.{bind_if}
+use Rattle.aegis_shell.specs.States.{rebind_if}
 
 -- the bytes of each key beside its value
 abbrev pub by_text : {K X : Type 0} → (K → List ℕ) → List (K × X) → List (List ℕ × X)
@@ -45,7 +41,7 @@ object_rebound var u rows = fun_ext (λ other.
     find-put (slice_cmp nat_cmp) nat_list_cmp_total other var u rows
     ∙ ap (λ b. cond b (Some u) (object_at rows other)) (is_eq-slice_cmp other var ∙ nat_list_eq_equiv.symm other var))
 
--- the variables behind a command
-pub object_after : (c : Command) (reply : Reply) (rows : Rows) → object_at (rows_after c reply rows) ≡ bound_after c reply (object_at rows)
-object_after (New var room home) (Made u) rows = object_rebound var u rows
-object_after _ _ rows = refl
+-- the variables behind a command that binds one, or none
+pub object_after : (bound : Option (List ℕ × ObjectName)) (rows : Rows) → object_at (rebind_if bound rows) ≡ bind_if bound (object_at rows)
+object_after None rows = refl
+object_after (Some (var, u)) rows = object_rebound var u rows

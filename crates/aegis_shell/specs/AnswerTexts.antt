@@ -66,3 +66,7 @@ answer_text names NotMapped = codes "not mapped"
 -- the answer of a command whose variable has no object
 abbrev pub not_bound : List ℕ
 not_bound = codes "not bound"
+
+-- and of one whose working directory would have too long a text
+abbrev pub path_too_long : List ℕ
+path_too_long = codes "path too long"

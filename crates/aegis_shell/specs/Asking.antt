@@ -1,21 +1,27 @@
 -- What a process asks and is answered, as functions of all that it heard.
 use Prim.Native.Nat.{zero}
-use Rattle.std.specs.Prelude.{ℕ, suc, ◌-◌, max, Bool, true, false, Option, Some, None, List, [], ◌∷◌, reverse}
-use Rattle.uid_names.specs.Names.{ProcName}
+use Rattle.std.specs.Prelude.{ℕ, suc, ◌-◌, max, Bool, true, false, ◌&&◌, cond, is_some, Option, Some, None, List, [], ◌∷◌, ◌++◌, reverse, codes}
+use Rattle.uid_names.specs.Names.{ObjectName, ProcName}
+use Rattle.uid_names.specs.declared.lock_row.LockRow.{LockRow}
 use Rattle.dom_history.specs.declared.op.Op.{Op}
+use Rattle.dom_history.specs.declared.op.Op.TheVariants as ops
 use Rattle.dom_history.specs.declared.op.Reply.{Reply}
-use Rattle.dom_history.specs.declared.op.Reply.TheVariants.{Made, Fine}
+use Rattle.dom_history.specs.declared.op.Reply.TheVariants.{Fine, Locks}
 use Rattle.dom_history.specs.declared.op.Want.{Want}
 use Rattle.dom_history.specs.declared.op.Want.TheVariants.{Do, Phase, Done}
 use Rattle.dom_history.specs.Follows.{Heard}
 use Rattle.script_reader.specs.declared.command.Command.{Command}
-use Rattle.script_reader.specs.declared.command.Command.TheVariants.{New}
 use Rattle.script_reader.specs.Scripts.{Content}
+use Rattle.naming_tree.specs.Dialogues.{Dialogue, Ends as Over, Asks as Asking}
 use Rattle.aegis_shell.specs.declared.work.Job.{Job}
-use Rattle.aegis_shell.specs.Bound.{Bound, unbound, bind}
+use Rattle.aegis_shell.specs.declared.outcome.Outcome.{Outcome}
+use Rattle.aegis_shell.specs.declared.outcome.Outcome.TheVariants.{Replied, Came, Written}
 use Rattle.aegis_shell.specs.Work.{Part, part_of, object_of}
-use Rattle.aegis_shell.specs.Operations.{ops_of}
-use Rattle.aegis_shell.specs.AnswerTexts.{is_done, together, answer_text, not_bound}
+use Rattle.aegis_shell.specs.Standing.{Standing, first_standing}
+use Rattle.aegis_shell.specs.Plans.{Plan, Makes, Talks, Lists, Writes, plan_of, dialogue_of}
+use Rattle.aegis_shell.specs.Replies.{can_be, is_op, is_row}
+use Rattle.aegis_shell.specs.Outcomes.{outcome_text, standing_after, lock_texts}
+use Rattle.aegis_shell.specs.AnswerTexts.{is_done, together, so_far}
 
 -- what a process is told after its first call, in order: a reply, or nothing after a phase
 abbrev pub Told : Type 0
@@ -40,55 +46,89 @@ behind_phases zero told = Some told
 behind_phases (suc n) [] = None
 behind_phases (suc n) (_ ∷ told) = behind_phases n told
 
--- how far a command comes: it asks for an operation, or it has its reply
+-- how far a command comes: it asks for an operation, or it comes to its end
 pub data Course : Type 0 where
   Asks : (op : Op) → Course
-  Ends : (reply : Reply) → (told : Told) → Course
+  Ends : (outcome : Outcome) → (told : Told) → Course
 
 -- behind a reply: on with the operations that are left, or to the end where this one was refused
 abbrev pub on_reply : Bool → Reply → Told → Course → Course
 on_reply true reply told further = further
-on_reply false reply told further = Ends reply told
+on_reply false reply told further = Ends (Replied reply) told
 
 -- operations one after another, up to the first that is refused; the replies of the others count together.
 -- An operation is always told a reply; were it told nothing, it would count as done
 abbrev pub carry_out : Reply → List Op → Told → Course
-carry_out so_far [] told = Ends so_far told
-carry_out so_far (op ∷ ops) [] = Asks op
-carry_out so_far (op ∷ ops) (None ∷ told) = carry_out so_far ops told
-carry_out so_far (op ∷ ops) (Some reply ∷ told) = on_reply (is_done reply) reply told (carry_out (together so_far reply) ops told)
+carry_out earlier [] told = Ends (Replied earlier) told
+carry_out earlier (op ∷ list) [] = Asks op
+carry_out earlier (op ∷ list) (None ∷ told) = carry_out earlier list told
+carry_out earlier (op ∷ list) (Some reply ∷ told) = on_reply (is_done reply) reply told (carry_out (together earlier reply) list told)
 
--- the variables behind a command: a `new` that was granted binds its variable
-abbrev pub bound_after : Command → Reply → Bound → Bound
-bound_after (New var room home) (Made u) bound = bind var u bound
-bound_after _ _ bound = bound
+-- a dialogue of a name, to its result. What it asks for is always in its ranges, and is told a reply that it can have;
+-- were it not so, the command would end there
+abbrev pub on_said : Bool → Option Reply → Told → Course → Course
+on_said true last told further = further
+on_said false last told further = Ends (Replied (so_far last)) told
+
+abbrev pub converse : Dialogue → Told → Course
+converse (Over result) told = Ends (Came result) told
+converse (Asking op further) [] = cond (is_op op) (Asks op) (Ends (Replied Fine) [])
+converse (Asking op further) (None ∷ told) = cond (is_op op) (Ends (Replied Fine) told) (Ends (Replied Fine) (None ∷ told))
+converse (Asking op further) (Some reply ∷ told) =
+    cond (is_op op) (on_said (can_be op reply) (Some reply) told (converse (further reply) told)) (Ends (Replied Fine) (Some reply ∷ told))
+
+-- the object and the process of the last of these rows
+abbrev pub last_row : List LockRow → Option (ObjectName × ProcName)
+last_row [] = None
+last_row (row ∷ []) = cond (is_row row) (Some (row.uid, row.proc)) None
+last_row (_ ∷ rows) = last_row rows
+
+-- a list of locks goes on behind rows where there are more, and some were told
+abbrev pub is_more : List LockRow → Bool → Bool
+is_more rows more = more && is_some (last_row rows)
+
+-- lists of the locks of a home, from a row on; the text grows by the rows of each
+abbrev pub list_locks : List (List ℕ) → ℕ → Option (ObjectName × ProcName) → List ℕ → Told → Course
+list_locks names home after text [] = Asks (ops.List home after)
+list_locks names home after text (Some (Locks rows more) ∷ told) =
+    cond (is_more rows more) (list_locks names home (last_row rows) (text ++ lock_texts names rows) told) (Ends (Written (text ++ lock_texts names rows)) told)
+list_locks names home after text (last ∷ told) = Ends (Replied (so_far last)) told
+
+-- how far a command of this plan comes
+abbrev pub carry : Part → Standing → Command → Plan → Told → Course
+carry part at command (Makes list) told = carry_out Fine list told
+carry part at command Talks told = converse (dialogue_of part at.working command) told
+carry part at command (Lists home) told = list_locks part.names home None (codes "ok") told
+carry part at command (Writes text) told = Ends (Written text) told
+
+-- the plan of a job
+abbrev pub plan_at : Part → Standing → Job → Plan
+plan_at part at job = plan_of part at.working (object_of job at.bound) job.command
+
+abbrev pub course_of : Part → Standing → Job → Told → Course
+course_of part at job told = carry part at job.command (plan_at part at job) told
 
 -- behind what a command came to
-abbrev pub on_course : List (List ℕ) → Command → Bound → (Bound → Told → Reached) → Course → Reached
-on_course names command bound further (Asks op) = waits (Do op)
-on_course names command bound further (Ends reply told) = answered (answer_text names reply) (further (bound_after command reply bound) told)
-
--- a command is carried out; one without its object is answered at once
-abbrev pub on_operations : List (List ℕ) → Command → Bound → (Bound → Told → Reached) → Option (List Op) → Told → Reached
-on_operations names command bound further None told = answered not_bound (further bound told)
-on_operations names command bound further (Some ops) told = on_course names command bound further (carry_out Fine ops told)
+abbrev pub on_course : Part → Command → Standing → (Standing → Told → Reached) → Course → Reached
+on_course part command at further (Asks op) = waits (Do op)
+on_course part command at further (Ends outcome told) = answered (outcome_text part at.working command outcome) (further (standing_after part command outcome at) told)
 
 -- behind the phases before a command
 abbrev pub on_phases : (Told → Reached) → Option Told → Reached
 on_phases further None = waits Phase
 on_phases further (Some told) = further told
 
--- how far these jobs come that begin in this phase and with these variables
-abbrev pub reach : Part → ℕ → Bound → List Job → Told → Reached
-reach part phase bound [] told = waits Done
-reach part phase bound (job ∷ jobs) told =
+-- how far these jobs come that begin in this phase and where the process stands so
+abbrev pub reach : Part → ℕ → Standing → List Job → Told → Reached
+reach part phase at [] told = waits Done
+reach part phase at (job ∷ jobs) told =
     on_phases
-    (on_operations part.names job.command bound (λ bound told. reach part (max phase job.phase) bound jobs told) (ops_of part.node job.command (object_of job bound)))
+    (λ told. on_course part job.command at (λ at told. reach part (max phase job.phase) at jobs told) (course_of part at job told))
     (behind_phases (job.phase - phase) told)
 
 -- how far a process comes with all that it heard, of which the newest stands first
 abbrev pub reached : Part → Heard → Reached
-reached part heard = reach part 1 unbound part.jobs (reverse heard)
+reached part heard = reach part 1 (first_standing part) part.jobs (reverse heard)
 
 -- what a process of a script asks
 abbrev pub ask : Content → ProcName → Heard → Want

@@ -5,6 +5,12 @@ pub mod Operations
 pub mod Ranges
 pub mod Asked
 pub mod AnswerTexts
+pub mod Replies
+pub mod Standing
+pub mod Plans
+pub mod Outcomes
 pub mod Asking
+pub mod Talks
 pub mod States
+pub mod Turns
 pub mod Shells

@@ -46,7 +46,8 @@ abbrev pub on_object : (ObjectName → List Op) → Option ObjectName → Option
 on_object make None = None
 on_object make (Some u) = Some (make u)
 
--- the operations of a command of a process at a node, that works on this object; None where it lacks its object
+-- the operations of a command of a process at a node, that works on this object; None where it lacks its object, or where
+-- it is done by names or by lists of locks
 abbrev pub ops_of : ℕ → Command → Option ObjectName → Option (List Op)
 ops_of node (New var room home) uid = Some (ops.New (unwrap_or home node) File room ∷ [])
 ops_of node (Lock var mode) uid = on_object (λ u. ops.Lock u mode ∷ []) uid
@@ -59,6 +60,7 @@ ops_of node (Map var) uid = on_object (λ u. ops.Map u ∷ []) uid
 ops_of node (Unmap var) uid = on_object (λ u. ops.Unmap u ∷ []) uid
 ops_of node (Loadat address count) uid = Some (loads (Addr address) count)
 ops_of node (Storeat address text) uid = Some (stores (Addr address) text)
+ops_of node _ uid = None
 
 -- the first of operations, if there is one
 abbrev pub head_of : List Op → Option Op

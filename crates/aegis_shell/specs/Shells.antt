@@ -1,11 +1,12 @@
 -- What contracts see of a shell.
-use Rattle.std.specs.Prelude.{ℕ, ◌≡◌, ◌≤◌, length, Bool, true, false, Option, None, List}
+use Rattle.std.specs.Prelude.{ℕ, ◌≡◌, ◌≤◌, length, Bool, true, false, Option, List}
 use Rattle.uid_names.specs.Names.{ProcName}
 use Rattle.dom_history.specs.declared.op.Reply.{Reply}
 use Rattle.dom_history.specs.declared.op.Want.{Want}
 use Rattle.dom_history.specs.declared.op.Want.TheVariants.{Phase}
 use Rattle.script_reader.specs.Scripts.{Content}
 use Rattle.aegis_shell.specs.Work.{Part, part_of}
+use Rattle.aegis_shell.specs.declared.stage.Stage.TheVariants.{Between}
 use Rattle.aegis_shell.specs.States.{State, beginning, want_of, settled, step}
 
 -- its part of the script, whether it was called, where it stands, and whether it found no memory
@@ -17,7 +18,7 @@ pub record Shelled : Type 0 where
 
 -- the shell of a process of a script before its first call
 abbrev pub shell_of : Content → ProcName → Shelled
-shell_of s p = record { part = part_of s p; begun = false; at = beginning; spent = false }
+shell_of s p = record { part = part_of s p; begun = false; at = beginning (part_of s p); spent = false }
 
 -- where it stands after a call; the first one tells it nothing
 abbrev pub state_after : Bool → Part → State → Option Reply → State
@@ -44,7 +45,7 @@ shell_answers v = v.at.answers
 -- first call
 pub record IsKept (part : Part) (begun : Bool) (at : State) : Type 0 where
   pub within : length at.answers ≤ length part.jobs
-  pub between : begun ≡ false → at.first ≡ None
+  pub between : begun ≡ false → at.stage ≡ Between
 
 abbrev pub UnlessSpent : Bool → Type 0 → Type 0
 UnlessSpent true P = Unit {0}

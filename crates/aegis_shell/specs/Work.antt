@@ -1,7 +1,8 @@
 -- What a script gives one process to do.
-use Rattle.std.specs.Prelude.{ℕ, Option, Some, None, List, [], ◌∷◌, map, filter}
+use Rattle.std.specs.Prelude.{ℕ, Bool, true, false, Option, Some, None, List, [], ◌∷◌, map, filter}
 use Rattle.uid_names.specs.Names.{ProcName, ObjectName, same_proc}
 use Rattle.script_reader.specs.declared.command.Command.{Command}
+use Rattle.script_reader.specs.declared.command.Command.TheVariants.{Bind, Crf, Crd, Crl, Dlf, Ld, Wd, Llkob}
 use Rattle.script_reader.specs.Arguments.{Given, Var}
 use Rattle.script_reader.specs.Commands.{arguments_of}
 use Rattle.script_reader.specs.declared.script.CommandRow.{CommandRow}
@@ -18,6 +19,18 @@ var_of (_ ∷ rest) = var_of rest
 
 abbrev pub variable : Command → Option (List ℕ)
 variable command = var_of (arguments_of command)
+
+-- a command is done by names, or by lists of locks
+abbrev pub is_of_names : Command → Bool
+is_of_names (Bind var path) = true
+is_of_names (Crf path room) = true
+is_of_names (Crd path) = true
+is_of_names (Crl path target) = true
+is_of_names (Dlf path) = true
+is_of_names (Ld path) = true
+is_of_names (Wd path) = true
+is_of_names (Llkob node) = true
+is_of_names _ = false
 
 -- the object of a variable, where there is one
 abbrev pub object_in : Bound → Option (List ℕ) → Option ObjectName

@@ -3,19 +3,12 @@ ghost use Rattle.std.specs.Prelude.{◌≡◌, ◌++◌, ◌∷◌, [], codes, d
 ghost use Rattle.uid_names.specs.Modes.{mode_letter};
 ghost use Rattle.uid_names.specs.Texts.{text_of as uid_text};
 ghost use Rattle.dom_text.specs.Texts.{quoted_text};
-ghost use Rattle.aegis_shell.specs.AnswerTexts.{is_done as is_done_reply, together, so_far, node_name, address_text, answer_text as text_of_answer, not_bound as not_bound_text};
+ghost use Rattle.aegis_shell.specs.AnswerTexts.{is_done as is_done_reply, together as reply_together, node_name, address_text, answer_text as text_of_answer};
 
 use dom_history::{NodeNames, Reply};
 use dom_text::{put_decimal, put_quoted};
 use std::alloc::Global;
-use uid_names::{ByteList, Mode, NoMemory, ProcId, Uid};
-
-/// The answer of a command whose variable has no object.
-pub fn not_bound(alloc: Global) -> Result<ByteList, NoMemory>
-    ensures { IfOk result (λ text. text ≡ not_bound_text) }
-{
-    ByteList::from_slice(alloc, b"not bound")
-}
+use uid_names::{ByteList, Mode, NoMemory, NodeId, ProcId, Uid};
 
 /// Whether an operation with this reply was done.
 pub fn is_done(reply: &Reply) -> bool
@@ -68,6 +61,26 @@ fn mapped(alloc: Global, address: u32) -> Result<ByteList, NoMemory>
     Ok(text)
 }
 
+/// Puts the name of a node behind a text; nothing where the script has no such node.
+pub fn put_node(text: &mut ByteList, names: &NodeNames, node: NodeId) -> Result<(), NoMemory>
+    ensures { OnOk result (text.new ≡ text.old ++ node_name names.now node) }
+{
+    match names.name(node) {
+        Some(name) => text.extend(name),
+        None => Ok(()),
+    }
+}
+
+/// Puts the name of a process behind a text.
+pub fn put_process(text: &mut ByteList, names: &NodeNames, proc: ProcId) -> Result<(), NoMemory>
+    ensures { OnOk result (text.new ≡ text.old ++ node_name names.now proc.node ++ codes "." ++ decimal proc.number) }
+{
+    put_node(text, names, proc.node())?;
+    text.extend(b".")?;
+    put_decimal(text, u64::from(proc.number()))?;
+    Ok(())
+}
+
 fn conflict(
     alloc: Global,
     names: &NodeNames,
@@ -77,18 +90,14 @@ fn conflict(
     ensures { IfOk result (λ text. text ≡ codes "conflict " ++ node_name names.now proc.node ++ codes "." ++ decimal proc.number ++ codes " " ++ mode_letter mode ∷ []) }
 {
     let mut text = ByteList::from_slice(alloc, b"conflict ")?;
-    if let Some(name) = names.name(proc.node()) {
-        text.extend(name)?;
-    }
-    text.extend(b".")?;
-    put_decimal(&mut text, u64::from(proc.number()))?;
+    put_process(&mut text, names, proc)?;
     text.extend(b" ")?;
     text.push(mode.letter())?;
     Ok(text)
 }
 
 /// The answer that a reply is written as.
-fn answer_text(alloc: Global, names: &NodeNames, reply: &Reply) -> Result<ByteList, NoMemory>
+pub fn answer_text(alloc: Global, names: &NodeNames, reply: &Reply) -> Result<ByteList, NoMemory>
     ensures { IfOk result (λ text. text ≡ text_of_answer names.now reply.now) }
 {
     let text: &[u8] = match reply {
@@ -118,36 +127,15 @@ fn answer_text(alloc: Global, names: &NodeNames, reply: &Reply) -> Result<ByteLi
     ByteList::from_slice(alloc, text)
 }
 
-/// The answer of a command whose two operations had these replies.
-fn answer_of_two(
-    alloc: Global,
-    names: &NodeNames,
-    first: &Reply,
-    second: &Reply,
-) -> Result<ByteList, NoMemory>
-    ensures { IfOk result (λ text. text ≡ text_of_answer names.now (together first.now second.now)) }
+/// What two operations of a command answer together.
+pub fn together(alloc: Global, first: Reply, second: &Reply) -> Result<Reply, NoMemory>
+    ensures { IfOk result (λ reply. reply ≡ reply_together first second.now) }
 {
-    if let Reply::Bytes(front) = first {
+    if let Reply::Bytes(mut front) = first {
         if let Reply::Bytes(back) = second {
-            let mut bytes = front.copy(alloc)?;
-            bytes.extend(back.bytes())?;
-            return loaded(alloc, bytes.bytes());
+            front.extend(back.bytes())?;
+            return Ok(Reply::Bytes(front));
         }
     }
-    answer_text(alloc, names, second)
-}
-
-/// The answer of a command whose last operation had this reply, and the one before it, if there was one, that.
-pub fn answer(
-    alloc: Global,
-    names: &NodeNames,
-    first: &Option<Reply>,
-    last: &Reply,
-) -> Result<ByteList, NoMemory>
-    ensures { IfOk result (λ text. text ≡ text_of_answer names.now (together (so_far first.now) last.now)) }
-{
-    match first {
-        Some(first) => answer_of_two(alloc, names, first, last),
-        None => answer_text(alloc, names, last),
-    }
+    second.copy(alloc)
 }

@@ -2,13 +2,21 @@
 #![tactic(auto)]
 
 mod answer;
+mod begin;
 mod bindings;
+mod go;
 pub mod laws;
+mod names;
+mod naming;
 mod operation;
+mod outcome;
 mod progress;
 mod shell;
+mod stage;
+mod talk;
 #[cfg(test)]
 mod tests;
 mod work;
+mod working;
 
 pub use shell::Shell;

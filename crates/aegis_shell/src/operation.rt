@@ -124,7 +124,7 @@ pub enum Asked<'a> {
     Store(Spot, &'a ByteList),
 }
 
-/// What a command of a process at this node asks for; None where it lacks its object.
+/// What a command of a process at this node asks for; None where it lacks its object, or is done by names or by lists of locks.
 fn asked_of<'a>(node: NodeId, command: &'a Command, uid: Option<Uid>) -> Option<Asked<'a>>
     requires { IsRanged command.now }
     ensures value { ops_of node command.now uid ≡ option_map ops_asked result }
@@ -153,6 +153,7 @@ fn asked_of<'a>(node: NodeId, command: &'a Command, uid: Option<Uid>) -> Option<
         Command::Unmap { var: _ } => Asked::One(Op::Unmap { uid: uid? }),
         Command::Loadat { address, count } => Asked::Load(Spot::Addr(*address), *count),
         Command::Storeat { address, text } => Asked::Store(Spot::Addr(*address), text),
+        _ => return None,
     })
 }
 

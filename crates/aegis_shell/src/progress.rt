@@ -1,31 +1,38 @@
 //! How far a process has come in its jobs.
-ghost use Rattle.std.specs.Prelude.{◌≡◌, ◌≤◌, length, true, None, Some, IfOk, IfSome, OnOk, MatchOption};
+ghost use Rattle.std.specs.Prelude.{◌≡◌, ◌≤◌, length, nat_lt, [], true, None, Some, IfOk, IfSome, OnOk, MatchOption};
 ghost use Rattle.std.specs.Option.{option_copied};
 ghost use Rattle.dom_history.specs.declared.op.Want.TheVariants.{Do};
 ghost use Rattle.dom_history.specs.Programs.{FitsWant};
 ghost use Rattle.dom_history.specs.Ranges.{IsOp, IsWant};
-ghost use Rattle.aegis_shell.specs.AnswerTexts.{is_done as is_done_reply};
-ghost use Rattle.aegis_shell.specs.Operations.{second_of};
 ghost use Rattle.aegis_shell.specs.Ranges.{IsRanged};
-ghost use Rattle.aegis_shell.specs.States.{rows_after};
+ghost use Rattle.aegis_shell.specs.Outcomes.{bound_by, working_after as working_behind};
+ghost use Rattle.aegis_shell.specs.Standing.{first_working};
+ghost use Rattle.aegis_shell.specs.States.{rebind_if};
 
-use crate::answer::{answer, is_done, not_bound};
+use crate::begin::begin;
 use crate::bindings::Bindings;
-use crate::operation::{first_operation, second_operation};
+use crate::go::go;
+use crate::names::outcome_text;
+use crate::outcome::Outcome;
+use crate::stage::{Stage, Turn};
 use crate::work::{Job, Work};
+use crate::working::Working;
 use dom_history::{Op, Reply, Want};
+use naming_tree::{NameResult, Walked};
 use script_reader::Command;
 use std::alloc::Global;
 use std::marker::Model;
-use uid_names::{ByteList, NoMemory};
+use std::mem::replace;
+use uid_names::{ByteList, NoMemory, ObjKind, Uid};
 
-/// Where a process stands: its phase, its variables, the reply to the first operation of a command that has gone on
-/// to its second one, and the answers of the commands that are finished.
+/// Where a process stands: its phase, its variables, its working directory, how far it is in its next command, and the
+/// answers of the commands that are finished.
 #[derive(Drop)]
 pub struct Progress {
     phase: u32,
     bound: Bindings,
-    first: Option<Reply>,
+    working: Working,
+    stage: Stage,
     answers: Vec<ByteList>,
 }
 
@@ -34,45 +41,84 @@ impl Model for Progress {
 
     ghost Value = { State };
 
-    ghost view = { λ p. record { phase = p.phase; bound = p.bound; first = p.first; answers = p.answers.items } };
+    ghost view = { λ p. record { phase = p.phase; bound = p.bound; working = p.working; stage = p.stage; answers = p.answers.items } };
 }
 
-/// Binds the variable of a `new` that was granted.
-fn bind_made(
+/// The variable that a command binds, with its object.
+#[tactic(auto, using(crate::proofs::Fittings::named_binds))]
+fn binding<'a>(command: &'a Command, outcome: &Outcome) -> Option<(&'a [u8], Uid)>
+    ensures { MatchOption result (bound_by command.now outcome.now ≡ None) (λ b. bound_by command.now outcome.now ≡ Some (b.0.now, b.1)) }
+{
+    match (command, outcome) {
+        (Command::New { var, .. }, Outcome::Replied(Reply::Made(uid))) => Some((var.bytes(), *uid)),
+        (Command::Bind { var, .. }, Outcome::Came(NameResult::Found(Walked::At { uid, .. }))) => {
+            // It names an object.
+            let _number = uid.number();
+            Some((var.bytes(), *uid))
+        }
+        _ => None,
+    }
+}
+
+/// Binds the variable of a command that has come to its end, where it binds one.
+fn bind_by(
     alloc: Global,
     bound: &mut Bindings,
     command: &Command,
-    reply: &Reply,
+    outcome: &Outcome,
 ) -> Result<(), NoMemory>
-    ensures { OnOk result (bound.new ≡ rows_after command.now reply.now bound.old) }
+    ensures { OnOk result (bound.new ≡ rebind_if (bound_by command.now outcome.now) bound.old) }
 {
-    if let Command::New {
-        var,
-        room: _,
-        home: _,
-    } = command
-    {
-        if let Reply::Made(uid) = reply {
-            return bound.bind(alloc, var.bytes(), *uid);
+    match binding(command, outcome) {
+        Some((var, uid)) => bound.bind(alloc, var, uid),
+        None => Ok(()),
+    }
+}
+
+/// Enters the directory to which the path of a command leads, where it is one that the command enters.
+fn enter_by(
+    alloc: Global,
+    work: &Work,
+    working: &mut Working,
+    command: &Command,
+    outcome: &Outcome,
+) -> Result<(), NoMemory>
+    ensures { OnOk result (working.new ≡ working_behind work.now working.old command.now outcome.now) }
+{
+    if let Command::Wd { path: Some(path) } = command {
+        if let Outcome::Came(
+            NameResult::Found(
+                Walked::At {
+                    uid,
+                    kind: ObjKind::Directory,
+                    ..
+                },
+            ),
+        ) = outcome
+        {
+            let text = working.text_at(alloc, work, path.bytes())?;
+            *working = Working { dir: *uid, text };
         }
     }
     Ok(())
 }
 
 impl Progress {
+    ghost use Rattle.aegis_shell.specs.declared.stage.Stage.TheVariants.{Between};
     ghost use Rattle.aegis_shell.specs.Shells.{state_after, want_when, IsKept};
-    ghost use Rattle.aegis_shell.specs.States.{beginning, left, ops_at, want_at, want_left, want_of, settled, outcome, goes_on, ended, hear as heard_of};
+    ghost use Rattle.aegis_shell.specs.States.{beginning, left, want_of, settled, finished, hear as heard_of};
 
-    /// The beginning: phase 1, and nothing bound or answered. Takes no memory.
-    pub fn new(alloc: Global) -> Progress
-        ensures { result ≡ beginning }
+    /// The beginning: phase 1, nothing bound or answered, and the working directory is the node's entry directory.
+    pub fn new(alloc: Global, work: &Work) -> Result<Progress, NoMemory>
+        ensures { IfOk result (λ progress. progress ≡ beginning work.now) }
     {
-        Progress {
+        Ok(Progress {
             phase: 1,
             bound: Bindings::new(alloc),
-            first: None,
+            working: Working::first(alloc, work)?,
+            stage: Stage::Between,
             answers: Vec::new(alloc),
-        }
+        })
     }
 
     /// The answers of the finished commands, in order.
@@ -82,44 +128,25 @@ impl Progress {
         self.answers.as_slice()
     }
 
-    /// Ends a command whose last operation had this reply.
+    /// Ends a command that has come to this.
     fn finish(
         &mut self,
         alloc: Global,
         work: &Work,
         command: &Command,
-        reply: &Reply,
+        outcome: &Outcome,
     ) -> Result<(), NoMemory>
-        ensures { OnOk result (self.new ≡ ended work.now self.old command.now (outcome self.old.first (Some reply.now))) }
+        ensures { OnOk result (self.new ≡ finished work.now self.old command.now outcome.now) }
     {
-        let text = answer(alloc, work.names(), &self.first, reply)?;
+        let text = outcome_text(alloc, work, &self.working, command, outcome)?;
         self.answers.push(text)?;
-        bind_made(alloc, &mut self.bound, command, reply)?;
-        self.first = None;
+        bind_by(alloc, &mut self.bound, command, outcome)?;
+        enter_by(alloc, work, &mut self.working, command, outcome)?;
+        self.stage = Stage::Between;
         Ok(())
     }
 
-    /// The operation with which a command goes on behind this reply; None where it ends.
-    fn second(
-        &self,
-        alloc: Global,
-        work: &Work,
-        job: &Job,
-        reply: &Reply,
-    ) -> Result<Option<Op>, NoMemory>
-        requires { IsRanged job.now.command }
-        ensures value { IfOk result (λ op. op ≡ goes_on self.now.first (is_done_reply reply.now) (second_of (ops_at work.now self.now job.now))) }
-        ensures range { IfOk result (λ op. IfSome op IsOp) }
-    {
-        match &self.first {
-            None if is_done(reply) => {
-                second_operation(alloc, work.node(), &job.command, job.object(&self.bound))
-            }
-            _ => Ok(None),
-        }
-    }
-
-    /// Takes in the reply to an operation. The answer is the command's second operation, where it goes on.
+    /// Takes in the reply to an operation. The answer is the operation with which the command goes on, where it does.
     fn hear_reply(
         &mut self,
         alloc: Global,
@@ -128,17 +155,19 @@ impl Progress {
     ) -> Result<Option<Op>, NoMemory>
         requires { FitsWant (want_of work.now self.old) (Some reply.now) }
         ensures state { OnOk result (self.new ≡ heard_of work.now self.old (left work.now self.old) (Some reply.now)) }
-        ensures next { IfOk result (λ op. MatchOption op (self.new.first ≡ None) (λ o. want_of work.now self.new ≡ Do o)) }
+        ensures next { IfOk result (λ op. MatchOption op (self.new.stage ≡ Between) (λ o. want_of work.now self.new ≡ Do o)) }
         ensures range { IfOk result (λ op. IfSome op IsOp) }
     {
         let job = &work.jobs()[self.answers.len()];
-        match self.second(alloc, work, job, reply)? {
-            Some(op) => {
-                self.first = Some(reply.copy(alloc)?);
+        let object = job.object(&self.bound);
+        let stage = replace(&mut self.stage, Stage::Between);
+        match go(alloc, work, job, object, stage, reply)? {
+            Turn::Goes(stage, op) => {
+                self.stage = stage;
                 Ok(Some(op))
             }
-            None => {
-                self.finish(alloc, work, &job.command, reply)?;
+            Turn::Comes(outcome) => {
+                self.finish(alloc, work, &job.command, &outcome)?;
                 Ok(None)
             }
         }
@@ -148,14 +177,14 @@ impl Progress {
     fn pass(&mut self, work: &Work)
         requires { FitsWant (want_of work.now self.old) None }
         ensures state { self.new ≡ heard_of work.now self.old (left work.now self.old) None }
-        ensures first { self.new.first ≡ None }
+        ensures stage { self.new.stage ≡ Between }
     {
         // The phase of a job is small.
         let _jobs = work.jobs();
         self.phase += 1;
     }
 
-    /// Takes in what the process is told. The answer is the second operation of a command that goes on.
+    /// Takes in what the process is told. The answer is the operation with which a command goes on, where it does.
     fn hear(
         &mut self,
         alloc: Global,
@@ -164,7 +193,7 @@ impl Progress {
     ) -> Result<Option<Op>, NoMemory>
         requires { FitsWant (want_of work.now self.old) (option_copied last) }
         ensures state { OnOk result (self.new ≡ heard_of work.now self.old (left work.now self.old) (option_copied last.entry)) }
-        ensures next { IfOk result (λ op. MatchOption op (self.new.first ≡ None) (λ o. want_of work.now self.new ≡ Do o)) }
+        ensures next { IfOk result (λ op. MatchOption op (self.new.stage ≡ Between) (λ o. want_of work.now self.new ≡ Do o)) }
         ensures range { IfOk result (λ op. IfSome op IsOp) }
     {
         match last {
@@ -176,34 +205,25 @@ impl Progress {
         }
     }
 
-    /// What the process wants before a job; None where the job lacks its object.
-    fn want_before(&self, alloc: Global, work: &Work, job: &Job) -> Result<Option<Want>, NoMemory>
-        requires between { self.now.first ≡ None }
-        requires range { IsRanged job.now.command }
-        ensures value { IfOk result (λ want. want ≡ want_at work.now self.now job.now) }
-        ensures range { IfOk result (λ want. IfSome want IsWant) }
-    {
-        if self.phase < job.phase {
-            return Ok(Some(Want::Phase));
-        }
-        match first_operation(alloc, work.node(), &job.command, job.object(&self.bound))? {
-            Some(op) => Ok(Some(Want::Do(op))),
-            None => Ok(None),
-        }
-    }
-
-    /// What the process wants. Commands that lack their object are answered on the way.
+    /// What the process wants that is in no command. Commands of its phase that ask for no operation are ended on the way.
     fn want(&mut self, alloc: Global, work: &Work) -> Result<Want, NoMemory>
-        requires between { self.old.first ≡ None }
+        requires between { self.old.stage ≡ Between }
         requires within { length self.old.answers ≤ length work.now.jobs }
         ensures state { OnOk result (self.new ≡ settled work.now self.old) }
         ensures want { IfOk result (λ want. want ≡ want_of work.now self.new) }
         ensures range { IfOk result IsWant }
     {
         for job in &work.jobs()[self.answers.len()..] {
-            match self.want_before(alloc, work, job)? {
-                Some(want) => return Ok(want),
-                None => self.answers.push(not_bound(alloc)?)?,
+            if self.phase < job.phase {
+                return Ok(Want::Phase);
+            }
+            let object = job.object(&self.bound);
+            match begin(alloc, work, job, object, &self.working)? {
+                Turn::Goes(stage, op) => {
+                    self.stage = stage;
+                    return Ok(Want::Do(op));
+                }
+                Turn::Comes(outcome) => self.finish(alloc, work, &job.command, &outcome)?,
             }
         }
         Ok(Want::Done)

@@ -36,10 +36,11 @@ impl Shell {
         ensures { IfOk result (λ shell. shell ≡ shell_of script.now proc) }
     {
         let work = Work::new(alloc, script, proc)?;
+        let progress = Progress::new(alloc, &work)?;
         Ok(Shell {
             work,
             begun: false,
-            progress: Progress::new(alloc),
+            progress,
             spent: false,
         })
     }

@@ -5,7 +5,7 @@ ghost use Rattle.dom_history.specs.Programs.{FitsWant};
 ghost use Rattle.dom_history.specs.Ranges.{IsWant};
 
 use crate::Shell;
-use crate::answer::answer;
+use crate::answer::answer_text;
 use crate::work::Work;
 use dom_history::{PlainStore, Program, Reply, Want};
 use script_reader::{Script, read_script};
@@ -162,12 +162,18 @@ fn variables_stand_for_objects(rt: HostRuntime) -> Result<(), Fail> {
 
 #[test]
 fn objects_are_made(rt: HostRuntime) -> Result<(), Fail> {
-    let rows: [(&[u8], u8, &[u8]); 2] = [
+    let rows: [(&[u8], u8, &[u8]); 3] = [
         // A variable stands for the last one.
         (
             b"node a\na.1 new q 1\na.1 lock q w\na.1 new q 1\na.1 unlock q\n",
             1,
             b"ok 0000000000200001\nok\nok 0000000000300001\nnot held\n",
+        ),
+        // Names lead to other nodes, and a link to its path.
+        (
+            b"node a\nnode b\na.1 crd //b/d\na.1 crf //b/d/f.txt 4\na.1 crl l //b/d\na.1 wd l\na.1 ld /l\na.1 bind v f.txt\na.1 lock v w\na.1 llkob b\na.1 dlf //b/d\na.1 ld //\n",
+            1,
+            b"ok\nok\nok\nok //a/l\nok f.txt:file\nok 0000000000300002\nok\nok 0000000000300002/a.1/w\nis a directory\nok a:node b:node\n",
         ),
         // One is made at the named node.
         (
@@ -195,11 +201,55 @@ fn a_process_takes_a_phase_for_each_line_before_its_commands(rt: HostRuntime) ->
     Ok(())
 }
 
+#[test]
+fn names_are_answered(rt: HostRuntime) -> Result<(), Fail> {
+    let rows: [(&[u8], &[u8]); 8] = [
+        (
+            b"a.1 crd d\na.1 crf d/f 1\na.1 ld d\na.1 crl l d\na.1 ld l\na.1 wd l\na.1 dlf f\na.1 ld /d\n",
+            b"ok\nok\nok f:file\nok\nok f:file\nok //a/l\nok\nok\n",
+        ),
+        (
+            b"a.1 bind d /\na.1 lock d w\na.1 store d 0 \"x\"\na.1 llkob a\na.1 unlock d\na.1 ld /\n",
+            b"ok 0000000000100001\nok\nok\nok 0000000000100001/a.1/w\nok\nbad directory\n",
+        ),
+        (
+            b"a.1 crl l l\na.1 ld l\na.1 ld /\na.1 dlf l\na.1 ld /\n",
+            b"ok\nlink loop\nok l:link\nok\nok\n",
+        ),
+        (
+            b"a.1 crf f 1\na.1 crf f/g 1\na.1 crd d\na.1 dlf d\na.1 wd f\na.1 crf //zz 1\na.1 dlf //zz\na.1 bind v //\na.1 lock v r\n",
+            b"ok\nnot a directory\nok\nis a directory\nnot a directory\nnot a directory\nno name\nis a directory\nnot bound\n",
+        ),
+        (
+            b"a.1 ld //\na.1 wd\na.1 crf f\na.1 crf f\na.1 bind v f\na.1 lock v w\na.1 dlf f\na.1 bind w f\n",
+            b"ok a:node\nok //a\nok\nname exists\nok 0000000000400001\nok\nalready held\nok 0000000000400001\n",
+        ),
+        // A working directory is written as its path was.
+        (
+            b"a.1 crd d\na.1 wd d\na.1 crd e\na.1 wd e\na.1 wd\na.1 wd /d\na.1 wd //a/d/e\na.1 wd /\na.1 wd //\na.1 wd\n",
+            b"ok\nok //a/d\nok\nok //a/d/e\nok //a/d/e\nok //a/d\nok //a/d/e\nok //a\nnot a directory\nok //a\n",
+        ),
+        (
+            b"a.1 lock y r\na.1 lock x w\na.1 llkob a\na.1 unlock y\na.1 llkob a\na.1 unlock x\na.1 llkob a\n",
+            b"ok\nok\nok 0000000000200001/a.1/w 0000000000300001/a.1/r\nok\nok 0000000000200001/a.1/w\nok\nok\n",
+        ),
+        (
+            b"a.1 crl l //zz/d\na.1 ld l\na.1 bind v l\na.1 crl l x\na.1 crl m /\na.1 ld m\na.1 dlf n\n",
+            b"ok\nno name\nno name\nname exists\nok\nok l:link m:link\nno name\n",
+        ),
+    ];
+    for (commands, expected) in rows {
+        let got = answers_at_a(rt.alloc(), commands)?;
+        assert_eq!(rt; got.bytes(), expected, "{commands:?}");
+    }
+    Ok(())
+}
+
 /// How a reply is written, with two nodes `a` and `bee`.
 fn text_of(alloc: Global, reply: &Reply) -> Result<ByteList, Fail> {
     let script = read_script(alloc, b"node a\nnode bee\n")?;
     let work = Work::new(alloc, &script, process(1)?)?;
-    Ok(answer(alloc, work.names(), &None, reply)?)
+    Ok(answer_text(alloc, work.names(), reply)?)
 }
 
 #[test]

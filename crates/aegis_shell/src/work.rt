@@ -1,11 +1,11 @@
 //! What a script gives a process to do.
-ghost use Rattle.std.specs.Prelude.{◌≡◌, ◌^◌, ◌<◌, length, map, IfOk};
+ghost use Rattle.std.specs.Prelude.{◌≡◌, ◌^◌, ◌<◌, length, map, true, IfOk};
 ghost use Rattle.std.specs.Option.{option_copied};
 ghost use Rattle.dom_history.specs.NodeTexts.{AreNodeNames};
 ghost use Rattle.script_reader.specs.Variables.{declared_object};
-ghost use Rattle.script_reader.specs.declared.command.Command.TheVariants.{New, Load, Store};
+ghost use Rattle.script_reader.specs.declared.command.Command.TheVariants.{New, Load, Store, Bind, Crl};
 ghost use Rattle.aegis_shell.specs.Bindings.{object_at};
-ghost use Rattle.aegis_shell.specs.Work.{variable as variable_of, object_in, object_of as object_of_job, job_of, jobs_of, part_of};
+ghost use Rattle.aegis_shell.specs.Work.{variable as variable_of, object_in, object_of as object_of_job, job_of, jobs_of, part_of, is_of_names};
 ghost use Rattle.aegis_shell.specs.Ranges.{AreJobs};
 
 use crate::bindings::Bindings;
@@ -44,19 +44,7 @@ fn variable(command: &Command) -> Option<&[u8]>
         Command::Length { var } => Some(var.bytes()),
         Command::Map { var } => Some(var.bytes()),
         Command::Unmap { var } => Some(var.bytes()),
-        Command::New {
-            var: _,
-            room: _,
-            home: _,
-        }
-        | Command::Loadat {
-            address: _,
-            count: _,
-        }
-        | Command::Storeat {
-            address: _,
-            text: _,
-        } => None,
+        _ => None,
     }
 }
 
@@ -114,6 +102,60 @@ fn copy_of_store(
     Ok(Command::Store { var, offset, text })
 }
 
+fn copy_of_bind(alloc: Global, var: &ByteList, path: &ByteList) -> Result<Command, NoMemory>
+    ensures { IfOk result (λ copy. copy ≡ Bind var.now path.now) }
+{
+    let var = var.copy(alloc)?;
+    let path = path.copy(alloc)?;
+    Ok(Command::Bind { var, path })
+}
+
+fn copy_of_link(alloc: Global, path: &ByteList, target: &ByteList) -> Result<Command, NoMemory>
+    ensures { IfOk result (λ copy. copy ≡ Crl path.now target.now) }
+{
+    let path = path.copy(alloc)?;
+    let target = target.copy(alloc)?;
+    Ok(Command::Crl { path, target })
+}
+
+fn copy_of_path(alloc: Global, path: &Option<ByteList>) -> Result<Option<ByteList>, NoMemory>
+    ensures { IfOk result (λ copy. copy ≡ path.now) }
+{
+    match path {
+        Some(path) => Ok(Some(path.copy(alloc)?)),
+        None => Ok(None),
+    }
+}
+
+/// A copy of a command on names or on locks of a home.
+fn copy_of_naming(alloc: Global, command: &Command) -> Result<Command, NoMemory>
+    requires { is_of_names command.now ≡ true }
+    ensures { IfOk result (λ copy. copy ≡ command.now) }
+{
+    Ok(match command {
+        Command::Bind { var, path } => copy_of_bind(alloc, var, path)?,
+        Command::Crf { path, room } => Command::Crf {
+            path: path.copy(alloc)?,
+            room: *room,
+        },
+        Command::Crd { path } => Command::Crd {
+            path: path.copy(alloc)?,
+        },
+        Command::Crl { path, target } => copy_of_link(alloc, path, target)?,
+        Command::Dlf { path } => Command::Dlf {
+            path: path.copy(alloc)?,
+        },
+        Command::Ld { path } => Command::Ld {
+            path: path.copy(alloc)?,
+        },
+        Command::Wd { path } => Command::Wd {
+            path: copy_of_path(alloc, path)?,
+        },
+        Command::Llkob { node } => Command::Llkob { node: *node },
+        _ => unreachable!(),
+    })
+}
+
 /// A copy of a command.
 fn copy_of(alloc: Global, command: &Command) -> Result<Command, NoMemory>
     ensures { IfOk result (λ copy. copy ≡ command.now) }
@@ -149,6 +191,7 @@ fn copy_of(alloc: Global, command: &Command) -> Result<Command, NoMemory>
             address: *address,
             text: text.copy(alloc)?,
         },
+        _ => copy_of_naming(alloc, command)?,
     })
 }
 

@@ -140,7 +140,7 @@ fn is_sent(body: &Body) -> bool
     ensures { OnTrue result ((node : ℕ) → IsBody node body.now) }
 {
     match body {
-        Body::Page { stamp, bytes } => is_sent_page(*stamp, bytes),
+        Body::Page { stamp, bytes } => is_sent_page(*stamp, bytes.bytes()),
         Body::Stored { stamp } | Body::Stale { stamp } => *stamp >= 1,
         Body::Granted {
             grant,

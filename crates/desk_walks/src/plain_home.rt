@@ -1,7 +1,8 @@
 //! A plain home of objects: what it keeps is what was sent there, and it decides each request at once.
-use ring_messages::Body;
+use ring_messages::{Body, PageBytes};
+use std::alloc::Global;
 use std::cmp::max;
-use uid_names::{Mode, ObjKind, PAGE_BYTES, ProcId, Uid};
+use uid_names::{Mode, NoMemory, ObjKind, PAGE_BYTES, ProcId, Uid};
 
 /// How many pages an object has room for.
 pub(crate) const PAGES: usize = 4;
@@ -50,13 +51,19 @@ impl Object {
     }
 
     /// What the home decides on a request; a lock that it grants has this number.
-    pub fn decide(&mut self, proc: ProcId, body: &Body, number: u64) -> Body {
+    pub fn decide(
+        &mut self,
+        alloc: Global,
+        proc: ProcId,
+        body: &Body,
+        number: u64,
+    ) -> Result<Body, NoMemory> {
         if let Some(refusal) = self.refused(body) {
-            return refusal;
+            return Ok(refusal);
         }
-        match body {
-            Body::PageIn { page, .. } => self.page(*page),
-            Body::PageOut { page, bytes, .. } => self.take_page(*page, bytes),
+        Ok(match body {
+            Body::PageIn { page, .. } => self.page(alloc, *page)?,
+            Body::PageOut { page, bytes, .. } => self.take_page(*page, bytes.bytes()),
             Body::AttrOut { length, .. } => {
                 self.length = *length;
                 self.raised()
@@ -67,14 +74,17 @@ impl Object {
                 Body::Done
             }
             _ => Body::NoObject,
-        }
+        })
     }
 
-    fn page(&self, page: u32) -> Body {
+    fn page(&self, alloc: Global, page: u32) -> Result<Body, NoMemory> {
         let stamp = self.stamp;
         match self.pages.get(page as usize) {
-            Some(&bytes) => Body::Page { stamp, bytes },
-            None => Body::NoObject,
+            Some(bytes) => {
+                let bytes = PageBytes::new(alloc, bytes)?;
+                Ok(Body::Page { stamp, bytes })
+            }
+            None => Ok(Body::NoObject),
         }
     }
 

@@ -6,7 +6,7 @@ use crate::deeds::Deed;
 use crate::driver::{Came, answer, begin, fault, new_desk, proc, unlock_again};
 use dom_history::{EndWord, LockState, Reply};
 use fault_handler::Desk;
-use ring_messages::Body;
+use ring_messages::{Body, PageBytes};
 use std::alloc::Global;
 use std::process::Abort;
 use std::test::Fail;
@@ -99,7 +99,7 @@ fn told_request(home: NodeId, body: &Body) -> Told {
             grant,
             base,
             bytes,
-        } if home == uid.home() => Told::PageOut(*uid, *page, *grant, *base, bytes[0]),
+        } if home == uid.home() => Told::PageOut(*uid, *page, *grant, *base, bytes.bytes()[0]),
         Body::AttrOut {
             uid,
             length,
@@ -138,10 +138,10 @@ fn object(number: u8) -> Result<Uid, Fail> {
 }
 
 /// The process to which a home answers, and what.
-fn answer_of(call: Call) -> Result<Option<(u8, Body)>, Fail> {
+fn answer_of(alloc: Global, call: Call) -> Result<Option<(u8, Body)>, Fail> {
     Ok(Some(match call {
         Call::Page(number, stamp, byte) => {
-            let bytes = [byte; PAGE_BYTES];
+            let bytes = PageBytes::new(alloc, &[byte; PAGE_BYTES])?;
             (number, Body::Page { stamp, bytes })
         }
         Call::Granted(number, grant, stamp, length) => {
@@ -185,7 +185,7 @@ fn take(alloc: Global, desk: &mut Desk, call: Call) -> Result<Told, Fail>
     requires { AllReady desk.old }
     ensures { OnOk result (AllReady desk.new) }
 {
-    if let Some((number, body)) = answer_of(call)? {
+    if let Some((number, body)) = answer_of(alloc, call)? {
         return Ok(told_came(&answer(alloc, desk, number, &body)?));
     }
     match call {

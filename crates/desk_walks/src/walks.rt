@@ -136,7 +136,7 @@ impl Table {
         };
         let object = self.objects.get_mut(at).ok_or("no object")?;
         self.grants = self.grants.saturating_add(1);
-        let way = Way::Answered(object.decide(proc(1, number)?, body, self.grants));
+        let way = Way::Answered(object.decide(self.alloc, proc(1, number)?, body, self.grants)?);
         self.seat(number, Some(plan), way)
     }
 

@@ -32,12 +32,12 @@ MayWant (DeskOp.Measures u) = ⊥
 MayWant (DeskOp.Maps u) = ⊥
 MayWant (DeskOp.Unmaps u) = ⊥
 
--- an answer to a load or store at which it may want memory: a page comes that is not an old one, or a home took the page
+-- an answer to a load or store at which it may want memory: a page comes that is not an old one, or it answers the page
 -- that makes room
 abbrev pub MayWantAt : DeskState → PageAnswer → Type 0
 MayWantAt d (PageAnswer.Came task stamp bytes) = nat_lt stamp (base_of d.seen task.uid) ≡ false
 MayWantAt d (PageAnswer.Taken task r stamp) = Unit {0}
-MayWantAt d (PageAnswer.NotTaken task r stamp) = ⊥
+MayWantAt d (PageAnswer.NotTaken task r stamp) = Unit {0}
 
 -- the open call of the process is that of a load or store
 abbrev pub IsAccessing : DeskState → ℕ → Type 0

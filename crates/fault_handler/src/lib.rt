@@ -8,6 +8,7 @@ mod four;
 pub mod lengths;
 pub mod open_call;
 mod pages;
+mod spare;
 pub mod tasks;
 pub mod transits;
 

@@ -113,11 +113,11 @@ impl ResidentPages {
     }
 
     /// The bytes of a resident page.
-    pub(crate) fn bytes(&self, uid: Uid, page: u32) -> [u8; PAGE_BYTES]
+    pub(crate) fn bytes(&self, uid: Uid, page: u32) -> &[u8; PAGE_BYTES]
         requires { IsResident self.now.pages uid page }
-        ensures { option_map (λ r. r.bytes) (page_at self.now.pages uid page) ≡ Some result }
+        ensures { option_map (λ r. r.bytes) (page_at self.now.pages uid page) ≡ Some result.now }
     {
-        *self.cache.bytes(frame_of(&self.cache, uid, page))
+        self.cache.bytes(frame_of(&self.cache, uid, page))
     }
 
     /// Stores bytes in a page, which becomes the last used one, if it is resident: tells whether it is.

@@ -19,6 +19,7 @@ use Rattle.fault_handler.specs.Ready.{LockStands}
 use Rattle.lock_validate.specs.Releases.{length_first, page_first, transit_first, release_of}
 use Rattle.lock_validate.specs.Answers.{dropped_of, is_seen, answered}
 use Rattle.lock_validate.specs.GrantDrops.{MayDropAt}
+use Rattle.lock_validate.specs.Wants.{MayWantAt}
 use Rattle.fault_handler.proofs.Fours.{at-put_other, any-at, any-of, apart-of}
 use Rattle.fault_handler.proofs.Replying.{not-true}
 use Rattle.lock_validate.proofs.States.{free-unheld, unheld-unkept, released-unkept}
@@ -115,12 +116,12 @@ answered-drops d p op (LockAnswer.Removed u) proc stands =
     drops-if e u (MayDropAt d (LockAnswer.Removed u)) (not (any_keeps e.entries u))
     (λ h. unkept-before d p u (released-unkept (entry_at d.entries p u) stands.0.noted) proc (not-true (any_keeps e.entries u) h))
 
--- what may be dropped on the desk on which the call is open no more may be on that on which it is open
-pub may-open : (d : DeskState) (p : ℕ) (a : LockAnswer) → MayDropAt (with_call d p None) a → MayDropAt d a
-may-open d p (LockAnswer.Granted u m grant stamp room n) may = may
-may-open d p (LockAnswer.Refused q held) may = may
-may-open d p (LockAnswer.Gone u) may = may
-may-open d p (LockAnswer.PageSettled u delete taken stamp) may = may
-may-open d p (LockAnswer.LengthSettled u n delete taken stamp) may = may
-may-open d p (LockAnswer.Released u) may = may
-may-open d p (LockAnswer.Removed u) may = may
+-- what may be wanted on the desk on which the call is open no more may be on that on which it is open
+pub want-open : (d : DeskState) (p : ℕ) (a : LockAnswer) → MayWantAt (with_call d p None) p a → MayWantAt d p a
+want-open d p (LockAnswer.Granted u m grant stamp room n) may = may
+want-open d p (LockAnswer.Refused q held) may = may
+want-open d p (LockAnswer.Gone u) may = may
+want-open d p (LockAnswer.PageSettled u delete taken stamp) may = may
+want-open d p (LockAnswer.LengthSettled u n delete taken stamp) may = may
+want-open d p (LockAnswer.Released u) may = may
+want-open d p (LockAnswer.Removed u) may = may

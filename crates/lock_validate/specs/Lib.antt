@@ -4,3 +4,4 @@ pub mod Releases
 pub mod Answers
 pub mod Faults
 pub mod GrantDrops
+pub mod Wants

@@ -18,7 +18,7 @@ ghost use Rattle.fault_handler.specs.Next.{FitsTurn, IsAsked, IsOpen, IsNext};
 ghost use Rattle.lock_validate.specs.Steps.{as_step, Tells};
 ghost use Rattle.lock_validate.specs.Releases.{release_of};
 ghost use Rattle.lock_validate.specs.Answers.{is_seen, is_fresh, after_drop, dropped_of, learned, granted, gone, removed, answered, answer_came_of, answer_at, lock_answer_of};
-ghost use Rattle.lock_validate.specs.GrantDrops.{MayDropAt};
+ghost use Rattle.lock_validate.specs.Wants.{SendsPage, MayWantAt};
 
 use crate::releases::release;
 use crate::sends::end;
@@ -30,7 +30,7 @@ use std::alloc::Global;
 use uid_names::{Mode, NoMemory, ProcId, Uid};
 
 /// Goes on with the reply to the process's open call, which is open no more. Wants memory only at an answer
-/// at which pages may be dropped; where there is none, of the desk only what each desk keeps is known.
+/// at which pages may be dropped or the next page is sent home; where there is none, of the desk only what each desk keeps is known.
 pub fn answer_came(
     alloc: Global,
     desk: &mut Desk,
@@ -43,7 +43,7 @@ pub fn answer_came(
     requires fits { answers desk.old proc.number body.now ≡ true }
     requires range { IsBody proc.node body.now }
     ensures outcome { IfOk result (λ step. ForSome (lock_answer_of desk.old proc.number body.now) (λ answer. Gives as_step desk.new (answer_came_of desk.old proc.number answer) step)) }
-    ensures memory { OnErr result (ForSome (lock_answer_of desk.old proc.number body.now) (MayDropAt desk.old)) }
+    ensures memory { OnErr result (ForSome (lock_answer_of desk.old proc.number body.now) (MayWantAt desk.old proc.number)) }
     ensures fits { (op : Op) → IsOpen desk.old proc.number op → IfOk result (Tells (FitsTurn op)) }
     ensures asks { IfOk result (Tells (IsAsked desk.new.nodes)) }
     ensures next { (op : Op) → IsOpen desk.old proc.number op → IfOk result (Tells (IsNext desk.new proc.number op)) }
@@ -74,7 +74,7 @@ fn answered(
     requires fits { IsSome (answer_at call body.now) }
     requires range { IsBody proc.node body.now }
     ensures outcome { IfOk result (λ step. IfSome (answer_at call body.now) (λ answer. Gives as_step desk.new (answered desk.old proc.number answer) step)) }
-    ensures memory { OnErr result (IfSome (answer_at call body.now) (MayDropAt desk.old)) }
+    ensures memory { OnErr result (IfSome (answer_at call body.now) (MayWantAt desk.old proc.number)) }
 {
     match call {
         OpenCall::Lock(uid, mode) => lock_answered(alloc, desk, proc, uid, mode, body),
@@ -105,7 +105,7 @@ fn lock_answered(
     requires fits { IsSome (answer_at (OpenCall.Lock uid mode) body.now) }
     requires range { IsBody proc.node body.now }
     ensures outcome { IfOk result (λ step. IfSome (answer_at (OpenCall.Lock uid mode) body.now) (λ answer. Gives as_step desk.new (answered desk.old proc.number answer) step)) }
-    ensures memory { OnErr result (IfSome (answer_at (OpenCall.Lock uid mode) body.now) (MayDropAt desk.old)) }
+    ensures memory { OnErr result (IfSome (answer_at (OpenCall.Lock uid mode) body.now) (MayWantAt desk.old proc.number)) }
 {
     match body {
         Body::Granted {
@@ -155,7 +155,7 @@ fn granted(
     requires room { IsRoom given.room }
     requires length { IsLength given.length }
     ensures outcome { IfOk result (Gives as_step desk.new (granted desk.old proc.number uid mode given.grant given.stamp given.room given.length (not (others_keep desk.old.entries proc.number uid)) (stamp_of uid desk.old.seen))) }
-    ensures memory { OnErr result (MayDropAt desk.old (LockAnswer.Granted uid mode given.grant given.stamp given.room given.length)) }
+    ensures memory { OnErr result (MayWantAt desk.old proc.number (LockAnswer.Granted uid mode given.grant given.stamp given.room given.length)) }
 {
     let outdated = are_outdated(desk, proc, uid, given.stamp);
     let fresh = is_length_fresh(desk, proc, uid, given.stamp);
@@ -276,7 +276,7 @@ fn page_answered(
     requires writer { WriterStands desk.old proc.number uid delete }
     requires fits { IsSome (answer_at (OpenCall.PageOut uid page delete) body.now) }
     requires range { IsBody proc.node body.now }
-    ensures done { IsOk result }
+    ensures memory { OnErr result (IfSome (answer_at (OpenCall.PageOut uid page delete) body.now) (MayWantAt desk.old proc.number)) }
     ensures outcome { IfOk result (λ step. IfSome (answer_at (OpenCall.PageOut uid page delete) body.now) (λ answer. Gives as_step desk.new (answered desk.old proc.number answer) step)) }
 {
     match body {
@@ -301,7 +301,7 @@ fn page_settled(
     requires closed { open_call_of desk.old proc.number ≡ None }
     requires writer { WriterStands desk.old proc.number uid delete }
     requires stamp { 1 ≤ stamp }
-    ensures done { IsOk result }
+    ensures memory { OnErr result (MayWantAt desk.old proc.number (LockAnswer.PageSettled uid delete taken stamp)) }
     ensures outcome { IfOk result (Gives as_step desk.new (answered desk.old proc.number (LockAnswer.PageSettled uid delete taken stamp))) }
 {
     desk.page_done(proc, taken);
@@ -325,7 +325,7 @@ fn length_answered(
     requires writer { WriterStands desk.old proc.number uid delete }
     requires fits { IsSome (answer_at (OpenCall.AttrOut uid length delete) body.now) }
     requires range { IsBody proc.node body.now }
-    ensures done { IsOk result }
+    ensures memory { OnErr result (IfSome (answer_at (OpenCall.AttrOut uid length delete) body.now) (MayWantAt desk.old proc.number)) }
     ensures outcome { IfOk result (λ step. IfSome (answer_at (OpenCall.AttrOut uid length delete) body.now) (λ answer. Gives as_step desk.new (answered desk.old proc.number answer) step)) }
 {
     match body {
@@ -356,7 +356,7 @@ fn length_settled(
     requires still { moving_of desk.old proc.number ≡ None }
     requires writer { WriterStands desk.old proc.number uid delete }
     requires stamp { 1 ≤ stamp }
-    ensures done { IsOk result }
+    ensures memory { OnErr result (MayWantAt desk.old proc.number (LockAnswer.LengthSettled uid length delete taken stamp)) }
     ensures outcome { IfOk result (Gives as_step desk.new (answered desk.old proc.number (LockAnswer.LengthSettled uid length delete taken stamp))) }
 {
     desk.length_done(uid, length, taken);
@@ -377,7 +377,7 @@ fn settled(
     requires stamp { 1 ≤ stamp }
     requires idle { IsIdle desk.old proc.number }
     requires writes { keeps_writing (entry_at desk.old.entries proc.number uid) ≡ true }
-    ensures done { IsOk result }
+    ensures memory { OnErr result (SendsPage desk.old uid) }
     ensures outcome { IfOk result (Gives as_step desk.new (release_of (with_raised desk.old uid stamp) proc.number uid delete)) }
 {
     desk.raise_seen(uid, stamp);
@@ -420,7 +420,7 @@ fn removal_answered(
     requires stands { ReleaseStands desk.old proc.number uid }
     requires fits { IsSome (answer_at (OpenCall.Remove uid) body.now) }
     ensures outcome { IfOk result (λ step. IfSome (answer_at (OpenCall.Remove uid) body.now) (λ answer. Gives as_step desk.new (answered desk.old proc.number answer) step)) }
-    ensures memory { OnErr result (IfSome (answer_at (OpenCall.Remove uid) body.now) (MayDropAt desk.old)) }
+    ensures memory { OnErr result (IfSome (answer_at (OpenCall.Remove uid) body.now) (MayWantAt desk.old proc.number)) }
 {
     match body {
         Body::Done => {

@@ -1,6 +1,6 @@
 //! Unlocks and removals: what is sent home before them, in this order: the lowest dirty page, and so on
 //! until none is dirty; then a changed length; then the release or the removal.
-ghost use Rattle.std.specs.Prelude.{◌≡◌, true, IsOk, IsSome, IfOk, OnOk, Some, None};
+ghost use Rattle.std.specs.Prelude.{◌≡◌, true, IsSome, IfOk, OnOk, OnErr, Some, None};
 ghost use Rattle.std.specs.Option.{ForSome};
 ghost use Rattle.dom_history.specs.declared.op.Op.{Op};
 ghost use Rattle.dom_history.specs.Locks.{is_free, is_held};
@@ -17,6 +17,7 @@ ghost use Rattle.fault_handler.specs.Ready.{IsReady};
 ghost use Rattle.fault_handler.specs.Next.{FitsTurn, IsAsked, MayGoOn, IsNext};
 ghost use Rattle.lock_validate.specs.Steps.{sent, as_step, Tells};
 ghost use Rattle.lock_validate.specs.Releases.{release_call, release_ask, length_first, page_first, release_of, unlock_by, begin_unlock_of, delete_by, begin_delete_of, begin_release_of, release_in};
+ghost use Rattle.lock_validate.specs.Wants.{SendsPage};
 
 use crate::sends::{end, send};
 use crate::step::Step;
@@ -26,7 +27,7 @@ use ring_messages::Body;
 use std::alloc::Global;
 use uid_names::{NoMemory, ProcId, Uid};
 
-/// Begins an unlock. Takes no memory.
+/// Begins an unlock. Wants memory only where a page is sent home, and without it nothing changes.
 pub fn begin_unlock(
     alloc: Global,
     desk: &mut Desk,
@@ -35,7 +36,8 @@ pub fn begin_unlock(
 ) -> Result<Step, NoMemory>
     requires own { IsOf desk.old proc }
     requires idle { IsIdle desk.old proc.number }
-    ensures done { IsOk result }
+    ensures unchanged { OnErr result (desk.new ≡ desk.old) }
+    ensures memory { OnErr result (SendsPage desk.old uid) }
     ensures outcome { IfOk result (Gives as_step desk.new (begin_unlock_of desk.old proc.number uid)) }
     ensures fits { IfOk result (Tells (FitsTurn (Op.Unlock uid))) }
     ensures asks { IfOk result (Tells (IsAsked desk.new.nodes)) }
@@ -60,7 +62,8 @@ fn unlock_by(
     requires idle { IsIdle desk.old proc.number }
     requires kept { IsDesk desk.old }
     requires state { state ≡ state_of desk.old proc.number uid }
-    ensures done { IsOk result }
+    ensures unchanged { OnErr result (desk.new ≡ desk.old) }
+    ensures memory { OnErr result (SendsPage desk.old uid) }
     ensures outcome { IfOk result (Gives as_step desk.new (unlock_by desk.old proc.number uid (is_free state) (is_held state) (may_write state))) }
 {
     match state {
@@ -76,7 +79,7 @@ fn unlock_by(
     }
 }
 
-/// Begins a removal. Takes no memory.
+/// Begins a removal. Wants memory only where a page is sent home, and without it nothing changes.
 pub fn begin_delete(
     alloc: Global,
     desk: &mut Desk,
@@ -85,7 +88,8 @@ pub fn begin_delete(
 ) -> Result<Step, NoMemory>
     requires own { IsOf desk.old proc }
     requires idle { IsIdle desk.old proc.number }
-    ensures done { IsOk result }
+    ensures unchanged { OnErr result (desk.new ≡ desk.old) }
+    ensures memory { OnErr result (SendsPage desk.old uid) }
     ensures outcome { IfOk result (Gives as_step desk.new (begin_delete_of desk.old proc.number uid)) }
     ensures fits { IfOk result (Tells (FitsTurn (Op.Delete uid))) }
     ensures asks { IfOk result (Tells (IsAsked desk.new.nodes)) }
@@ -110,7 +114,8 @@ fn delete_by(
     requires idle { IsIdle desk.old proc.number }
     requires kept { IsDesk desk.old }
     requires state { state ≡ state_of desk.old proc.number uid }
-    ensures done { IsOk result }
+    ensures unchanged { OnErr result (desk.new ≡ desk.old) }
+    ensures memory { OnErr result (SendsPage desk.old uid) }
     ensures outcome { IfOk result (Gives as_step desk.new (delete_by desk.old proc.number uid (is_held state) (may_delete state))) }
 {
     match state {
@@ -121,13 +126,15 @@ fn delete_by(
     }
 }
 
-/// Goes on with an unlock or a removal that waited: its tests are made anew. Takes no memory.
+/// Goes on with an unlock or a removal that waited: its tests are made anew. Wants memory only where a page is sent
+/// home, and without it nothing changes.
 pub fn go_on(alloc: Global, desk: &mut Desk, proc: ProcId, op: &Op) -> Result<Step, NoMemory>
     requires own { IsOf desk.old proc }
     requires idle { IsIdle desk.old proc.number }
     requires release { IsSome (release_in op.now) }
     requires may { MayGoOn desk.old proc.number op.now }
-    ensures done { IsOk result }
+    ensures unchanged { OnErr result (desk.new ≡ desk.old) }
+    ensures memory { OnErr result (ForSome (release_in op.now) (λ (delete, u). SendsPage desk.old u)) }
     ensures outcome { IfOk result (λ step. ForSome (release_in op.now) (λ (delete, u). Gives as_step desk.new (begin_release_of desk.old proc.number delete u) step)) }
     ensures fits { IfOk result (Tells (FitsTurn op.now)) }
     ensures asks { IfOk result (Tells (IsAsked desk.new.nodes)) }
@@ -162,7 +169,8 @@ pub(crate) fn release(
     requires own { IsOf desk.old proc }
     requires idle { IsIdle desk.old proc.number }
     requires writes { keeps_writing (entry_at desk.old.entries proc.number uid) ≡ true }
-    ensures done { IsOk result }
+    ensures unchanged { OnErr result (desk.new ≡ desk.old) }
+    ensures memory { OnErr result (SendsPage desk.old uid) }
     ensures outcome { IfOk result (Gives as_step desk.new (release_of desk.old proc.number uid delete)) }
 {
     if let Some(page) = desk.other_transit(proc, uid) {
@@ -189,10 +197,10 @@ fn send_page(
     requires writes { keeps_writing (entry_at desk.old.entries proc.number uid) ≡ true }
     requires resident { IsResident desk.old.cache.pages uid page }
     requires alone { other_transit desk.old.moving proc.number uid ≡ None }
-    ensures done { IsOk result }
+    ensures unchanged { OnErr result (desk.new ≡ desk.old) }
     ensures outcome { IfOk result (Gives as_step desk.new (page_first desk.old proc.number uid delete (Some page))) }
 {
-    let body = desk.send_page(proc, uid, page)?;
+    let body = desk.send_page(alloc, proc, uid, page)?;
     let call = OpenCall::PageOut(uid, page, delete);
     Ok(send(alloc, desk, proc, call, uid.home(), body))
 }

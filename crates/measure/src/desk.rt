@@ -8,7 +8,7 @@ use anyhow::Result;
 use dom_history::{LockState, Op, Spot};
 use fault_handler::{Access, Desk, OpenCall};
 use page_cache::Cache;
-use ring_messages::Body;
+use ring_messages::{Body, PageBytes};
 use std::alloc::Global;
 use uid_names::{ByteList, Mode, ProcId, Uid};
 
@@ -111,7 +111,8 @@ impl Side {
 
     /// The page comes that a load asked for: 1 where it is done.
     fn come(&mut self, i: u32) -> Result<u32> {
-        let (stamp, bytes) = (1, [(i % 251) as u8; 1024]);
+        let stamp = 1;
+        let bytes = PageBytes::new(self.alloc, &[(i % 251) as u8; 1024])?;
         let body = Body::Page { stamp, bytes };
         match self.desk.open_call(self.proc) {
             Some(OpenCall::Access) if self.desk.answers(self.proc, &body) => {

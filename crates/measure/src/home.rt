@@ -1,5 +1,5 @@
 //! Requests that a home serves: locks and unlocks in turn, and page-outs of one page.
-ghost use Rattle.std.specs.Prelude.{◌≤◌, IsTrue};
+ghost use Rattle.std.specs.Prelude.{◌≤◌, IsTrue, IfOk};
 ghost use Rattle.ring_messages.specs.Bodies.{is_request};
 ghost use Rattle.ring_messages.specs.Ranges.{IsBody};
 
@@ -8,7 +8,7 @@ use anyhow::Result;
 use object_store::Home;
 use page_server::PageServer;
 use page_store::BlockPages;
-use ring_messages::{Body, Frame};
+use ring_messages::{Body, Frame, PageBytes};
 use std::alloc::Global;
 use uid_names::{Mode, ObjKind, Opening, Uid};
 
@@ -49,16 +49,16 @@ impl Side {
         })
     }
 
-    fn request(&self, asked: Asked) -> Body
-        ensures request { IsTrue (is_request result) }
-        ensures range { IsBody self.now.uid.home result }
+    fn request(&self, alloc: Global, asked: Asked) -> Result<Body>
+        ensures request { IfOk result (λ body. IsTrue (is_request body)) }
+        ensures range { IfOk result (IsBody self.now.uid.home) }
     {
         let (uid, mode, page, grant, base) = (self.uid, Mode::Write, 0, self.grant, self.stamp);
-        match asked {
+        Ok(match asked {
             Asked::Lock => Body::Lock { uid, mode },
             Asked::Unlock => Body::Unlock { uid },
             Asked::PageOut => {
-                let bytes = [(base % 251) as u8; 1024];
+                let bytes = PageBytes::new(alloc, &[(base % 251) as u8; 1024])?;
                 Body::PageOut {
                     uid,
                     page,
@@ -67,7 +67,7 @@ impl Side {
                     bytes,
                 }
             }
-        }
+        })
     }
 
     /// Asks the home; 1 where it does what it is asked for, else 0.
@@ -77,7 +77,7 @@ impl Side {
             return Ok(0);
         }
         self.tick += 1;
-        let (number, tick, body) = (caller.number(), self.tick, self.request(asked));
+        let (number, tick, body) = (caller.number(), self.tick, self.request(alloc, asked)?);
         let frame = Frame::new(caller.node(), to, number, tick, tick, body);
         let Some(reply) = self.server.serve(alloc, &frame, tick)? else {
             return Ok(0);

@@ -1,10 +1,11 @@
 //! What a process asked of a home, in a few words.
-ghost use Rattle.std.specs.Prelude.{◌≡◌, Some, IsSome};
+ghost use Rattle.std.specs.Prelude.{◌≡◌, Some, IsSome, IfOk};
 ghost use Rattle.ring_messages.specs.Bodies.{ask_of, body_of_ask};
 ghost use Rattle.node_core.specs.Asked.{ask_told};
 
-use ring_messages::Body;
-use uid_names::{Mode, ObjKind, PAGE_BYTES, ProcId, Uid};
+use ring_messages::{Body, PageBytes};
+use std::alloc::Global;
+use uid_names::{Mode, NoMemory, ObjKind, PAGE_BYTES, ProcId, Uid};
 
 /// What a call asks of a home. The bytes of a page that is sent home lie apart.
 #[derive(Clone, Copy, Debug, PartialEq, Eq)]
@@ -59,7 +60,7 @@ impl KeptAsk {
                 base,
                 ref bytes,
             } => {
-                *page = *bytes;
+                *page = *bytes.bytes();
                 KeptAsk::PageOut {
                     uid,
                     page: number,
@@ -87,11 +88,11 @@ impl KeptAsk {
         }
     }
 
-    /// The body that asks it, with these bytes of its page. Takes no memory.
-    pub(crate) fn body(&self, page: &[u8; PAGE_BYTES]) -> Body
-        ensures { result ≡ body_of_ask (ask_told self.now page.now) }
+    /// The body that asks it, with these bytes of its page. Only that of a page takes memory.
+    pub(crate) fn body(&self, alloc: Global, page: &[u8; PAGE_BYTES]) -> Result<Body, NoMemory>
+        ensures { IfOk result (λ body. body ≡ body_of_ask (ask_told self.now page.now)) }
     {
-        match *self {
+        Ok(match *self {
             KeptAsk::PageIn { uid, page } => Body::PageIn { uid, page },
             KeptAsk::PageOut {
                 uid,
@@ -103,7 +104,7 @@ impl KeptAsk {
                 page: number,
                 grant,
                 base,
-                bytes: *page,
+                bytes: PageBytes::new(alloc, page)?,
             },
             KeptAsk::AttrOut {
                 uid,
@@ -121,6 +122,6 @@ impl KeptAsk {
             KeptAsk::Remove { uid } => Body::Remove { uid },
             KeptAsk::Make { kind, room } => Body::Make { kind, room },
             KeptAsk::List { after } => Body::List { after },
-        }
+        })
     }
 }

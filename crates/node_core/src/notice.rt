@@ -42,7 +42,7 @@ impl<P: Program, G: Pages> Machine<P, G> {
         ensures { IfOk result (λ done. Does P.spent P.wants P.becomes self.old self.new done
             (notices (given_of self.old) (state_of self.old) proc.number (proc_of (state_of self.old) proc.number).doing)) }
     {
-        let again = self.procs[index_of(proc)].notice();
+        let again = self.procs[index_of(proc)].notice(alloc)?;
         match again {
             Some(again) => Ok(self.resends(alloc, proc, again)),
             None => self.gives_up(alloc, proc),

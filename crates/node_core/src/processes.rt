@@ -120,50 +120,55 @@ impl Proc {
         number
     }
 
-    /// One notice more of its open call: its request, which is to be sent again, or None where it is given up. Takes no
-    /// memory.
-    pub(crate) fn notice(&mut self) -> Option<Again>
+    /// One notice more of its open call: its request, which is to be sent again, or None where it is given up. Wants
+    /// memory only for a page.
+    pub(crate) fn notice(&mut self, alloc: Global) -> Result<Option<Again>, NoMemory>
         requires called { IsCalling (proc_seen self.old).doing }
         requires few { (o : BegunOp) (c : Asked) → (proc_seen self.old).doing ≡ Some (record { began = o; awaits = Awaiting.Answer c }) →
             c.waiting.notices < MOST_NOTICES }
-        ensures again { IfSome result (λ again. (o : BegunOp) (c : Asked) → (proc_seen self.old).doing ≡ Some (record { began = o; awaits = Awaiting.Answer c }) →
+        ensures again { IfOk result (λ sent. IfSome sent (λ again. (o : BegunOp) (c : Asked) → (proc_seen self.old).doing ≡ Some (record { began = o; awaits = Awaiting.Answer c }) →
             IsAgain c again × (noticed (c.waiting.notices + 1) ≡ Noticed.Resend)
-            × (proc_seen self.new ≡ record (proc_seen self.old) { doing = Some (record { began = o; awaits = Awaiting.Answer (noticed_call c) }) })) }
-        ensures none { IfNone result ((o : BegunOp) (c : Asked) → (proc_seen self.old).doing ≡ Some (record { began = o; awaits = Awaiting.Answer c }) →
-            (noticed (c.waiting.notices + 1) ≡ Noticed.GiveUp) × (self.new ≡ self.old)) }
+            × (proc_seen self.new ≡ record (proc_seen self.old) { doing = Some (record { began = o; awaits = Awaiting.Answer (noticed_call c) }) }))) }
+        ensures none { IfOk result (λ sent. IfNone sent ((o : BegunOp) (c : Asked) → (proc_seen self.old).doing ≡ Some (record { began = o; awaits = Awaiting.Answer c }) →
+            (noticed (c.waiting.notices + 1) ≡ Noticed.GiveUp) × (self.new ≡ self.old))) }
         ensures want { self.new.want ≡ self.old.want }
     {
         let Some(Open { begun, awaits }) = self.doing() else {
             unreachable!()
         };
         match awaits {
-            Await::Answer(call) => self.notice_call(begun, call),
+            Await::Answer(call) => self.notice_call(alloc, begun, call),
             Await::Page(_, _) => unreachable!(),
         }
     }
 
     /// The same, with its call.
-    fn notice_call(&mut self, begun: Place, mut call: Call) -> Option<Again>
+    fn notice_call(
+        &mut self,
+        alloc: Global,
+        begun: Place,
+        mut call: Call,
+    ) -> Result<Option<Again>, NoMemory>
         requires { call.asking.notices < MOST_NOTICES }
-        ensures again { IfSome result (λ again. IsAgain (call_seen call self.old.page.value) again × (noticed (call.asking.notices + 1) ≡ Noticed.Resend)) }
-        ensures state { IfSome result (λ again. (op : Op) → self.old.want ≡ Do op → proc_seen self.new ≡ record (proc_seen self.old) {
+        ensures again { IfOk result (λ sent. IfSome sent (λ again. IsAgain (call_seen call self.old.page.value) again × (noticed (call.asking.notices + 1) ≡ Noticed.Resend))) }
+        ensures state { IfOk result (λ sent. IfSome sent (λ again. (op : Op) → self.old.want ≡ Do op → proc_seen self.new ≡ record (proc_seen self.old) {
           doing = Some (record {
             began = record { op = op; begun = begun };
             awaits = Awaiting.Answer (noticed_call (call_seen call self.old.page.value));
           });
-        }) }
-        ensures none { IfNone result ((noticed (call.asking.notices + 1) ≡ Noticed.GiveUp) × (self.new ≡ self.old)) }
+        })) }
+        ensures none { IfOk result (λ sent. IfNone sent ((noticed (call.asking.notices + 1) ≡ Noticed.GiveUp) × (self.new ≡ self.old))) }
         ensures want { self.new.want ≡ self.old.want }
     {
         match call.asking.notice() {
             Noticed::Resend => {
                 let (home, number) = (call.home, call.asking.number());
-                let body = call.ask.body(&*self.page);
+                let body = call.ask.body(alloc, &*self.page)?;
                 let awaits = Await::Answer(call);
                 self.opened = Some(Open { begun, awaits });
-                Some(Again { home, number, body })
+                Ok(Some(Again { home, number, body }))
             }
-            Noticed::GiveUp => None,
+            Noticed::GiveUp => Ok(None),
         }
     }
 

@@ -1,15 +1,15 @@
 -- A number that was decided is not decided again.
 use Rattle.std.proofs.Common.{◌≡◌, ℕ, List, ◌∙◌, ap, refl, arith}
-use Rattle.std.specs.Prelude.{true, Option, Some, None, IsSome, IfSome}
+use Rattle.std.specs.Prelude.{true, Option, Some}
 use Rattle.std.proofs.lemmas.Bool.Decides.{nat_tests}
 use Rattle.uid_names.specs.Names.{ProcName, same_proc}
 use Rattle.call_once.specs.declared.served.Looked.{Looked}
 use Rattle.call_once.specs.declared.served.Looked.TheVariants.{Fresh, Again}
-use Rattle.call_once.specs.Calls.{Call, call_of, body_in, body_of, number_in, last_of, looked, with_call}
+use Rattle.call_once.specs.Calls.{Call, call_of, body_in, number_in, last_of, looked, with_call}
 use Rattle.call_once.proofs.KeptCalls.{call_of-with_call}
 use Rattle.ring_messages.specs.Bodies.{Ask, Answer}
 use Rattle.page_server.specs.Decisions.{Decision, decide}
-use Rattle.page_server.specs.Serving.{HomeSide, kept, serve_as, serve_of, serve_asked}
+use Rattle.page_server.specs.Serving.{HomeSide, kept, serve_as, serve_of}
 
 same-itself : (p : ProcName) → same_proc p p ≡ true
 same-itself p = grind (arith, nat_tests)
@@ -18,7 +18,7 @@ looked-same : (n : ℕ) → looked n n ≡ Again
 looked-same n = grind (arith, nat_tests)
 
 -- the call that was kept last
-pub kept-call : (calls : List (Call Answer)) (call : Call Answer) → call_of call.proc (with_call call calls) ≡ Some call
+kept-call : (calls : List (Call Answer)) (call : Call Answer) → call_of call.proc (with_call call calls) ≡ Some call
 kept-call calls call = call_of-with_call call calls call.proc ∙ rw (same-itself call.proc) refl
 
 -- what was decided is answered again
@@ -39,12 +39,3 @@ decided-once side p number ask again = by (looked number (last_of p side.served)
     by : (l : Looked) → l ≡ Fresh → serve_of (serve_as l side p number ask).side p number again ≡ serve_as l side p number ask
     by Fresh is = kept-again side p number (decide side.home side.locks p ask) again
     by _ is = absurd cc
-
--- what was decided on what was asked is the last answer to its process
-pub asked-kept : (side : HomeSide) (p : ProcName) (number : ℕ) (asked : Option Ask) (served : List (Call Answer)) → IsSome asked → looked number (last_of p side.served) ≡ Fresh
-    → IfSome asked (λ ask. served ≡ with_call (record { proc = p; number = number; body = (decide side.home side.locks p ask).answer }) side.served)
-    → body_of p served ≡ (serve_asked side p number asked).answer
-asked-kept side p number None served asks fresh is = absurd cc
-asked-kept side p number (Some ask) served asks fresh is =
-    let call : Call Answer = record { proc = p; number = number; body = (decide side.home side.locks p ask).answer } in
-    rw (is, fresh) (ap body_in (kept-call side.served call))

@@ -8,5 +8,4 @@ pub mod Given
 pub mod Again
 pub mod Begun
 pub mod Sides
-pub mod KeptAnswers
 pub mod Writes

@@ -1,7 +1,7 @@
 -- Whatever is asked, a home side stays one.
-use Rattle.std.proofs.Common.{◌≡◌, ℕ, ◌+◌, ◌*◌, ◌<◌, ◌≤◌, List, refl, subst, arith}
-use Rattle.std.specs.Prelude.{Bool, true, false, ◌&&◌, if◌then◌else◌, nat_le, All, Option, Some, None, IsSome, IfSome, is_some, is_none}
-use Rattle.std.proofs.lemmas.Bool.{eq-eqb, ltb-true, leb-true}
+use Rattle.std.proofs.Common.{◌≡◌, ℕ, ◌+◌, ◌*◌, ◌<◌, ◌≤◌, ◌==◌, List, ap, sym, ◌∙◌, refl, subst, arith}
+use Rattle.std.specs.Prelude.{Bool, true, false, ◌&&◌, if◌then◌else◌, nat_le, nat_lt, All, Option, Some, None, IsSome, IfSome, is_some, is_none}
+use Rattle.std.proofs.lemmas.Bool.{eqb-true, eq-eqb, ltb-true, leb-true}
 use Rattle.uid_names.specs.Names.{ProcName, ObjectName}
 use Rattle.uid_names.specs.declared.lock_row.LockRow.{LockRow}
 use Rattle.uid_names.specs.declared.mode.Mode.{Mode}
@@ -10,12 +10,12 @@ use Rattle.uid_names.specs.declared.limits.TheConstants.{VOLUME_ROOM, PAGE_BYTES
 use Rattle.page_store.specs.Volumes.{page_of}
 use Rattle.object_store.specs.declared.attributes.Attr.{Attr}
 use Rattle.object_store.specs.Objects.{attr_at, room_of, rooms}
-use Rattle.object_store.specs.HomeStates.{HomeState, attr_of, after_make, after_page, after_length}
+use Rattle.object_store.specs.HomeStates.{HomeState, attr_of, after_make, after_remove, after_page, after_length}
 use Rattle.object_store.specs.Kept.{IsAttr, IsHome}
 use Rattle.object_store.specs.Rules.{has_page, has_length, stamp_of}
 use Rattle.object_store.proofs.HomeLemmas.{IsHome-after_make, IsHome-after_remove, IsHome-after_page, IsHome-after_length, IsAttr-attr_of}
 use Rattle.lock_manager.specs.Grants.{conflict_of, grant_of}
-use Rattle.lock_manager.specs.Tables.{Table, IsTable, with_grant}
+use Rattle.lock_manager.specs.Tables.{Table, IsTable, with_grant, without_grants_on}
 use Rattle.lock_manager.proofs.Keeps.{IsTable-none, IsTable-with_grant, IsTable-without_grant, IsTable-without_grants_on}
 use Rattle.call_once.specs.declared.served.Looked.{Looked}
 use Rattle.call_once.specs.declared.served.Looked.TheVariants.{Fresh, Again, Old}
@@ -27,8 +27,8 @@ use Rattle.ring_messages.specs.Bodies.{Ask, Answer, ask_of, body_of_ask, body_of
 use Rattle.ring_messages.proofs.Asking.{asked-body}
 use Rattle.ring_messages.specs.Ranges.{IsBody}
 use Rattle.page_server.specs.Answers.{IsCarried}
-use Rattle.page_server.specs.Decisions.{Decision, decide, page_answer, write_answer, lock_answer, remove_answer, make_answer, may_remove}
-use Rattle.page_server.specs.Serving.{HomeSide, first_side, serve_as, serve_of, serve_asked}
+use Rattle.page_server.specs.Decisions.{Decision, decide, page_answer, write_answer, lock_answer, remove_answer, make_answer, is_granted, may_remove}
+use Rattle.page_server.specs.Serving.{HomeSide, first_side, serve_as, serve_of}
 use Rattle.page_server.specs.ServerStates.{ServerState, IsSide, IsServer}
 use Rattle.page_server.proofs.Bounds.{either, IsCountedTo-decided}
 use Rattle.page_server.proofs.Listing.{listed}
@@ -195,30 +195,22 @@ told-carried side p number ask answer kept = by (looked number (last_of p side.s
     by Again told = kept-carried side.served p (call_of p side.served) answer kept.kept refl told
     by Old told = absurd cc
 
--- what was asked is answered so that a frame can carry it
-pub asked-carried : (side : HomeSide) (p : ProcName) (number : ℕ) (asked : Option Ask) → IsSide side → IfSome (serve_asked side p number asked).answer IsCarried
-asked-carried side p number None kept = tt
-asked-carried side p number (Some ask) kept = by (serve_of side p number ask).answer refl
-  where
-    by : (answer : Option Answer) → (serve_of side p number ask).answer ≡ answer → IfSome answer IsCarried
-    by None is = tt
-    by (Some answer) is = told-carried side p number ask answer kept is
-
 -- ---- the server
 
 -- what the code has of a decision on what was asked
-pub record IsDecided (side : HomeSide) (p : ProcName) (number : ℕ) (asked : Option Ask) (new : HomeSide) : Type 0 where
+pub record IsDecided (side : HomeSide) (p : ProcName) (number : ℕ) (asked : Option Ask) (new : HomeSide) (told : Answer) : Type 0 where
   pub home : IfSome asked (λ ask. new.home ≡ (decide side.home side.locks p ask).home)
   pub locks : IfSome asked (λ ask. new.locks ≡ (decide side.home side.locks p ask).locks)
-  pub served : IfSome asked (λ ask. new.served ≡ with_call (record { proc = p; number = number; body = (decide side.home side.locks p ask).answer }) side.served)
+  pub answer : IfSome asked (λ ask. told ≡ (decide side.home side.locks p ask).answer)
+  pub served : new.served ≡ with_call (record { proc = p; number = number; body = told }) side.served
 
 -- a server that decided on what was asked is one at each later tick
-pub IsServer-asked : (server : ServerState) (p : ProcName) (number : ℕ) (asked : Option Ask) (new : HomeSide) (tick : ℕ)
+pub IsServer-asked : (server : ServerState) (p : ProcName) (number : ℕ) (asked : Option Ask) (new : HomeSide) (told : Answer) (tick : ℕ)
     → IsServer server → server.tick < tick → IsSome asked → IfSome asked (λ ask. IsBody server.side.home.node (body_of_ask ask))
-    → IsDecided server.side p number asked new → IsServer (record { side = new; tick = tick })
-IsServer-asked server p number None new tick keeps later asks range is = absurd cc
-IsServer-asked server p number (Some ask) new tick keeps later asks range is =
-    rw (is.served, is.home, is.locks) (record {
+    → IsDecided server.side p number asked new told → IsServer (record { side = new; tick = tick })
+IsServer-asked server p number None new told tick keeps later asks range is = absurd cc
+IsServer-asked server p number (Some ask) new told tick keeps later asks range is =
+    rw (is.served, is.home, is.locks, is.answer) (record {
       side = IsSide-decided server.side p number ask keeps.side range;
       counted = IsCountedTo-decided server.side p ask (with_call (record { proc = p; number = number; body = (decide server.side.home server.side.locks p ask).answer }) server.side.served) server.tick tick keeps.counted later;
     })

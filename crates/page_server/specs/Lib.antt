@@ -1,5 +1,4 @@
 pub mod Answers
-pub mod KeptAnswers
 pub mod Decisions
 pub mod Serving
 pub mod ServerStates

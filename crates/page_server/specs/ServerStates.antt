@@ -1,6 +1,8 @@
 -- What contracts see of a page server, and what each keeps.
 use Rattle.std.specs.Prelude.{ℕ, ◌+◌, ◌≤◌, List, [], ◌∷◌, All, refl}
 use Rattle.std.specs.Coded.{Coded, code_by, coded×, coded_list, coded_ℕ}
+use Rattle.uid_names.specs.Names.{ProcName}
+use Rattle.uid_names.specs.contracts.ids.ProcId as proc_id
 use Rattle.object_store.specs.declared.attributes.ObjectRow.{ObjectRow}
 use Rattle.uid_names.specs.declared.limits.TheConstants.{VOLUME_ROOM}
 use Rattle.object_store.specs.HomeStates.{HomeState, home_code}
@@ -10,7 +12,7 @@ use Rattle.lock_manager.specs.contracts.grants.Grant as granted
 use Rattle.lock_manager.specs.Tables.{Table, IsTable}
 use Rattle.call_once.specs.Calls.{Call}
 use Rattle.ring_messages.specs.Bodies.{Answer}
-use Rattle.page_server.specs.Answers.{calls_code, IsCarried}
+use Rattle.page_server.specs.Answers.{answer_code, IsCarried}
 use Rattle.page_server.specs.Serving.{HomeSide, first_side}
 
 -- a page server: the home side of its node, and the tick of the last event at which it served
@@ -22,9 +24,14 @@ pub record ServerState : Type 0 where
 abbrev table_code : Coded Table
 table_code = code_by (List Grant × ℕ) (coded× (coded_list granted.the_row.coded) coded_ℕ) (λ t. (t.grants, t.last)) (λ p. record { grants = p.0; last = p.1 }) (λ _. refl)
 
+abbrev call_code : Coded (Call Answer)
+call_code =
+    code_by (ProcName × (ℕ × Answer)) (coded× proc_id.the_row.coded (coded× coded_ℕ answer_code))
+    (λ call. (call.proc, (call.number, call.body))) (λ p. record { proc = p.0; number = p.1.0; body = p.1.1 }) (λ _. refl)
+
 abbrev pub server_code : Coded ServerState
 server_code =
-    code_by (HomeState × (Table × (List (Call Answer) × ℕ))) (coded× home_code (coded× table_code (coded× calls_code coded_ℕ)))
+    code_by (HomeState × (Table × (List (Call Answer) × ℕ))) (coded× home_code (coded× table_code (coded× (coded_list call_code) coded_ℕ)))
     (λ s. (s.side.home, (s.side.locks, (s.side.served, s.tick))))
     (λ p. record { side = record { home = p.0; locks = p.1.0; served = p.1.1.0 }; tick = p.1.1.1 }) (λ _. refl)
 

@@ -2,7 +2,6 @@
 #![tactic(auto)]
 
 mod answers;
-mod kept;
 pub mod laws;
 mod requests;
 pub mod server;

@@ -1,5 +1,5 @@
 //! What a home decides on each kind of request.
-ghost use Rattle.std.specs.Prelude.{◌≡◌, ◌-◌, ◌^◌, ◌<◌, ◌≤◌, ◌&&◌, nat_le, length, IfSome, IfOk, OnOk, OnErr, IsErr, IsTrue, IsFalse};
+ghost use Rattle.std.specs.Prelude.{◌≡◌, ◌-◌, ◌^◌, ◌<◌, ◌≤◌, ◌&&◌, nat_le, length, IfSome, IfOk, OnOk, OnErr, IsErr, IsTrue};
 ghost use Rattle.std.specs.Option.{ForSome};
 ghost use Rattle.uid_names.specs.Names.{ProcName};
 ghost use Rattle.uid_names.specs.declared.mode.Mode.{Mode};
@@ -11,17 +11,38 @@ ghost use Rattle.lock_manager.specs.Tables.{IsTable};
 ghost use Rattle.ring_messages.specs.Ranges.{IsBody};
 ghost use Rattle.lock_manager.specs.declared.locks.TheConstants.{ROOM};
 ghost use Rattle.page_server.specs.ServerStates.{AreStampedTo};
-ghost use Rattle.page_server.specs.Wants.{is_stored, is_grant, is_made, decision_wants};
-ghost use Rattle.page_server.specs.KeptAnswers.{is_page_in};
-ghost use Rattle.page_server.specs.Decisions.{is_write, decide, is_granted, page_out, attr_out, lock, unlock, may_remove, remove, make, list_rows};
+ghost use Rattle.page_server.specs.Wants.{is_page, is_stored, is_grant, is_made, decision_wants};
+ghost use Rattle.page_server.specs.Decisions.{is_write, decide, page_in, is_granted, page_out, attr_out, lock, unlock, may_remove, remove, make, list_rows};
 
-use crate::answers::{HomeAnswer, PlainAnswer};
+use crate::answers::HomeAnswer;
 use lock_manager::{AskRefusal, Locks};
 use object_store::{Home, MakeFault, NoObject, WriteRefusal};
 use page_store::Pages;
-use ring_messages::Body;
+use ring_messages::{Body, PageBytes};
 use std::alloc::Global;
 use uid_names::{MAX_ROOM, Mode, NoMemory, ObjKind, PAGE_BYTES, ProcId, Uid};
+
+/// A page, where it is there.
+// Not inlined, since `decide` would then blank the room of a page at every request.
+#[inline(never)]
+pub(crate) fn page_in<P: Pages>(
+    alloc: Global,
+    home: &Home<P>,
+    uid: Uid,
+    page: u32,
+) -> Result<HomeAnswer, NoMemory>
+    ensures answer { IfOk result (λ answer. answer ≡ page_in home.now uid page) }
+    ensures memory { OnErr result (IsTrue (is_page (page_in home.now uid page))) }
+{
+    let mut bytes = [0; PAGE_BYTES];
+    match home.read_page(uid, page, &mut bytes) {
+        Ok(stamp) => {
+            let bytes = PageBytes::new(alloc, &bytes)?;
+            Ok(HomeAnswer::new(Body::Page { stamp, bytes }))
+        }
+        Err(NoObject) => Ok(HomeAnswer::new(Body::NoObject)),
+    }
+}
 
 /// Whether the object is there, and the page is below its room.
 fn has_page<P: Pages>(home: &Home<P>, uid: Uid, page: u32) -> bool
@@ -66,14 +87,14 @@ pub(crate) fn page_out<P: Pages>(
     ensures err { OnErr result (home.new ≡ home.old) }
 {
     if !has_page(home, uid, page) {
-        return Ok(HomeAnswer::new(PlainAnswer::NoObject));
+        return Ok(HomeAnswer::new(Body::NoObject));
     }
     if !granted {
-        return Ok(HomeAnswer::new(PlainAnswer::NoGrant));
+        return Ok(HomeAnswer::new(Body::NoGrant));
     }
     match home.write_page(uid, page, base, bytes) {
-        Ok(stamp) => Ok(HomeAnswer::new(PlainAnswer::Stored { stamp })),
-        Err(WriteRefusal::Stale(stamp)) => Ok(HomeAnswer::new(PlainAnswer::Stale { stamp })),
+        Ok(stamp) => Ok(HomeAnswer::new(Body::Stored { stamp })),
+        Err(WriteRefusal::Stale(stamp)) => Ok(HomeAnswer::new(Body::Stale { stamp })),
         Err(WriteRefusal::NoMemory) => Err(NoMemory),
         Err(WriteRefusal::NoObject) => unreachable!(),
     }
@@ -93,14 +114,14 @@ pub(crate) fn attr_out<P: Pages>(
     ensures home { home.new ≡ (attr_out home.old granted uid length base).home }
 {
     if !has_length(home, uid, length) {
-        return HomeAnswer::new(PlainAnswer::NoObject);
+        return HomeAnswer::new(Body::NoObject);
     }
     if !granted {
-        return HomeAnswer::new(PlainAnswer::NoGrant);
+        return HomeAnswer::new(Body::NoGrant);
     }
     match home.write_length(uid, length, base) {
-        Ok(stamp) => HomeAnswer::new(PlainAnswer::Stored { stamp }),
-        Err(WriteRefusal::Stale(stamp)) => HomeAnswer::new(PlainAnswer::Stale { stamp }),
+        Ok(stamp) => HomeAnswer::new(Body::Stored { stamp }),
+        Err(WriteRefusal::Stale(stamp)) => HomeAnswer::new(Body::Stale { stamp }),
         Err(WriteRefusal::NoObject | WriteRefusal::NoMemory) => unreachable!(),
     }
 }
@@ -112,10 +133,7 @@ fn refused(refusal: AskRefusal) -> Result<HomeAnswer, NoMemory>
     ensures memory { refusal ≡ AskRefusal.NoMemory → IsErr result }
 {
     match refusal {
-        AskRefusal::Conflict(proc, mode) => Ok(HomeAnswer::new(PlainAnswer::Conflict {
-            proc,
-            mode,
-        })),
+        AskRefusal::Conflict(proc, mode) => Ok(HomeAnswer::new(Body::Conflict { proc, mode })),
         AskRefusal::NoMemory => Err(NoMemory),
     }
 }
@@ -137,10 +155,10 @@ pub(crate) fn lock<P: Pages>(
 {
     let attr = match home.look(uid) {
         Ok(attr) => attr,
-        Err(NoObject) => return Ok(HomeAnswer::new(PlainAnswer::NoObject)),
+        Err(NoObject) => return Ok(HomeAnswer::new(Body::NoObject)),
     };
     match locks.ask(proc, uid, mode) {
-        Ok(grant) => Ok(HomeAnswer::new(PlainAnswer::Granted {
+        Ok(grant) => Ok(HomeAnswer::new(Body::Granted {
             grant,
             stamp: attr.stamp,
             kind: attr.kind,
@@ -157,7 +175,7 @@ pub(crate) fn unlock(locks: &mut Locks, proc: ProcId, uid: Uid) -> HomeAnswer
     ensures locks { locks.new ≡ (unlock locks.old proc uid).locks }
 {
     let _held = locks.release(proc, uid);
-    HomeAnswer::new(PlainAnswer::Done)
+    HomeAnswer::new(Body::Done)
 }
 
 /// Whether a process holds an object in a mode that lets it remove it.
@@ -183,15 +201,15 @@ pub(crate) fn remove<P: Pages>(
     ensures locks { locks.new ≡ (remove home.old locks.old proc uid).locks }
 {
     if home.look(uid).is_err() {
-        return HomeAnswer::new(PlainAnswer::NoObject);
+        return HomeAnswer::new(Body::NoObject);
     }
     if !may_remove(locks, proc, uid) {
-        return HomeAnswer::new(PlainAnswer::NoGrant);
+        return HomeAnswer::new(Body::NoGrant);
     }
     match home.remove(uid) {
         Ok(()) => {
             locks.drop_object(uid);
-            HomeAnswer::new(PlainAnswer::Done)
+            HomeAnswer::new(Body::Done)
         }
         Err(NoObject) => unreachable!(),
     }
@@ -211,8 +229,8 @@ pub(crate) fn make<P: Pages>(
     ensures err { OnErr result (home.new ≡ home.old) }
 {
     match home.make(kind, room) {
-        Ok(uid) => Ok(HomeAnswer::new(PlainAnswer::Made { uid })),
-        Err(MakeFault::NoSpace) => Ok(HomeAnswer::new(PlainAnswer::NoSpace)),
+        Ok(uid) => Ok(HomeAnswer::new(Body::Made { uid })),
+        Err(MakeFault::NoSpace) => Ok(HomeAnswer::new(Body::NoSpace)),
         Err(MakeFault::NoMemory) => Err(NoMemory),
     }
 }
@@ -227,7 +245,7 @@ pub(crate) fn list(
     ensures { IfOk result (λ answer. answer ≡ list_rows locks.now after) }
 {
     let (rows, more) = locks.list(alloc, after)?;
-    Ok(HomeAnswer::new(PlainAnswer::Listed { rows, more }))
+    Ok(HomeAnswer::new(Body::Listed { rows, more }))
 }
 
 /// Decides on a write of a page or of a length.
@@ -256,7 +274,7 @@ fn write<P: Pages>(
             bytes,
         } => {
             let granted = is_granted(locks, *grant, *uid, proc);
-            page_out(home, granted, *uid, *page, *base, bytes)
+            page_out(home, granted, *uid, *page, *base, bytes.bytes())
         }
         Body::AttrOut {
             uid,
@@ -271,7 +289,7 @@ fn write<P: Pages>(
     }
 }
 
-/// Decides on a request for anything but a page.
+/// Decides on a request.
 pub(crate) fn decide<P: Pages>(
     alloc: Global,
     home: &mut Home<P>,
@@ -280,7 +298,6 @@ pub(crate) fn decide<P: Pages>(
     body: &Body,
 ) -> Result<HomeAnswer, NoMemory>
     requires request { IsTrue (is_request body.now) }
-    requires no_page { IsFalse (is_page_in body.now) }
     requires ranges { IsBody home.old.node body.now }
     requires table { IsTable locks.old }
     requires grants { locks.old.last < 2 ^ 64 - 1 }
@@ -298,6 +315,7 @@ pub(crate) fn decide<P: Pages>(
     ensures err_locks { OnErr result (locks.new ≡ locks.old) }
 {
     match body {
+        Body::PageIn { uid, page } => page_in(alloc, home, *uid, *page),
         Body::PageOut { .. } => write(home, locks, proc, body),
         Body::AttrOut { .. } => write(home, locks, proc, body),
         Body::Lock { uid, mode } => lock(home, locks, proc, *uid, *mode),

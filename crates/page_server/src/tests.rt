@@ -6,7 +6,7 @@ ghost use Rattle.ring_messages.specs.Ranges.{IsBody, IsWhole};
 use super::*;
 use object_store::Home;
 use page_store::ListPages;
-use ring_messages::{Body, Frame};
+use ring_messages::{Body, Frame, PageBytes};
 use samples::{node, object};
 use std::alloc::Global;
 use std::process::Abort;
@@ -45,14 +45,14 @@ enum Asked {
 }
 
 /// A page-out or an attr-out.
-fn write_body(asked: Asked) -> Result<Body, Fail> {
+fn write_body(alloc: Global, asked: Asked) -> Result<Body, Fail> {
     Ok(match asked {
         Asked::PageOut(object, page, grant, base) => Body::PageOut {
             uid: Uid::from_number(object)?,
             page,
             grant,
             base,
-            bytes: [7; PAGE_BYTES],
+            bytes: PageBytes::new(alloc, &[7; PAGE_BYTES])?,
         },
         Asked::AttrOut(object, length, grant, base) => Body::AttrOut {
             uid: Uid::from_number(object)?,
@@ -65,7 +65,7 @@ fn write_body(asked: Asked) -> Result<Body, Fail> {
 }
 
 /// What is asked, as a body.
-fn body_of(asked: Asked) -> Result<Body, Fail> {
+fn body_of(alloc: Global, asked: Asked) -> Result<Body, Fail> {
     Ok(match asked {
         Asked::PageIn(object, page) => {
             let uid = Uid::from_number(object)?;
@@ -92,7 +92,7 @@ fn body_of(asked: Asked) -> Result<Body, Fail> {
             let after = (Uid::from_number(FILE)?, proc(holder)?);
             Body::List { after: Some(after) }
         }
-        write => write_body(write)?,
+        write => write_body(alloc, write)?,
     })
 }
 
@@ -124,7 +124,7 @@ fn may_ask(to: NodeId, body: &Body) -> bool
             grant,
             base,
             bytes,
-        } => may_write(to, *uid, *page, *grant, *base, bytes),
+        } => may_write(to, *uid, *page, *grant, *base, bytes.bytes()),
         Body::AttrOut {
             uid,
             length,
@@ -165,7 +165,7 @@ impl Told {
     /// What tests compare of an answer; nothing of a request.
     fn of(body: &Body) -> Told {
         match body {
-            Body::Page { stamp, bytes } => Told::Page(*stamp, bytes[0]),
+            Body::Page { stamp, bytes } => Told::Page(*stamp, bytes.bytes()[0]),
             Body::Stored { stamp } => Told::Stored(*stamp),
             Body::Stale { stamp } => Told::Stale(*stamp),
             Body::NoGrant => Told::NoGrant,
@@ -217,7 +217,7 @@ impl Bench {
         asked: Asked,
     ) -> Result<Option<Frame>, Fail> {
         let to = self.server.node();
-        let (caller, body) = (proc(at)?, body_of(asked)?);
+        let (caller, body) = (proc(at)?, body_of(alloc, asked)?);
         if self.tick >= 1_000_000 || number == 0 || !may_ask(to, &body) {
             return Err("no such request".into());
         }

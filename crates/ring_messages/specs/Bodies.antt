@@ -1,5 +1,5 @@
 -- What a frame carries: what a call asks of a home, or what a home answers.
-use Rattle.std.specs.Prelude.{ℕ, Bool, nat_lt, List, Option, Some, None}
+use Rattle.std.specs.Prelude.{ℕ, Bool, true, false, nat_lt, List, Option, Some, None}
 use Rattle.uid_names.specs.Names.{ProcName, ObjectName}
 use Rattle.uid_names.specs.declared.lock_row.LockRow.{LockRow}
 use Rattle.uid_names.specs.declared.mode.Mode.{Mode}
@@ -117,3 +117,10 @@ kind_of (bodies.Listed rows more) = kinds.Listed
 -- a body asks a home
 abbrev pub is_request : Body → Bool
 is_request body = nat_lt (kind_number (kind_of body)) 128
+
+-- a copy of the body may want memory
+abbrev pub copy_wants : Body → Bool
+copy_wants (bodies.PageOut u page grant base bytes) = true
+copy_wants (bodies.Page stamp bytes) = true
+copy_wants (bodies.Listed rows more) = true
+copy_wants _ = false

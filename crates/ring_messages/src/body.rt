@@ -1,9 +1,10 @@
 //! What a frame carries.
 ghost use Rattle.std.specs.Prelude.{◌≡◌, IfOk, OnErr, IsTrue, IsFalse};
-ghost use Rattle.ring_messages.specs.Bodies.{kind_of, is_request as asks};
+ghost use Rattle.ring_messages.specs.Bodies.{kind_of, is_request as asks, copy_wants as wants};
 
+use crate::page_bytes::PageBytes;
 use std::alloc::Global;
-use uid_names::{FrameKind, LockRows, Mode, NoMemory, ObjKind, PAGE_BYTES, ProcId, Uid};
+use uid_names::{FrameKind, LockRows, Mode, NoMemory, ObjKind, ProcId, Uid};
 
 /// A request to a home, or a reply of one: the first eight are the requests. Rooms are in pages,
 /// lengths in bytes.
@@ -18,7 +19,7 @@ pub enum Body {
         page: u32,
         grant: u64,
         base: u64,
-        bytes: [u8; PAGE_BYTES],
+        bytes: PageBytes,
     },
     AttrOut {
         uid: Uid,
@@ -46,7 +47,7 @@ pub enum Body {
     },
     Page {
         stamp: u64,
-        bytes: [u8; PAGE_BYTES],
+        bytes: PageBytes,
     },
     Stored {
         stamp: u64,
@@ -113,36 +114,37 @@ impl Body {
         self.kind().is_request()
     }
 
-    /// A copy. Only that of a list of locks takes memory.
+    /// A copy. Only that of a page or of a list of locks takes memory.
     pub fn copy(&self, alloc: Global) -> Result<Body, NoMemory>
         ensures copy { IfOk result (λ copy. copy ≡ self.now) }
-        ensures memory { OnErr result (kind_of self.now ≡ FrameKind.Listed) }
+        ensures memory { OnErr result (IsTrue (wants self.now)) }
     {
         if self.is_request() {
-            return Ok(self.copy_request());
+            return self.copy_request(alloc);
         }
         self.copy_reply(alloc)
     }
 
-    /// A copy of a request.
-    fn copy_request(&self) -> Body
+    /// A copy of a request. Only that of a page takes memory.
+    fn copy_request(&self, alloc: Global) -> Result<Body, NoMemory>
         requires { IsTrue (asks self.now) }
-        ensures { result ≡ self.now }
+        ensures copy { IfOk result (λ copy. copy ≡ self.now) }
+        ensures memory { OnErr result (IsTrue (wants self.now)) }
     {
-        match *self {
+        Ok(match *self {
             Body::PageIn { uid, page } => Body::PageIn { uid, page },
             Body::PageOut {
                 uid,
                 page,
                 grant,
                 base,
-                bytes,
+                ref bytes,
             } => Body::PageOut {
                 uid,
                 page,
                 grant,
                 base,
-                bytes,
+                bytes: bytes.copy(alloc)?,
             },
             Body::AttrOut {
                 uid,
@@ -161,17 +163,20 @@ impl Body {
             Body::Make { kind, room } => Body::Make { kind, room },
             Body::List { after } => Body::List { after },
             _ => unreachable!(),
-        }
+        })
     }
 
     /// A copy of a reply. Only that of a list of locks takes memory.
     fn copy_reply(&self, alloc: Global) -> Result<Body, NoMemory>
         requires { IsFalse (asks self.now) }
         ensures copy { IfOk result (λ copy. copy ≡ self.now) }
-        ensures memory { OnErr result (kind_of self.now ≡ FrameKind.Listed) }
+        ensures memory { OnErr result (IsTrue (wants self.now)) }
     {
         Ok(match *self {
-            Body::Page { stamp, bytes } => Body::Page { stamp, bytes },
+            Body::Page { stamp, ref bytes } => Body::Page {
+                stamp,
+                bytes: bytes.copy(alloc)?,
+            },
             Body::Stored { stamp } => Body::Stored { stamp },
             Body::Stale { stamp } => Body::Stale { stamp },
             Body::NoGrant => Body::NoGrant,

@@ -5,6 +5,7 @@ pub mod body;
 pub mod frame;
 pub mod laws;
 pub mod limits;
+pub mod page_bytes;
 mod reading;
 #[cfg(test)]
 mod tests;
@@ -12,5 +13,6 @@ mod writing;
 
 pub use body::Body;
 pub use frame::{Frame, FrameFault, Head};
+pub use page_bytes::PageBytes;
 pub use reading::{head, read};
 pub use writing::write;

@@ -87,12 +87,12 @@ fn attr_out(head: &Head, rest: &[u8]) -> Result<Frame, FrameFault>
 }
 
 /// The frame of a page-out, from its header and the bytes behind it.
-fn page_out(head: &Head, rest: &[u8]) -> Result<Frame, FrameFault>
+fn page_out(alloc: Global, head: &Head, rest: &[u8]) -> Result<Frame, FrameFault>
     requires head { IsHead head.now }
     requires kind { head.now.kind ≡ kinds.PageOut }
     ensures { Gives (λ frame. frame) result (frame_at head.now rest.now) }
 {
-    let (uid, page, grant, base, bytes) = requests::page_out(head.to, rest)?;
+    let (uid, page, grant, base, bytes) = requests::page_out(alloc, head.to, rest)?;
     let body = Body::PageOut {
         uid,
         page,
@@ -104,12 +104,12 @@ fn page_out(head: &Head, rest: &[u8]) -> Result<Frame, FrameFault>
 }
 
 /// The frame of a page, from its header and the bytes behind it.
-fn page(head: &Head, rest: &[u8]) -> Result<Frame, FrameFault>
+fn page(alloc: Global, head: &Head, rest: &[u8]) -> Result<Frame, FrameFault>
     requires head { IsHead head.now }
     requires kind { head.now.kind ≡ kinds.Page }
     ensures { Gives (λ frame. frame) result (frame_at head.now rest.now) }
 {
-    let (stamp, bytes) = replies::page(rest)?;
+    let (stamp, bytes) = replies::page(alloc, rest)?;
     Ok(framed(head, Body::Page { stamp, bytes }))
 }
 
@@ -147,7 +147,7 @@ fn reply(alloc: Global, head: &Head, rest: &[u8]) -> Result<Frame, FrameFault>
     ensures { Gives (λ frame. frame) result (frame_at head.now rest.now) }
 {
     match head.kind {
-        FrameKind::Page => page(head, rest),
+        FrameKind::Page => page(alloc, head, rest),
         FrameKind::Stored => {
             let stamp = replies::stamp(rest)?;
             Ok(framed(head, Body::Stored { stamp }))
@@ -208,7 +208,7 @@ fn other(alloc: Global, head: &Head, rest: &[u8]) -> Result<Frame, FrameFault>
             Ok(framed(head, Body::List { after }))
         }
         FrameKind::AttrOut => attr_out(head, rest),
-        FrameKind::PageOut => page_out(head, rest),
+        FrameKind::PageOut => page_out(alloc, head, rest),
         _ => reply(alloc, head, rest),
     }
 }

@@ -123,7 +123,7 @@ fn put_request(out: &mut ByteList, body: &Body) -> Result<(), NoMemory>
             ref bytes,
         } => {
             put_written(out, uid, page, grant, base)?;
-            put_page(out, bytes)
+            put_page(out, bytes.bytes())
         }
         Body::AttrOut {
             uid,
@@ -155,7 +155,7 @@ fn put_reply(out: &mut ByteList, body: &Body) -> Result<(), NoMemory>
     match body {
         Body::Page { stamp, bytes } => {
             put_u64(out, *stamp)?;
-            put_page(out, bytes)
+            put_page(out, bytes.bytes())
         }
         Body::Stored { stamp } | Body::Stale { stamp } => put_u64(out, *stamp),
         Body::Granted {

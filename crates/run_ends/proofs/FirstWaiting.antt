@@ -91,7 +91,7 @@ numbered-there {A} k (x ∷ older) low high =
     let below : k ≤ length older = grind (arith, nat_tests, h, high) in
     let found = numbered-there k older low below in (found.0, ap (λ b. cond b (Some x) (numbered k older)) h ∙ found.1))
 
-if-some : {A : Type 0} (P : A → Type 0) (o : Option A) (x : A) → IfSome o P → o ≡ Some x → P x
+pub if-some : {A : Type 0} (P : A → Type 0) (o : Option A) (x : A) → IfSome o P → o ≡ Some x → P x
 if-some P o x is e = let h : IfSome (Some x) P = subst (λ a. IfSome a P) e is in h
 
 pub both-true : (a b : Bool) → a ≡ true → b ≡ true → (a && b) ≡ true

@@ -10,3 +10,12 @@ pub mod AnsweredCalls
 pub mod ToldFrames
 pub mod Waits
 pub mod Ending
+pub mod Callers
+pub mod SentAgain
+pub mod WaitingNext
+pub mod SentFrames
+pub mod FittingReplies
+pub mod CallFrames
+pub mod OpenFrames
+pub mod NoneStuck
+pub mod AllEnded

@@ -29,7 +29,7 @@ true-false false h g = absurd (cc)
 proc-among : (p : ℕ) → IsProc p → Among p procs
 proc-among = by_proc (λ p. Among p procs) (inl refl) (inr (inl refl)) (inr (inr (inl refl))) (inr (inr (inr (inl refl))))
 
-filter-none : {A : Type 0} (p : A → Bool) (xs : List A) → ((x : A) → Among x xs → p x ≡ false) → filter p xs ≡ []
+pub filter-none : {A : Type 0} (p : A → Bool) (xs : List A) → ((x : A) → Among x xs → p x ≡ false) → filter p xs ≡ []
 filter-none p [] each = refl
 filter-none p (x ∷ xs) each = ap (λ b. cond b (x ∷ filter p xs) (filter p xs)) (each x (inl refl)) ∙ filter-none p xs (λ y is. each y (inr is))
 

@@ -20,11 +20,15 @@ use Rattle.run_calls.proofs.Slots.{same_proc-refl}
 use Rattle.world_runs.specs.Gone.{FrameName, was_told, notice_if, notice_of, gone_in}
 use Rattle.world_runs.specs.Turns.{enabled_events, after_turns}
 use Rattle.world_runs.proofs.Among.{Among}
-use Rattle.run_ends.specs.FramesOfCalls.{IsOfCall, IsToldIfOf}
+use Rattle.run_ends.specs.FramesOfCalls.{IsOfCall}
 use Rattle.run_ends.proofs.NotEnabled.{filter-among, flat-among}
 use Rattle.run_ends.proofs.FirstWaiting.{both-true, enable}
 use Rattle.run_ends.proofs.NothingComing.{all-alive, driven}
 use Rattle.run_ends.proofs.Stuck.{never, notice-comes}
+
+-- the process was told of the frame, if it is of this call
+abbrev pub IsToldIfOf : World → ProcName → ℕ → FrameName → Type 0
+IsToldIfOf w p number f = IsOfCall p number (numbered f.2 (w.frames f.0 f.1)) → was_told w.done f ≡ true
 
 each-among : {A : Type 0} (P : A → Type 0) (xs : List A) → ((x : A) → Among x xs → P x) → EachOf P xs
 each-among P [] each = tt

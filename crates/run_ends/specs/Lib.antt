@@ -1,2 +1,3 @@
 pub mod OpenAsks
 pub mod FramesOfCalls
+pub mod OpenFrames

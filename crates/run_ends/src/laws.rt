@@ -12,11 +12,9 @@ ghost use Rattle.node_runs.specs.CallsKeep.{EachOf};
 ghost use Rattle.node_runs.specs.NodesKeep.{IsTimely};
 ghost use Rattle.node_runs.specs.Runs.{Choice, World, world_after, HasEnded};
 ghost use Rattle.world_runs.specs.Turns.{takes_at, is_enabled, enabled_events, after_turns};
-ghost use Rattle.world_runs.specs.Waiting.{waiting};
 ghost use Rattle.world_runs.specs.OpenNotices.{open_notices};
-ghost use Rattle.world_runs.specs.Gone.{gone_in};
-ghost use Rattle.run_ends.specs.FramesOfCalls.{IsToldIfOf};
 ghost use Rattle.run_ends.specs.OpenAsks.{HasNoCall};
+ghost use Rattle.run_ends.specs.OpenFrames.{HaveFrames};
 
 /// What waits first on a link to a node that has not ended is enabled there, be it a frame or a mark.
 pub fn what_waits_first_on_a_link_is_enabled()
@@ -39,24 +37,19 @@ pub fn a_home_answers_each_open_call()
         is_some (serve_of (w.nodes c.home).side (proc_at n p) c.waiting.number c.ask).answer ≡ true }
 {}
 
-/// Where no event is enabled, no notice is open, and while an operation is open nothing waits on any link.
-pub fn where_no_event_is_enabled_nothing_is_on_its_way()
-    ensures links { (s : Setup) (plan : List FateRow) → IsSetup s → (cs : List ℕ) (w : World) → after_turns s plan cs ≡ Some w → IsTimely w →
-        (n p : ℕ) → is_node s.opening n ≡ true → IsProc p → (o : OpenOp) → (proc_of (w.nodes n) p).doing ≡ Some o → enabled_events s plan w ≡ [] →
-        (from to : ℕ) → is_node s.opening from ≡ true → is_node s.opening to ≡ true → waiting plan from to w.done ≡ [] }
+/// Each open call has a frame that is on its way, its request or a reply to it: a copy of it waits on its link, or it was lost or is
+/// late and its notice is still to come.
+pub fn an_open_call_has_a_frame_on_its_way()
+    ensures { (s : Setup) (plan : List FateRow) → IsSetup s → (cs : List ℕ) (w : World) → after_turns s plan cs ≡ Some w → IsTimely w → HaveFrames s plan w }
+{}
+
+/// Where no event is enabled, no notice is open and no call, so all nodes have ended: turns stop just where the run has ended.
+pub fn no_turn_is_stuck()
     ensures notices { (s : Setup) (plan : List FateRow) → IsSetup s → (w : World) → enabled_events s plan w ≡ [] →
         (n : ℕ) → is_node s.opening n ≡ true → open_notices s plan w n ≡ [] }
-{}
-
-/// And each frame of an open call that was lost or is late was told to its process.
-pub fn where_no_event_is_enabled_each_lost_frame_was_told()
-    ensures { (s : Setup) (plan : List FateRow) → IsSetup s → (cs : List ℕ) (w : World) → after_turns s plan cs ≡ Some w → IsTimely w →
-        (n p : ℕ) → is_node s.opening n ≡ true → IsProc p → (o : OpenOp) → (proc_of (w.nodes n) p).doing ≡ Some o → (c : Asked) → o.awaits ≡ Await.Answer c → enabled_events s plan w ≡ [] →
-        EachOf (IsToldIfOf w (proc_at n p) c.waiting.number) (gone_in plan w.done) }
-{}
-
-/// Where no event is enabled and no call is open, all nodes have ended.
-pub fn without_open_calls_no_turn_is_stuck()
-    ensures { (s : Setup) (plan : List FateRow) → IsSetup s → (cs : List ℕ) (w : World) →
-        after_turns s plan cs ≡ Some w → IsTimely w → enabled_events s plan w ≡ [] → HasNoCall s w → HasEnded s w }
+    ensures calls { (s : Setup) (plan : List FateRow) → IsSetup s → (cs : List ℕ) (w : World) →
+        after_turns s plan cs ≡ Some w → IsTimely w → enabled_events s plan w ≡ [] → HasNoCall s w }
+    ensures ended { (s : Setup) (plan : List FateRow) → IsSetup s → (cs : List ℕ) (w : World) →
+        after_turns s plan cs ≡ Some w → IsTimely w → enabled_events s plan w ≡ [] → HasEnded s w }
+    ensures just { (s : Setup) (plan : List FateRow) (w : World) → HasEnded s w → enabled_events s plan w ≡ [] }
 {}

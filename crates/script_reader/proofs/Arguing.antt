@@ -18,14 +18,15 @@ use Rattle.dom_text.specs.Lent.{owned, owned_token}
 use Rattle.dom_text.specs.declared.token.Token.{Token}
 use Rattle.dom_text.specs.declared.token.TokenRef.{TokenRef}
 use Rattle.dom_text.specs.declared.token.Token.TheVariants.{Word, Text as TextToken}
-use Rattle.script_reader.specs.Arguments.{Said, Given, Var, NewVar, Room, Offset, Count, Address, Text, Mode, Home, given, home_number}
-use Rattle.script_reader.specs.Commands.{IsAddress, IsArgument, IsCommand, IsCount, IsHome, IsOffset, arguments_of}
+use Rattle.script_reader.specs.Arguments.{Said, Given, Var, NewVar, Room, Offset, Count, Address, Text, Mode, Home, HomeNode, OptionalRoom, Path, OptionalPath, given, home_number, pages_said}
+use Rattle.script_reader.specs.Commands.{IsAddress, IsArgument, IsCommand, IsCount, IsHome, IsOffset, IsPath, arguments_of}
+use Rattle.script_reader.specs.NodeNames.{is_node_name, node_number}
 use Rattle.script_reader.specs.Forms.{absent, argument_form, arguments_form, in_front, mode_argument, text_argument, word_argument}
 use Rattle.script_reader.specs.NamesAsked.{has_name}
 use Rattle.script_reader.specs.Numbers.{has_number}
 use Rattle.script_reader.specs.SpelledNumbers.{room_spelled, offset_spelled, count_spelled, address_spelled, within}
 use Rattle.script_reader.specs.Repeats.{is_fresh}
-use Rattle.script_reader.specs.SaidCommands.{argument_at, bytes_of, command_said, home_of, mode_of, number_of}
+use Rattle.script_reader.specs.SaidCommands.{argument_at, bytes_of, command_said, home_of, mode_of, node_of, number_of, pages_of, path_of}
 use Rattle.script_reader.specs.Scripts.{Content}
 use Rattle.script_reader.specs.Shapes.{shape_of}
 use Rattle.script_reader.specs.UnknownNames.{is_known}
@@ -88,6 +89,10 @@ word_formed kind.Address word = (refl, address_found word)
 word_formed kind.Text word = tt
 word_formed kind.Mode word = mode_formed (mode_of_word word)
 word_formed kind.Home word = (refl, tt)
+word_formed kind.HomeNode word = (refl, tt)
+word_formed kind.OptionalRoom word = (refl, room_found word)
+word_formed kind.Path word = (refl, tt)
+word_formed kind.OptionalPath word = (refl, tt)
 
 text_formed : (k : Kind) (text : List ℕ) → IfSome (text_argument k text) (IsOfKind k)
 text_formed kind.Text text = (refl, tt)
@@ -95,6 +100,8 @@ text_formed _ text = tt
 
 absent_formed : (k : Kind) → IfSome (absent k) (IsOfKind k)
 absent_formed kind.Home = (refl, tt)
+absent_formed kind.OptionalRoom = (refl, tt)
+absent_formed kind.OptionalPath = (refl, tt)
 absent_formed _ = tt
 
 argument_formed : (k : Kind) (token : Token) → IfSome (argument_form k (Some token)) (IsOfKind k)
@@ -194,6 +201,10 @@ given_as nodes kind.Address a = Address (number_of a)
 given_as nodes kind.Text a = Text (bytes_of a)
 given_as nodes kind.Mode a = Mode (mode_of a)
 given_as nodes kind.Home a = Home (home_of nodes a)
+given_as nodes kind.HomeNode a = HomeNode (node_of nodes a)
+given_as nodes kind.OptionalRoom a = OptionalRoom (pages_of a)
+given_as nodes kind.Path a = Path (bytes_of a)
+given_as nodes kind.OptionalPath a = OptionalPath (path_of a)
 
 -- and of those from a place on
 given_from : List NodeRow → List Kind → List Said → ℕ → List Given
@@ -214,6 +225,14 @@ command-given nodes verb.Map arguments = refl
 command-given nodes verb.Unmap arguments = refl
 command-given nodes verb.Loadat arguments = refl
 command-given nodes verb.Storeat arguments = refl
+command-given nodes verb.Bind arguments = refl
+command-given nodes verb.Crf arguments = refl
+command-given nodes verb.Crd arguments = refl
+command-given nodes verb.Crl arguments = refl
+command-given nodes verb.Dlf arguments = refl
+command-given nodes verb.Ld arguments = refl
+command-given nodes verb.Wd arguments = refl
+command-given nodes verb.Llkob arguments = refl
 
 given_as-kind : (nodes : List NodeRow) (a : Said) → given_as nodes (kind_of a) a ≡ given nodes a
 unfolding given_as
@@ -226,6 +245,10 @@ given_as-kind nodes (Address found) = refl
 given_as-kind nodes (Text text) = refl
 given_as-kind nodes (Mode mode) = refl
 given_as-kind nodes (Home name) = refl
+given_as-kind nodes (HomeNode name) = refl
+given_as-kind nodes (OptionalRoom found) = refl
+given_as-kind nodes (Path path) = refl
+given_as-kind nodes (OptionalPath path) = refl
 
 given_from-map : (nodes : List NodeRow) (front rest : List Said) (n : ℕ) → n ≡ length front → given_from nodes (map kind_of rest) (front ++ rest) n ≡ map (given nodes) rest
 unfolding given_from
@@ -256,28 +279,64 @@ pub found_is : (P : ℕ → Type 0) (found : Option ℕ) → IfSome found P → 
 found_is P None h some = absurd cc
 found_is P (Some n) h some = h
 
--- an argument whose number and name are good is in its range
-argument_is : (nodes : List NodeRow) (a : Said) → IsFound a → has_number a ≡ true → has_name a ≡ true → IsArgument (length nodes) (given nodes a)
-argument_is nodes (Var name) h number named = name_text name named
-argument_is nodes (NewVar name) h number named = name_text name named
-argument_is nodes (Room found) h number named = found_is IsRoom found h number
-argument_is nodes (Offset found) h number named = found_is IsOffset found h number
-argument_is nodes (Count found) h number named = found_is IsCount found h number
-argument_is nodes (Address found) h number named = found_is IsAddress found h number
-argument_is nodes (Text text) h number named = let both = and_true (nat_le 1 (length text)) (nat_le (length text) PAGE_BYTES) number in (search (rules, both.0), search (rules, both.1))
-argument_is nodes (Mode mode) h number named = tt
-argument_is nodes (Home name) h number named = home_is nodes name
+-- a node that is named is one
+node_is : (nodes : List NodeRow) (name : List ℕ) → is_node_name nodes name ≡ true → (1 ≤ node_number nodes name) × (node_number nodes name ≤ length nodes)
+node_is nodes name known =
+    subst (λ (b : Bool). IsHome (length nodes) (if b then Some (node_number nodes name) else None)) known (home_is nodes (Some name))
 
-arguments_are : (nodes : List NodeRow) (arguments : List Said) → AllByRecursion IsFound arguments → list_all has_number arguments ≡ true → list_all has_name arguments ≡ true → AllByRecursion (IsArgument (length nodes)) (map (given nodes) arguments)
-arguments_are nodes [] h numbers names = tt
-arguments_are nodes (a ∷ rest) h numbers names =
+-- a room that may be left out
+pages_are : (found : Option (Option ℕ)) → IsFound (OptionalRoom found) → has_number (OptionalRoom found) ≡ true → IfSome (pages_said found) IsRoom
+pages_are None h number = tt
+pages_are (Some found) h number = found_is IsRoom found h number
+
+-- a path that may be left out
+optional_path_is : (path : Option (List ℕ)) → has_name (OptionalPath path) ≡ true → IfSome path IsPath
+optional_path_is None h = tt
+optional_path_is (Some path) h = h
+
+-- the node of an argument that names one that must be
+abbrev pub names_node : List NodeRow → Said → Bool
+names_node nodes (HomeNode name) = is_node_name nodes name
+names_node nodes _ = true
+
+-- an argument whose number and name are good is in its range
+argument_is : (nodes : List NodeRow) (a : Said) → IsFound a → has_number a ≡ true → has_name a ≡ true → names_node nodes a ≡ true → IsArgument (length nodes) (given nodes a)
+argument_is nodes (Var name) h number named known = name_text name named
+argument_is nodes (NewVar name) h number named known = name_text name named
+argument_is nodes (Room found) h number named known = found_is IsRoom found h number
+argument_is nodes (Offset found) h number named known = found_is IsOffset found h number
+argument_is nodes (Count found) h number named known = found_is IsCount found h number
+argument_is nodes (Address found) h number named known = found_is IsAddress found h number
+argument_is nodes (Text text) h number named known = let both = and_true (nat_le 1 (length text)) (nat_le (length text) PAGE_BYTES) number in (search (rules, both.0), search (rules, both.1))
+argument_is nodes (Mode mode) h number named known = tt
+argument_is nodes (Home name) h number named known = home_is nodes name
+argument_is nodes (HomeNode name) h number named known = node_is nodes name known
+argument_is nodes (OptionalRoom found) h number named known = pages_are found h number
+argument_is nodes (Path path) h number named known = named
+argument_is nodes (OptionalPath path) h number named known = optional_path_is path named
+
+arguments_are : (nodes : List NodeRow) (arguments : List Said) → AllByRecursion IsFound arguments → list_all has_number arguments ≡ true → list_all has_name arguments ≡ true → list_all (names_node nodes) arguments ≡ true → AllByRecursion (IsArgument (length nodes)) (map (given nodes) arguments)
+arguments_are nodes [] h numbers names nodes_known = tt
+arguments_are nodes (a ∷ rest) h numbers names nodes_known =
     let number = and_true (has_number a) (list_all has_number rest) numbers in
     let name = and_true (has_name a) (list_all has_name rest) names in
-    (argument_is nodes a h.0 number.0 name.0, arguments_are nodes rest h.1 number.1 name.1)
+    let known = and_true (names_node nodes a) (list_all (names_node nodes) rest) nodes_known in
+    (argument_is nodes a h.0 number.0 name.0 known.0, arguments_are nodes rest h.1 number.1 name.1 known.1)
 
-pub command_is : (nodes : List NodeRow) (v : Verb) (arguments : List Said) → AreFormed (shape_of v) arguments → list_all has_number arguments ≡ true → list_all has_name arguments ≡ true → IsCommand (length nodes) (command_said nodes v arguments)
-command_is nodes v arguments h numbers names =
-    subst (AllByRecursion (IsArgument (length nodes))) (sym (arguments-given nodes v arguments h.kinds_are)) (arguments_are nodes arguments h.found numbers names)
+pub command_is : (nodes : List NodeRow) (v : Verb) (arguments : List Said) → AreFormed (shape_of v) arguments → list_all has_number arguments ≡ true → list_all has_name arguments ≡ true → list_all (names_node nodes) arguments ≡ true → IsCommand (length nodes) (command_said nodes v arguments)
+command_is nodes v arguments h numbers names known =
+    subst (AllByRecursion (IsArgument (length nodes))) (sym (arguments-given nodes v arguments h.kinds_are)) (arguments_are nodes arguments h.found numbers names known)
+
+-- a process that knows what arguments speak of knows their nodes
+node_known : (s : Content) (proc : ProcName) (a : Said) → is_known s proc a ≡ true → names_node s.nodes a ≡ true
+node_known s proc (HomeNode name) known = known
+node_known s proc _ known = refl
+
+pub nodes_known : (s : Content) (proc : ProcName) (arguments : List Said) → list_all (is_known s proc) arguments ≡ true → list_all (names_node s.nodes) arguments ≡ true
+nodes_known s proc [] known = refl
+nodes_known s proc (a ∷ rest) known =
+    let k = and_true (is_known s proc a) (list_all (is_known s proc) rest) known in
+    rw (node_known s proc a k.0) (nodes_known s proc rest k.1)
 
 not_true : (b : Bool) → not b ≡ true → b ≡ false
 not_true true h = absurd cc
@@ -294,6 +353,10 @@ argument_spoken s proc (Address found) known fresh = tt
 argument_spoken s proc (Text text) known fresh = tt
 argument_spoken s proc (Mode mode) known fresh = tt
 argument_spoken s proc (Home name) known fresh = tt
+argument_spoken s proc (HomeNode name) known fresh = tt
+argument_spoken s proc (OptionalRoom found) known fresh = tt
+argument_spoken s proc (Path path) known fresh = tt
+argument_spoken s proc (OptionalPath path) known fresh = tt
 
 arguments_spoken : (s : Content) (proc : ProcName) (arguments : List Said) → list_all (is_known s proc) arguments ≡ true → list_all (is_fresh s) arguments ≡ true → AllByRecursion (MaySpeakOf s.objects s.commands proc) (map (given s.nodes) arguments)
 arguments_spoken s proc [] known fresh = tt

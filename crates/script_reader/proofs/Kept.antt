@@ -16,7 +16,7 @@ use Rattle.dom_history.specs.declared.plan.FateRow.{FateRow}
 use Rattle.script_reader.specs.Scripts.{Content, IsDraft, IsNode, IsObject}
 use Rattle.script_reader.specs.Fates.{IsFateRow}
 use Rattle.dom_history.specs.Ranges.{IsProcName}
-use Rattle.script_reader.specs.Arguments.{Given, Var, NewVar, Room, Offset, Count, Address, Text, Mode, Home}
+use Rattle.script_reader.specs.Arguments.{Given, Var, NewVar, Room, Offset, Count, Address, Text, Mode, Home, HomeNode, OptionalRoom, Path, OptionalPath}
 use Rattle.script_reader.specs.Commands.{IsArgument, IsCommandRow, IsCommand, arguments_of}
 use Rattle.script_reader.specs.Variables.{IsSpoken, AreSpoken, is_declared}
 use Rattle.script_reader.specs.NodeNames.{is_node_name}
@@ -76,6 +76,10 @@ argument_wider m n le (Text text) h = h
 argument_wider m n le (Mode mode) h = h
 argument_wider m n le (Home None) h = h
 argument_wider m n le (Home (Some home)) h = (h.0, omega (arith, le, h.1))
+argument_wider m n le (HomeNode node) h = (h.0, omega (arith, le, h.1))
+argument_wider m n le (OptionalRoom pages) h = h
+argument_wider m n le (Path path) h = h
+argument_wider m n le (OptionalPath path) h = h
 
 arguments_wider : (m n : ℕ) → m ≤ n → (arguments : List Given) → AllByRecursion (IsArgument m) arguments → AllByRecursion (IsArgument n) arguments
 arguments_wider m n le [] h = tt

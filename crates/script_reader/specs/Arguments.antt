@@ -15,6 +15,10 @@ pub data Argument (Number Node : Type 0) : Type 0 where
   Text : (text : List ℕ) → Argument Number Node
   Mode : (mode : LockMode) → Argument Number Node
   Home : (node : Option Node) → Argument Number Node
+  HomeNode : (node : Node) → Argument Number Node
+  OptionalRoom : (pages : Option Number) → Argument Number Node
+  Path : (path : List ℕ) → Argument Number Node
+  OptionalPath : (path : Option (List ℕ)) → Argument Number Node
 
 -- as a line says it: the number where its word spells one of the kind's range, and the node's name
 abbrev pub Said : Type 0
@@ -29,6 +33,11 @@ abbrev pub home_number : List NodeRow → Option (List ℕ) → Option ℕ
 home_number nodes None = None
 home_number nodes (Some name) = if is_node_name nodes name then Some (node_number nodes name) else None
 
+-- the pages that are said, where a room is
+abbrev pub pages_said : Option (Option ℕ) → Option ℕ
+pages_said None = None
+pages_said (Some found) = Some (unwrap_or found 0)
+
 -- what a good argument gives a command
 abbrev pub given : List NodeRow → Said → Given
 given nodes (Var name) = Var name
@@ -40,3 +49,7 @@ given nodes (Address found) = Address (unwrap_or found 0)
 given nodes (Text text) = Text text
 given nodes (Mode mode) = Mode mode
 given nodes (Home name) = Home (home_number nodes name)
+given nodes (HomeNode name) = HomeNode (node_number nodes name)
+given nodes (OptionalRoom found) = OptionalRoom (pages_said found)
+given nodes (Path path) = Path path
+given nodes (OptionalPath path) = OptionalPath path

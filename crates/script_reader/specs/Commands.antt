@@ -1,13 +1,14 @@
 -- The arguments of a command, and their ranges.
-use Rattle.std.specs.Prelude.{ℕ, ◌≤◌, ◌<◌, length, Option, IfSome, List, [], ◌∷◌}
+use Rattle.std.specs.Prelude.{ℕ, ◌≤◌, ◌<◌, length, Option, IfSome, IsSome, List, [], ◌∷◌}
 use Rattle.std.specs.List.{AllByRecursion}
 use Rattle.uid_names.specs.NameTexts.{IsNameText}
 use Rattle.uid_names.specs.Rooms.{IsRoom}
 use Rattle.uid_names.specs.declared.limits.TheConstants.{MAX_LENGTH, PAGE_BYTES}
 use Rattle.dom_history.specs.Ranges.{IsProcName}
-use Rattle.script_reader.specs.Arguments.{Given, Var, NewVar, Room, Offset, Count, Address, Text, Mode, Home}
+use Rattle.naming_tree.specs.Paths.{route_of}
+use Rattle.script_reader.specs.Arguments.{Given, Var, NewVar, Room, Offset, Count, Address, Text, Mode, Home, HomeNode, OptionalRoom, Path, OptionalPath}
 use Rattle.script_reader.specs.declared.command.Command.{Command}
-use Rattle.script_reader.specs.declared.command.Command.TheVariants.{New, Lock, Unlock, Delete, Load, Store, Length, Map, Unmap, Loadat, Storeat}
+use Rattle.script_reader.specs.declared.command.Command.TheVariants.{New, Lock, Unlock, Delete, Load, Store, Length, Map, Unmap, Loadat, Storeat, Bind, Crf, Crd, Crl, Dlf, Ld, Wd, Llkob}
 use Rattle.script_reader.specs.declared.script.CommandRow.{CommandRow}
 
 -- an offset in an object, a count of bytes, and an address
@@ -24,6 +25,10 @@ IsAddress address = address ≤ 0xff_ffff
 abbrev pub IsHome : ℕ → Option ℕ → Type 0
 IsHome nodes home = IfSome home (λ node. (1 ≤ node) × (node ≤ nodes))
 
+-- a text that leads somewhere
+abbrev pub IsPath : List ℕ → Type 0
+IsPath text = IsSome (route_of text)
+
 -- the arguments of a command, in the order of its shape
 abbrev pub arguments_of : Command → List Given
 arguments_of (New var room home) = NewVar var ∷ Room room ∷ Home home ∷ []
@@ -37,6 +42,14 @@ arguments_of (Map var) = Var var ∷ []
 arguments_of (Unmap var) = Var var ∷ []
 arguments_of (Loadat address count) = Address address ∷ Count count ∷ []
 arguments_of (Storeat address text) = Address address ∷ Text text ∷ []
+arguments_of (Bind var path) = NewVar var ∷ Path path ∷ []
+arguments_of (Crf path room) = Path path ∷ OptionalRoom room ∷ []
+arguments_of (Crd path) = Path path ∷ []
+arguments_of (Crl path target) = Path path ∷ Path target ∷ []
+arguments_of (Dlf path) = Path path ∷ []
+arguments_of (Ld path) = Path path ∷ []
+arguments_of (Wd path) = OptionalPath path ∷ []
+arguments_of (Llkob node) = HomeNode node ∷ []
 
 -- an argument is in its range
 abbrev pub IsArgument : ℕ → Given → Type 0
@@ -49,6 +62,10 @@ IsArgument nodes (Address address) = IsAddress address
 IsArgument nodes (Text text) = IsCount (length text)
 IsArgument nodes (Mode mode) = Unit {0}
 IsArgument nodes (Home home) = IsHome nodes home
+IsArgument nodes (HomeNode node) = (1 ≤ node) × (node ≤ nodes)
+IsArgument nodes (OptionalRoom pages) = IfSome pages IsRoom
+IsArgument nodes (Path path) = IsPath path
+IsArgument nodes (OptionalPath path) = IfSome path IsPath
 
 -- the arguments of a command are in their ranges
 abbrev pub IsCommand : ℕ → Command → Type 0

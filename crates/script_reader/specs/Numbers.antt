@@ -1,8 +1,8 @@
 -- `number`: a number, an address or a text of a line is out of its range.
-use Rattle.std.specs.Prelude.{ℕ, nat_le, Bool, true, false, not, ◌&&◌, is_some, List, length}
+use Rattle.std.specs.Prelude.{ℕ, nat_le, Bool, true, false, not, ◌&&◌, is_some, Some, List, length}
 use Rattle.std.specs.List.{list_all}
 use Rattle.uid_names.specs.declared.limits.TheConstants.{PAGE_BYTES}
-use Rattle.script_reader.specs.Arguments.{Said, Room, Offset, Count, Address, Text}
+use Rattle.script_reader.specs.Arguments.{Said, Room, Offset, Count, Address, Text, OptionalRoom}
 use Rattle.script_reader.specs.Sayings.{Saying, Node, Object, Fault, Phase, Does, SaidFate, Lose, Twice, Late}
 
 -- a text has 1 byte at least, and no more than a page
@@ -22,6 +22,7 @@ has_number (Offset found) = is_some found
 has_number (Count found) = is_some found
 has_number (Address found) = is_some found
 has_number (Text text) = is_text text
+has_number (OptionalRoom (Some found)) = is_some found
 has_number _ = true
 
 -- a line has a number, an address or a text that is out of its range

@@ -1,4 +1,4 @@
--- `repeat`: what was declared is declared again, or a `new` takes the variable of a declared object.
+-- `repeat`: what was declared is declared again, or a `new` or a `bind` takes the variable of a declared object.
 use Rattle.std.specs.Prelude.{Bool, true, false, not, unwrap_or}
 use Rattle.std.specs.List.{list_all}
 use Rattle.dom_history.specs.Plans.{is_set}

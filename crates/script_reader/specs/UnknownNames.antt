@@ -5,7 +5,7 @@ use Rattle.uid_names.specs.Names.{ProcName}
 use Rattle.script_reader.specs.Scripts.{Content}
 use Rattle.script_reader.specs.Variables.{knows}
 use Rattle.script_reader.specs.Words.{ProcessWord}
-use Rattle.script_reader.specs.Arguments.{Said, Var, Home}
+use Rattle.script_reader.specs.Arguments.{Said, Var, Home, HomeNode}
 use Rattle.script_reader.specs.Sayings.{Saying, Node, Object, Fault, Phase, Does}
 use Rattle.script_reader.specs.declared.script.NodeRow.{NodeRow}
 use Rattle.script_reader.specs.NodeNames.{is_node_name, node_number}
@@ -14,10 +14,11 @@ use Rattle.script_reader.specs.NodeNames.{is_node_name, node_number}
 abbrev pub proc_of : List NodeRow → ProcessWord → ProcName
 proc_of nodes process = record { node = node_number nodes process.node; number = unwrap_or process.number 0 }
 
--- an argument's home was declared, and its variable is one that the process knows; a new one need not be
+-- an argument's node was declared, and its variable is one that the process knows; a new one need not be
 abbrev pub is_known : Content → ProcName → Said → Bool
 is_known s proc (Var name) = knows s.objects s.commands proc name
 is_known s proc (Home (Some name)) = is_node_name s.nodes name
+is_known s proc (HomeNode name) = is_node_name s.nodes name
 is_known s proc _ = true
 
 -- a line speaks of what is not known

@@ -6,7 +6,7 @@ use Rattle.uid_names.specs.Names.{ProcName, ObjectName, same_proc}
 use Rattle.script_reader.specs.Arguments.{Given, Var, NewVar}
 use Rattle.script_reader.specs.Commands.{arguments_of}
 use Rattle.script_reader.specs.declared.command.Command.{Command}
-use Rattle.script_reader.specs.declared.command.Command.TheVariants.{New}
+use Rattle.script_reader.specs.declared.command.Command.TheVariants.{New, Bind}
 use Rattle.script_reader.specs.declared.script.VarRow.{VarRow}
 use Rattle.script_reader.specs.declared.script.CommandRow.{CommandRow}
 
@@ -19,16 +19,17 @@ abbrev pub declared_object : List VarRow → List ℕ → Option ObjectName
 declared_object [] var = None
 declared_object (row ∷ rows) var = if bytes_eq row.var var then Some row.uid else declared_object rows var
 
--- the command makes an object for this variable
+-- the command is to give this variable an object, which it makes or finds by a path
 abbrev pub makes : List ℕ → Command → Bool
 makes var (New name room home) = bytes_eq name var
+makes var (Bind name path) = bytes_eq name var
 makes var _ = false
 
--- a `new` of this process names the variable
+-- a `new` or a `bind` of this process names the variable
 abbrev pub is_named : List CommandRow → ProcName → List ℕ → Bool
 is_named commands proc var = list_any (λ row. same_proc row.proc proc && makes var row.command) commands
 
--- the process knows the variable: it is that of a declared object, or one that the process named by a `new`
+-- the process knows the variable: it is that of a declared object, or one that the process named by a `new` or a `bind`
 abbrev pub knows : List VarRow → List CommandRow → ProcName → List ℕ → Bool
 knows objects before proc var = is_declared objects var || is_named before proc var
 

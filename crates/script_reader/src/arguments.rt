@@ -1,11 +1,12 @@
-//! The arguments of commands: tokens taken by their kinds, and the tests of them that ask for nothing else. Only what is copied takes memory.
+//! The arguments of commands: tokens taken by their kinds, and the tests of them that ask for nothing else. Only what is copied, and
+//! the test of a path, takes memory.
 ghost use Rattle.std.specs.Prelude.{◌≡◌, ◌≤◌, Some, None, MatchOption, IfOk, IfSome, length};
 ghost use Rattle.std.specs.List.{list_all};
 ghost use Rattle.dom_text.specs.Lent.{owned};
 ghost use Rattle.script_reader.specs.Forms.{absent as absent_of, argument_form, arguments_form, text_argument as text_argument_of, word_argument as word_argument_of};
 ghost use Rattle.script_reader.specs.NamesAsked.{has_name as has_name_of};
 ghost use Rattle.script_reader.specs.Numbers.{has_number as has_number_of};
-ghost use Rattle.script_reader.specs.SaidCommands.{argument_at as argument_at_place, bytes_of, mode_of as mode_of_argument, number_of};
+ghost use Rattle.script_reader.specs.SaidCommands.{argument_at as argument_at_place, bytes_of, mode_of as mode_of_argument, number_of, pages_of, path_of};
 ghost use Rattle.script_reader.specs.Walk.Formed.{AreFormed};
 ghost use Rattle.script_reader.specs.Walk.Seen.{seen_argument, seen_arguments, seen_found, seen_token};
 ghost use Rattle.script_reader.specs.Words.{mode_of_word};
@@ -14,6 +15,7 @@ use crate::numbers::{address, count, offset, room};
 use crate::words::{Kind, is_name};
 use arrayvec::ArrayVec;
 use dom_text::TokenRef;
+use naming_tree::is_path;
 use std::alloc::Global;
 use uid_names::{ByteList, Mode, NoMemory, PAGE_BYTES};
 
@@ -32,6 +34,11 @@ pub(crate) enum Argument<'a> {
     Text(&'a [u8]),
     Mode(Mode),
     Home(Option<&'a [u8]>),
+    HomeNode(&'a [u8]),
+    /// None where it is left out.
+    OptionalRoom(Option<Option<u32>>),
+    Path(&'a [u8]),
+    OptionalPath(Option<&'a [u8]>),
 }
 
 impl Default for Argument<'_> {
@@ -52,30 +59,34 @@ impl Argument<'_> {
             | Argument::Count(found)
             | Argument::Address(found) => found.is_some(),
             Argument::Text(text) => !text.is_empty() && text.len() <= PAGE_BYTES,
-            Argument::Var(_) | Argument::NewVar(_) | Argument::Mode(_) | Argument::Home(_) => true,
-        }
-    }
-
-    /// Whether its name is one, where it has such.
-    pub(crate) fn has_name(self) -> bool
-        ensures { result ≡ has_name_of (seen_argument self.entry) }
-    {
-        match self {
-            Argument::Var(name) | Argument::NewVar(name) | Argument::Home(Some(name)) => {
-                is_name(name)
-            }
+            Argument::OptionalRoom(Some(found)) => found.is_some(),
             _ => true,
         }
     }
 
-    /// A copy of its bytes, where it is a name of a variable or a text.
+    /// Whether its name or its path is one, where it has such.
+    pub(crate) fn has_name(self, alloc: Global) -> Result<bool, NoMemory>
+        ensures { IfOk result (λ has. has ≡ has_name_of (seen_argument self.entry)) }
+    {
+        match self {
+            Argument::Var(name)
+            | Argument::NewVar(name)
+            | Argument::Home(Some(name))
+            | Argument::HomeNode(name) => Ok(is_name(name)),
+            Argument::Path(path) | Argument::OptionalPath(Some(path)) => is_path(alloc, path),
+            _ => Ok(true),
+        }
+    }
+
+    /// A copy of its bytes, where it is a name of a variable, a text or a path that is not left out.
     pub(crate) fn copy(self, alloc: Global) -> Result<ByteList, NoMemory>
         ensures { IfOk result (λ copy. copy ≡ bytes_of (seen_argument self.entry)) }
     {
         match self {
-            Argument::Var(bytes) | Argument::NewVar(bytes) | Argument::Text(bytes) => {
-                ByteList::from_slice(alloc, bytes)
-            }
+            Argument::Var(bytes)
+            | Argument::NewVar(bytes)
+            | Argument::Text(bytes)
+            | Argument::Path(bytes) => ByteList::from_slice(alloc, bytes),
             _ => Ok(ByteList::new(alloc)),
         }
     }
@@ -100,6 +111,26 @@ impl Argument<'_> {
         match self {
             Argument::Mode(mode) => mode,
             _ => Mode::Read,
+        }
+    }
+
+    /// Its pages, where it is a room that may be left out and is not.
+    pub(crate) fn pages(self) -> Option<u32>
+        ensures { result ≡ pages_of (seen_argument self.entry) }
+    {
+        match self {
+            Argument::OptionalRoom(Some(found)) => Some(found.unwrap_or(0)),
+            _ => None,
+        }
+    }
+
+    /// A copy of its path, where it is one that may be left out and is not.
+    pub(crate) fn path(self, alloc: Global) -> Result<Option<ByteList>, NoMemory>
+        ensures { IfOk result (λ path. path ≡ path_of (seen_argument self.entry)) }
+    {
+        match self {
+            Argument::OptionalPath(Some(path)) => Ok(Some(ByteList::from_slice(alloc, path)?)),
+            _ => Ok(None),
         }
     }
 }
@@ -128,6 +159,10 @@ fn word_argument(kind: Kind, word: &[u8]) -> Option<Argument<'_>>
         Kind::Text => None,
         Kind::Mode => Some(Argument::Mode(mode_of(word)?)),
         Kind::Home => Some(Argument::Home(Some(word))),
+        Kind::HomeNode => Some(Argument::HomeNode(word)),
+        Kind::OptionalRoom => Some(Argument::OptionalRoom(Some(room(word)))),
+        Kind::Path => Some(Argument::Path(word)),
+        Kind::OptionalPath => Some(Argument::OptionalPath(Some(word))),
     }
 }
 
@@ -157,6 +192,8 @@ fn absent<'a>(kind: Kind) -> Option<Argument<'a>>
 {
     match kind {
         Kind::Home => Some(Argument::Home(None)),
+        Kind::OptionalRoom => Some(Argument::OptionalRoom(None)),
+        Kind::OptionalPath => Some(Argument::OptionalPath(None)),
         _ => None,
     }
 }
@@ -201,9 +238,14 @@ pub(crate) fn have_numbers(arguments: &[Argument<'_>]) -> bool
     arguments.iter().all(|argument| argument.has_number())
 }
 
-/// Whether all names are names.
-pub(crate) fn have_names(arguments: &[Argument<'_>]) -> bool
-    ensures { result ≡ list_all has_name_of (seen_arguments arguments.now) }
+/// Whether all names are names, and all paths are paths.
+pub(crate) fn have_names(alloc: Global, arguments: &[Argument<'_>]) -> Result<bool, NoMemory>
+    ensures { IfOk result (λ have. have ≡ list_all has_name_of (seen_arguments arguments.now)) }
 {
-    arguments.iter().all(|argument| argument.has_name())
+    for argument in arguments {
+        if !argument.has_name(alloc)? {
+            return Ok(false);
+        }
+    }
+    Ok(true)
 }

@@ -2,7 +2,7 @@
 use uid_names::{ByteList, Mode, NodeId};
 
 /// A command of a process, one for each command word. Rooms and offsets are in pages and in bytes;
-/// counts and the lengths of texts are in bytes.
+/// counts and the lengths of texts are in bytes. A path leads from the working directory, where it is relative.
 #[derive(Drop, Debug)]
 pub enum Command {
     /// Makes a file of this room, at the process's own node where no home is named.
@@ -49,5 +49,40 @@ pub enum Command {
     Storeat {
         address: u32,
         text: ByteList,
+    },
+    /// Gives a variable the object to which a path leads.
+    Bind {
+        var: ByteList,
+        path: ByteList,
+    },
+    /// Makes a file by a name, of the usual room where none is said.
+    Crf {
+        path: ByteList,
+        room: Option<u32>,
+    },
+    /// Makes a directory by a name.
+    Crd {
+        path: ByteList,
+    },
+    /// Makes a link by a name, with the path that it stands for.
+    Crl {
+        path: ByteList,
+        target: ByteList,
+    },
+    /// Removes a name and its object.
+    Dlf {
+        path: ByteList,
+    },
+    /// Lists a directory.
+    Ld {
+        path: ByteList,
+    },
+    /// Tells the working directory, after it was changed where a path is said.
+    Wd {
+        path: Option<ByteList>,
+    },
+    /// Lists the locks of a home.
+    Llkob {
+        node: NodeId,
     },
 }

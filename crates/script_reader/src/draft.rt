@@ -15,12 +15,11 @@ ghost use Rattle.script_reader.specs.Fates.{IsGivenFate};
 ghost use Rattle.script_reader.specs.Variables.{IsSpoken, is_declared, knows};
 ghost use Rattle.script_reader.specs.Numbers.{is_no_number};
 ghost use Rattle.script_reader.specs.NamesAsked.{is_no_name};
-ghost use Rattle.script_reader.specs.NodeNames.{is_node_name, place_of};
+ghost use Rattle.script_reader.specs.NodeNames.{is_node_name};
 ghost use Rattle.script_reader.specs.UnknownNames.{is_known, is_unknown};
 ghost use Rattle.script_reader.specs.Repeats.{is_fresh, is_repeated};
 ghost use Rattle.script_reader.specs.Limits.{is_past_limit, pages_at};
-ghost use Rattle.script_reader.specs.SaidCommands.{bytes_of, command_said, command_with, home_of, number_of};
-ghost use Rattle.script_reader.specs.declared.command.Command.TheVariants.{New as NewCommand, Loadat as LoadatCommand, Storeat as StoreatCommand};
+ghost use Rattle.script_reader.specs.SaidCommands.{command_said};
 ghost use Rattle.script_reader.specs.After.{after, declared_at, fate_said, with_command, with_declared, with_fate, with_node};
 ghost use Rattle.script_reader.specs.Walk.Formed.{IsFormed, IsProcessNumber};
 ghost use Rattle.script_reader.specs.Walk.Found.{AreNodesOf, IsNodeOf};
@@ -28,11 +27,12 @@ ghost use Rattle.script_reader.specs.Judging.{has_begun, judged_saying};
 ghost use Rattle.script_reader.specs.Walk.Seen.{seen, seen_argument, seen_arguments, seen_fate};
 ghost use Rattle.script_reader.specs.Words.{is_name};
 
-use crate::arguments::{Argument, argument_at};
+use crate::arguments::Argument;
 use crate::cause::{Cause, LineFault};
 use crate::command::Command;
 use crate::index::{DeclaredVars, NamedVars, Places};
 use crate::line::{Line, LineFate};
+use crate::said::{command_of, node_named};
 use crate::script::{CommandRow, NodeRow, Script, VarRow};
 use crate::words::Verb;
 use dom_history::{Fate, FaultPlan};
@@ -123,7 +123,7 @@ impl Draft {
         if line.is_no_number() {
             return Err(LineFault::Bad(Cause::Number));
         }
-        if line.is_no_name() {
+        if line.is_no_name(alloc)? {
             return Err(LineFault::Bad(Cause::Name));
         }
         let nodes = self.nodes_of(line);
@@ -191,7 +191,9 @@ impl Draft {
     {
         match argument {
             Argument::Var(name) => self.knows(proc, name),
-            Argument::Home(Some(name)) => self.node_named(name).is_some(),
+            Argument::Home(Some(name)) | Argument::HomeNode(name) => {
+                self.node_named(name).is_some()
+            }
             _ => true,
         }
     }
@@ -410,81 +412,14 @@ impl Draft {
     ) -> Result<Command, NoMemory>
         ensures { IfOk result (λ command. command ≡ command_said self.now.nodes verb (seen_arguments arguments.now)) }
     {
-        self.command_with(
-            alloc,
-            verb,
-            argument_at(arguments, 0),
-            argument_at(arguments, 1),
-            argument_at(arguments, 2),
-        )
-    }
-
-    /// The command of a verb and of its first, second and third argument.
-    fn command_with(
-        &self,
-        alloc: Global,
-        verb: Verb,
-        first: Argument<'_>,
-        second: Argument<'_>,
-        third: Argument<'_>,
-    ) -> Result<Command, NoMemory>
-        ensures { IfOk result (λ command. command ≡ command_with self.now.nodes verb (seen_argument first.entry) (seen_argument second.entry) (seen_argument third.entry)) }
-    {
-        // An address has no bytes, and the copy of none takes no memory.
-        let var = first.copy(alloc)?;
-        Ok(match verb {
-            Verb::New => self.new_of(var, second, third),
-            Verb::Lock => Command::Lock {
-                var,
-                mode: second.mode(),
-            },
-            Verb::Unlock => Command::Unlock { var },
-            Verb::Delete => Command::Delete { var },
-            Verb::Load => Command::Load {
-                var,
-                offset: second.number(),
-                count: third.number(),
-            },
-            Verb::Store => Command::Store {
-                var,
-                offset: second.number(),
-                text: third.copy(alloc)?,
-            },
-            Verb::Length => Command::Length { var },
-            Verb::Map => Command::Map { var },
-            Verb::Unmap => Command::Unmap { var },
-            Verb::Loadat => loadat_of(first, second),
-            Verb::Storeat => storeat_of(alloc, first, second)?,
-        })
-    }
-
-    /// A `new` of a variable.
-    fn new_of(&self, var: ByteList, room: Argument<'_>, home: Argument<'_>) -> Command
-        ensures { result ≡ NewCommand var (number_of (seen_argument room.entry)) (home_of self.now.nodes (seen_argument home.entry)) }
-    {
-        Command::New {
-            var,
-            room: room.number(),
-            home: self.home_of(home),
-        }
-    }
-
-    /// The node of an argument, where it is a home that is named.
-    fn home_of(&self, argument: Argument<'_>) -> Option<NodeId>
-        ensures { result ≡ home_of self.now.nodes (seen_argument argument.entry) }
-    {
-        match argument {
-            Argument::Home(Some(name)) => self.node_named(name),
-            _ => None,
-        }
+        command_of(alloc, self.nodes.as_slice(), verb, arguments)
     }
 
     /// The node of this name.
     fn node_named(&self, name: &[u8]) -> Option<NodeId>
         ensures { IsNodeOf self.now.nodes name.now result }
     {
-        let at = place(self.nodes.as_slice(), name)?;
-        NodeId::new(at as u8 + 1)
+        node_named(self.nodes.as_slice(), name)
     }
 
     /// The script, where a node was declared.
@@ -556,16 +491,9 @@ fn note_command(
 {
     match command {
         Command::New { var, .. } => named.add(alloc, proc, var.bytes()),
+        Command::Bind { var, .. } => named.add(alloc, proc, var.bytes()),
         _ => Ok(()),
     }
-}
-
-/// The place of a node's name among the nodes, counted from 0.
-fn place(nodes: &[NodeRow], name: &[u8]) -> Option<usize>
-    ensures value { result ≡ place_of nodes.now name.now }
-    ensures within { IfSome result (λ at. at < length nodes.now) }
-{
-    nodes.iter().position(|row| row.name.bytes() == name)
 }
 
 /// The place of a home in the lists by home.
@@ -599,24 +527,4 @@ fn fate_of(fate: LineFate) -> Fate
         LineFate::Twice(late) => Fate::Twice(late.unwrap_or(0)),
         LineFate::Late(late) => Fate::Late(late.unwrap_or(0)),
     }
-}
-
-/// A load by address.
-fn loadat_of(address: Argument<'_>, count: Argument<'_>) -> Command
-    ensures { result ≡ LoadatCommand (number_of (seen_argument address.entry)) (number_of (seen_argument count.entry)) }
-{
-    Command::Loadat {
-        address: address.number(),
-        count: count.number(),
-    }
-}
-
-/// A store by address.
-fn storeat_of(alloc: Global, address: Argument<'_>, text: Argument<'_>) -> Result<Command, NoMemory>
-    ensures { IfOk result (λ command. command ≡ StoreatCommand (number_of (seen_argument address.entry)) (bytes_of (seen_argument text.entry))) }
-{
-    Ok(Command::Storeat {
-        address: address.number(),
-        text: text.copy(alloc)?,
-    })
 }

@@ -11,6 +11,7 @@ pub mod laws;
 mod line;
 mod numbers;
 mod reader;
+mod said;
 pub mod script;
 #[cfg(test)]
 mod tests;

@@ -1,11 +1,13 @@
 //! What a line says that has its form, and the tests of it that ask for nothing else.
-ghost use Rattle.std.specs.Prelude.{◌≡◌};
+ghost use Rattle.std.specs.Prelude.{◌≡◌, IfOk};
 ghost use Rattle.script_reader.specs.Numbers.{is_fate as is_fate_said, is_no_number as is_no_number_in};
 ghost use Rattle.script_reader.specs.NamesAsked.{is_no_name as is_no_name_in};
 ghost use Rattle.script_reader.specs.Walk.Seen.{seen, seen_fate};
 
 use crate::arguments::{Argument, have_names, have_numbers};
 use crate::words::{Verb, is_name};
+use std::alloc::Global;
+use uid_names::NoMemory;
 
 /// A fate, with its number where its word spells one.
 #[derive(Clone, Copy)]
@@ -72,16 +74,16 @@ impl Line<'_> {
         }
     }
 
-    /// Whether a word is no name where one is asked.
-    pub(crate) fn is_no_name(self) -> bool
-        ensures { result ≡ is_no_name_in (seen self.entry) }
+    /// Whether a word is no name or no path where one is asked.
+    pub(crate) fn is_no_name(self, alloc: Global) -> Result<bool, NoMemory>
+        ensures { IfOk result (λ bad. bad ≡ is_no_name_in (seen self.entry)) }
     {
-        match self {
+        Ok(match self {
             Line::Node { name, .. } => !is_name(name),
             Line::Object { var, home, .. } => !(is_name(var) && is_name(home)),
             Line::Fault { from, to, .. } => !(is_name(from) && is_name(to)),
             Line::Phase => false,
-            Line::Does { arguments, .. } => !have_names(arguments),
-        }
+            Line::Does { arguments, .. } => !have_names(alloc, arguments)?,
+        })
     }
 }

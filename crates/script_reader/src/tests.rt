@@ -137,7 +137,7 @@ fn words_that_begin_no_line(rt: HostRuntime) -> Result<(), Fail> {
         b"abcdefghijklmnopqrstuvwxyz0123456.1 lock x w",
         b"a.1",
         b"a.1 \"lock\" x w",
-        b"a.1 crf f 1",
+        b"a.1 catf f",
         b"a.1 Lock x w",
         b"a.9 locks ?",
     ];
@@ -303,6 +303,94 @@ fn the_first_bad_line_decides(rt: HostRuntime) -> Result<(), Fail> {
     ];
     for (bytes, fault) in rows {
         assert_eq!(rt; refused(alloc, bytes), fault, "{bytes:?}");
+    }
+    Ok(())
+}
+
+/// The first of these lines that isn't read so.
+fn read_otherwise(alloc: Global, rows: &[(&[u8], Option<Cause>)]) -> Result<Option<usize>, Fail> {
+    for (at, (line, cause)) in rows.iter().enumerate() {
+        if cause_of(alloc, *line)? != *cause {
+            return Ok(Some(at));
+        }
+    }
+    Ok(None)
+}
+
+#[test]
+fn commands_on_names(rt: HostRuntime) -> Result<(), Fail> {
+    let rows: [(&[u8], Option<Cause>); 34] = [
+        (b"a.1 bind v //b/d/f", None),
+        (b"a.1 bind x f", Some(Cause::Repeat)),
+        (b"a.1 bind v", Some(Cause::Form)),
+        (b"a.1 bind v f f", Some(Cause::Form)),
+        (b"a.1 bind v.w f", Some(Cause::Name)),
+        (b"a.1 bind v f/", Some(Cause::Name)),
+        (b"a.1 crf /d/f.txt", None),
+        (b"a.1 crf f 1024", None),
+        (b"a.1 crf f 1025", Some(Cause::Number)),
+        (b"a.1 crf f? 0", Some(Cause::Number)),
+        (b"a.1 crf f 1 b", Some(Cause::Form)),
+        (b"a.1 crf", Some(Cause::Form)),
+        (b"a.1 crd d", None),
+        (b"a.1 crd d 8", Some(Cause::Form)),
+        (b"a.1 crd //b.c/d", Some(Cause::Name)),
+        (b"a.1 crd //nobody/d", None),
+        (b"a.1 crl l //b", None),
+        (b"a.1 crl l \"d\"", Some(Cause::Form)),
+        (b"a.1 crl l d//e", Some(Cause::Name)),
+        (b"a.1 crl l", Some(Cause::Form)),
+        (b"a.1 dlf //", None),
+        (b"a.1 dlf ///", Some(Cause::Name)),
+        (b"a.1 ld /", None),
+        (b"a.1 ld", Some(Cause::Form)),
+        (
+            b"a.1 ld abcdefghijklmnopqrstuvwxyz0123456",
+            Some(Cause::Name),
+        ),
+        (b"a.1 wd", None),
+        (b"a.1 wd //b/d", None),
+        (b"a.1 wd d e", Some(Cause::Form)),
+        (b"a.1 wd d-e", Some(Cause::Name)),
+        (b"a.1 llkob b", None),
+        (b"a.1 llkob c", Some(Cause::Unknown)),
+        (b"a.1 llkob //b", Some(Cause::Name)),
+        (b"a.1 llkob", Some(Cause::Form)),
+        (b"a.5 ld f/", Some(Cause::Number)),
+    ];
+    assert_eq!(rt; read_otherwise(rt.alloc(), &rows)?, None);
+    Ok(())
+}
+
+#[test]
+fn paths_have_a_greatest_length(rt: HostRuntime) -> Result<(), Fail> {
+    let mut line = ByteList::from_slice(rt.alloc(), b"a.1 ld /")?;
+    for _ in 0..127 {
+        line.extend(b"d/")?;
+    }
+    line.extend(b"e")?;
+    assert_eq!(rt; cause_of(rt.alloc(), line.bytes())?, None);
+    line.extend(b"e")?;
+    assert_eq!(rt; cause_of(rt.alloc(), line.bytes())?, Some(Cause::Name));
+    Ok(())
+}
+
+#[test]
+fn a_bound_variable_is_known_behind_its_line(rt: HostRuntime) -> Result<(), Fail> {
+    let rows: [(&[u8], Option<(u32, Cause)>); 4] = [
+        (b"node a\na.1 bind v f\na.1 lock v w", None),
+        (b"node a\na.1 bind v f\na.1 bind v g\na.1 new v 1", None),
+        (
+            b"node a\na.1 bind v f\na.2 lock v w",
+            Some((3, Cause::Unknown)),
+        ),
+        (
+            b"node a\na.1 lock v w\na.1 bind v f",
+            Some((2, Cause::Unknown)),
+        ),
+    ];
+    for (bytes, fault) in rows {
+        assert_eq!(rt; refused(rt.alloc(), bytes), fault, "{bytes:?}");
     }
     Ok(())
 }

@@ -37,6 +37,14 @@ pub(crate) enum Verb {
     Unmap,
     Loadat,
     Storeat,
+    Bind,
+    Crf,
+    Crd,
+    Crl,
+    Dlf,
+    Ld,
+    Wd,
+    Llkob,
 }
 
 /// What an argument of a command is.
@@ -44,7 +52,7 @@ pub(crate) enum Verb {
 pub(crate) enum Kind {
     /// A variable that the process knows.
     Var,
-    /// A variable of an object that the command makes.
+    /// A variable of an object that the command makes or finds.
     NewVar,
     /// A number of pages.
     Room,
@@ -59,6 +67,13 @@ pub(crate) enum Kind {
     Mode,
     /// A node, which may be left out.
     Home,
+    /// A node.
+    HomeNode,
+    /// A number of pages, which may be left out.
+    OptionalRoom,
+    Path,
+    /// A path, which may be left out.
+    OptionalPath,
 }
 
 impl Verb {
@@ -79,6 +94,14 @@ impl Verb {
             Verb::Unmap => &[Kind::Var],
             Verb::Loadat => &[Kind::Address, Kind::Count],
             Verb::Storeat => &[Kind::Address, Kind::Text],
+            Verb::Bind => &[Kind::NewVar, Kind::Path],
+            Verb::Crf => &[Kind::Path, Kind::OptionalRoom],
+            Verb::Crd => &[Kind::Path],
+            Verb::Crl => &[Kind::Path, Kind::Path],
+            Verb::Dlf => &[Kind::Path],
+            Verb::Ld => &[Kind::Path],
+            Verb::Wd => &[Kind::OptionalPath],
+            Verb::Llkob => &[Kind::HomeNode],
         }
     }
 }
@@ -112,6 +135,14 @@ pub(crate) fn read_verb(word: &[u8]) -> Option<Verb>
         b"unmap" => Some(Verb::Unmap),
         b"loadat" => Some(Verb::Loadat),
         b"storeat" => Some(Verb::Storeat),
+        b"bind" => Some(Verb::Bind),
+        b"crf" => Some(Verb::Crf),
+        b"crd" => Some(Verb::Crd),
+        b"crl" => Some(Verb::Crl),
+        b"dlf" => Some(Verb::Dlf),
+        b"ld" => Some(Verb::Ld),
+        b"wd" => Some(Verb::Wd),
+        b"llkob" => Some(Verb::Llkob),
         _ => None,
     }
 }

@@ -17,7 +17,7 @@ pub due_of_source : (left : Option (List ℕ)) (s : Content) (seed : ℕ) (r : R
 due_of_source left s seed (Err e) source due = tt
 due_of_source left s seed (Ok (Refusal text)) source due = absurd due
 due_of_source left s seed (Ok (Run text lines)) source due = record {
-  run = record { script = s; source = source; events = due.events; run = due.run; follows = due.follows; phased = due.phased; heard = due.heard };
+  run = record { script = s; source = source; events = due.events; run = due.run; one_store = due.one_store };
   reported = due.reported;
   written = due.written;
 }

@@ -36,7 +36,7 @@ use Rattle.script_runs.specs.Processes.{processes_of}
 use Rattle.script_runs.specs.Setups.{setup_of}
 use Rattle.script_runs.specs.Runs.{IsRunOf, heard_in}
 use Rattle.script_runs.specs.Reports.{names_of, rows_of}
-use Rattle.script_runs.specs.Histories.{FollowsScript, KeepsPhasesApart, AreRepliesHeard}
+use Rattle.script_runs.specs.Histories.{IsAsOneStore}
 use Rattle.script_runs.proofs.ProcsWith.{processes_of-All}
 use Rattle.script_runner.specs.declared.run.AnswerRow.{AnswerRow}
 use Rattle.script_runner.specs.Answered.{answers_by, row_in}
@@ -149,11 +149,8 @@ ArePlanned = (s : Content) (seed last : ℕ) → IsContent s → IsStart s.openi
 abbrev pub NameTheirNodes : Type 0
 NameTheirNodes = (s : Content) (seed last : ℕ) → IsContent s → IsStart s.opening → last ≤ 2 ^ 40 → (events : List Happening) → IsRunOf s seed last events → All (NamesNodes (length s.nodes)) events
 
-abbrev pub HaveHistories : (Content → List Happening → Type 0) → Type 0
-HaveHistories Has = (s : Content) (seed last : ℕ) → IsContent s → IsStart s.opening → last ≤ 2 ^ 40 → (events : List Happening) → IsRunOf s seed last events → Has s events
-
-abbrev pub HaveRepliesHeard : Type 0
-HaveRepliesHeard = (s : Content) (seed last : ℕ) → IsContent s → IsStart s.opening → last ≤ 2 ^ 40 → (events : List Happening) (run : IsRunOf s seed last events) → AreRepliesHeard s events run.picked.world
+abbrev pub AreAsOneStore : Type 0
+AreAsOneStore = (s : Content) (seed last : ℕ) → IsContent s → IsStart s.opening → last ≤ 2 ^ 40 → (events : List Happening) (run : IsRunOf s seed last events) → IsAsOneStore s events run.picked.world
 
 module _ (s : Content) (content : IsContent s) (start : IsStart s.opening) (seed last : ℕ) (most : last ≤ 2 ^ 40) (events : List Happening) (programs : List (ProcName × Shelled)) (ended : worlds.IsRunOf shell_wants shell_after (made_shell s) (setup_of s) s.plan seed last events programs) (planned : ArePlanned) where
   abbrev run_of : IsRunOf s seed last (by_place ended.world.done)
@@ -163,14 +160,12 @@ module _ (s : Content) (content : IsContent s) (start : IsStart s.opening) (seed
   }
 
   -- what came of the script
-  pub ran_is : HaveHistories FollowsScript → HaveHistories KeepsPhasesApart → HaveRepliesHeard → ((p : ProcName) (heard : Heard) → shell_answers (program_after shell_after (shell_of s p) heard) ≡ answers s p heard)
+  pub ran_is : AreAsOneStore → ((p : ProcName) (heard : Heard) → shell_answers (program_after shell_after (shell_of s p) heard) ≡ answers s p heard)
       → (procs : List ProcName) → procs ≡ processes_of s.commands → (rows : List AnswerRow) → map answers_in rows ≡ map (row_in programs) procs → IsRan s seed last (record { events = events; answers = rows })
-  ran_is follows phased heard answered procs are rows same = record {
+  ran_is one_store answered procs are rows same = record {
     events = by_place ended.world.done;
     run = run_of;
-    follows = follows s seed last content start most (by_place ended.world.done) run_of;
-    phased = phased s seed last content start most (by_place ended.world.done) run_of;
-    heard = heard s seed last content start most (by_place ended.world.done) run_of;
+    one_store = one_store s seed last content start most (by_place ended.world.done) run_of;
     by_place = ended.events_are;
     answers = same ∙ rows_are s content seed last events programs ended answered procs are;
   }

@@ -10,7 +10,7 @@ use Rattle.script_reader.specs.Grammar.{IsScript, IsBad}
 use Rattle.script_runner.specs.Words.{AskFor}
 use Rattle.script_runs.specs.Runs.{IsRunOf, ComesToTick, last_tick}
 use Rattle.script_runs.specs.Reports.{report_of}
-use Rattle.script_runs.specs.Histories.{FollowsScript, KeepsPhasesApart, AreRepliesHeard}
+use Rattle.script_runs.specs.Histories.{IsAsOneStore}
 use Rattle.script_runner.specs.Reports.{journal_of}
 
 -- the exit statuses
@@ -34,16 +34,15 @@ pub record IsSourceOf (left : Option (List ℕ)) (script : Content) : Type 0 whe
   pub are_left : AreLeft left bytes
   pub form : IsScript bytes script
 
--- a run of the script of a source, the one that the seed picks: its history follows the script's processes, each operation
--- once and in order, and its phases never overlap; by place, each process's entries have the replies that its program heard
+-- a run of the script of a source, the one that the seed picks; it is as one store would have it: all nodes have ended, the history is one of
+-- one store, which holds each process's commands once and in order to their end, in phases that never overlap, with the replies that its
+-- program heard; and at each unlock of a held lock every page that the holder modified is at its home
 pub record RunOfSource (left : Option (List ℕ)) (seed : ℕ) : Type 0 where
   pub script : Content
   pub source : IsSourceOf left script
   pub events : List Happening
   pub run : IsRunOf script seed last_tick events
-  pub follows : FollowsScript script events
-  pub phased : KeepsPhasesApart script events
-  pub heard : AreRepliesHeard script events run.picked.world
+  pub one_store : IsAsOneStore script events run.picked.world
 
 -- the turns of the seed give a node of the script of a source the last tick
 pub record LimitOfSource (left : Option (List ℕ)) (seed : ℕ) : Type 0 where

@@ -8,7 +8,7 @@ use Rattle.script_reader.specs.Scripts.{Content}
 use Rattle.dom_history.specs.Events.{Happening}
 use Rattle.script_runs.specs.Runs.{IsRunOf, ComesToTick, last_tick}
 use Rattle.script_runs.specs.Reports.{report_of}
-use Rattle.script_runs.specs.Histories.{FollowsScript, KeepsPhasesApart, AreRepliesHeard}
+use Rattle.script_runs.specs.Histories.{IsAsOneStore}
 use Rattle.script_runner.specs.Reports.{journal_of}
 use Rattle.script_runner.specs.Domain.{RunOfSource, report_in, journal_in, IsRefusalOfSource}
 
@@ -16,9 +16,7 @@ use Rattle.script_runner.specs.Domain.{RunOfSource, report_in, journal_in, IsRef
 pub record AreTexts (s : Content) (seed : ℕ) (text lines : List ℕ) : Type 0 where
   pub events : List Happening
   pub run : IsRunOf s seed last_tick events
-  pub follows : FollowsScript s events
-  pub phased : KeepsPhasesApart s events
-  pub heard : AreRepliesHeard s events run.picked.world
+  pub one_store : IsAsOneStore s events run.picked.world
   pub reported : text ≡ report_of s run
   pub written : lines ≡ journal_of s events
 

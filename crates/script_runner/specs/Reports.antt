@@ -5,7 +5,7 @@ use Rattle.script_reader.specs.Scripts.{Content}
 use Rattle.journal_text.specs.Lines.{journal}
 use Rattle.script_runs.specs.Runs.{IsRunOf, heard_in}
 use Rattle.script_runs.specs.Reports.{ProcAnswers, names_of, rows_of}
-use Rattle.script_runs.specs.Histories.{FollowsScript, KeepsPhasesApart, AreRepliesHeard}
+use Rattle.script_runs.specs.Histories.{IsAsOneStore}
 use Rattle.script_runner.specs.declared.run.AnswerRow.{AnswerRow}
 use Rattle.script_runner.specs.declared.run.Ran.{Ran}
 
@@ -18,13 +18,10 @@ abbrev pub journal_of : Content → List Happening → List ℕ
 journal_of s events = journal (names_of s) (reverse events)
 
 -- what came of a script: the events of the run that the seed picks, by rising place, and the answers over what each program
--- heard in it; the run's history follows the script, its phases never overlap, and by place, each process's entries have the
--- replies that its program heard
+-- heard in it; the run is as one store would have it
 pub record IsRan (s : Content) (seed last : ℕ) (ran : Ran) : Type 0 where
   pub events : List Happening
   pub run : IsRunOf s seed last events
-  pub follows : FollowsScript s events
-  pub phased : KeepsPhasesApart s events
-  pub heard : AreRepliesHeard s events run.picked.world
+  pub one_store : IsAsOneStore s events run.picked.world
   pub by_place : ran.events ≡ reverse events
   pub answers : map answers_in ran.answers ≡ rows_of s (heard_in run.picked.world)

@@ -162,8 +162,9 @@ pub fn run_domain<S: Source, O: Sink, J: Sink>(
     ensures statuses { IsTrue (is_status result) }
 
     // The headline: what is written is the report and the journal of one run of the script's nodes, which is planned by its
-    // faults and which the turns of the words pick. The history of the run follows the script's processes, each operation once
-    // and in order, and its phases never overlap.
+    // faults and which the turns of the words pick. All nodes have ended in it. Its history is one of one store without nodes or
+    // caches, and holds each process's commands once and in order, to their end, in phases that never overlap; the report is
+    // exactly its answers. And at each unlock of a held lock every page that the holder modified is at its home.
     ensures run { result ≡ 0 → AddsRun (map string_bytes words.now) (S.left script.old)
         (record { before = O.held out.old; after = O.held out.new }) (record { before = J.held journal.old; after = J.held journal.new }) }
 

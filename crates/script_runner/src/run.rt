@@ -20,8 +20,8 @@ use aegis_shell::laws::shells_go_by_all_they_heard;
 use dom_history::EventList;
 use script_reader::Script;
 use script_runs::laws::{
-    a_seed_picks_one_run_of_a_script, entries_are_what_scripts_heard, histories_are_phased,
-    histories_follow_scripts, runs_of_scripts_name_their_nodes,
+    a_seed_picks_one_run_of_a_script, runs_of_scripts_are_as_one_store,
+    runs_of_scripts_name_their_nodes,
 };
 use std::alloc::Global;
 use uid_names::{ByteList, ItemList, NoMemory, ProcId};
@@ -125,14 +125,11 @@ pub fn run_script(
     let (events, shells) = run_nodes(alloc, script, turns.unwrap_or(0), last_tick)?;
     let procs = processes_in(alloc, script.commands())?;
     let answers = answers(alloc, shells.as_slice(), procs.as_slice())?;
-    // So the run is planned and names its own nodes, its history follows the script in phases that stand apart, and the
-    // shells were answered what it says.
+    // So the run is planned, names its own nodes and is as one store would have it, and the shells were answered what it says.
     let _start = script.opening().nodes();
     a_seed_picks_one_run_of_a_script();
     runs_of_scripts_name_their_nodes();
-    histories_follow_scripts();
-    histories_are_phased();
-    entries_are_what_scripts_heard();
+    runs_of_scripts_are_as_one_store();
     shells_go_by_all_they_heard();
     Ok(Ran { events, answers })
 }

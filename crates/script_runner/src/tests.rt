@@ -256,8 +256,8 @@ fn a_text_without_an_end_is_named_with_its_line(rt: HostRuntime) -> Result<(), F
 }
 
 #[test]
-fn a_command_that_is_not_built_is_refused(rt: HostRuntime) -> Result<(), Fail> {
-    let text = refusal(rt.alloc(), b"node a\na.1 crf f 1\n")?;
+fn a_word_that_is_no_command_is_refused(rt: HostRuntime) -> Result<(), Fail> {
+    let text = refusal(rt.alloc(), b"node a\na.1 fetch f 1\n")?;
     assert_eq!(rt; text.bytes(), b"line 2: word\n".as_slice());
     Ok(())
 }

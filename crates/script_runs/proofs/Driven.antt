@@ -17,7 +17,7 @@ use Rattle.script_reader.specs.declared.script.CommandRow.{CommandRow}
 use Rattle.script_reader.specs.Commands.{IsCommandRow}
 use Rattle.script_reader.specs.Scripts.{Content, IsContent}
 use Rattle.script_reader.specs.Variables.{declared_object}
-use Rattle.aegis_shell.specs.Bound.{unbound}
+use Rattle.aegis_shell.specs.Standing.{first_standing}
 use Rattle.aegis_shell.specs.Work.{job_of, part_of}
 use Rattle.aegis_shell.specs.Asking.{ask, reach}
 use Rattle.node_runs.specs.Doings.{node_numbers}
@@ -128,4 +128,4 @@ module _ (s : Content) (content : IsContent s) (p : ProcName) where
 
   pub wants-nothing : is_driven (setup_of s) p ≡ false → ask s p [] ≡ Done
   wants-nothing none =
-      ap (λ jobs. (reach (part_of s p) 1 unbound jobs []).want) (ap (map (job_of (declared_object s.objects))) (none-left own s.commands (no-command none)))
+      ap (λ jobs. (reach (part_of s p) 1 (first_standing (part_of s p)) jobs []).want) (ap (map (job_of (declared_object s.objects))) (none-left own s.commands (no-command none)))

@@ -3,3 +3,4 @@ pub mod SettingUp
 pub mod Running
 pub mod Driven
 pub mod Pacing
+pub mod Faultless

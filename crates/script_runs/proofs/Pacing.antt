@@ -1,7 +1,7 @@
 -- What a script gives its nodes is paced: a shell counts the phases that it passed, and waits for no phase but that of one of
 -- its commands.
 use Rattle.std.proofs.Common.{◌≡◌, ℕ, suc, ◌<◌, ◌≤◌, Bool, true, false, cond, Option, Some, None, List, [], ◌∷◌, length, refl, sym, ◌∙◌, ap, subst, arith}
-use Rattle.std.specs.Prelude.{All, filter, unwrap_or}
+use Rattle.std.specs.Prelude.{All, filter, nat_lt}
 use Rattle.std.proofs.lemmas.Bool.Decides.{nat_tests}
 use Rattle.std.proofs.lemmas.List.Elements.{All-head, All-weaker, All-map, All-filter, All-drop}
 use Rattle.uid_names.specs.Names.{ProcName, same_proc}
@@ -19,52 +19,77 @@ use Rattle.script_reader.specs.Variables.{declared_object}
 use Rattle.aegis_shell.specs.declared.work.Job.{Job}
 use Rattle.aegis_shell.specs.Work.{Part, job_of, part_of, jobs_of}
 use Rattle.aegis_shell.specs.Asking.{ask}
-use Rattle.aegis_shell.specs.Operations.{second_of}
-use Rattle.aegis_shell.specs.States.{State, beginning, left, ops_at, next_op, is_early, want_in, want_at, want_left, unless_wanted, lacking, settle, is_granted, goes_on, outcome, if_on, gone_on, ended, replied, next_phase, hear, step}
+use Rattle.aegis_shell.specs.declared.outcome.Outcome.{Outcome}
+use Rattle.aegis_shell.specs.declared.stage.Stage.{Stage}
+use Rattle.aegis_shell.specs.declared.stage.Stage.TheVariants.{Between, First, Second, Talks as Talking, Lists as Listing}
+use Rattle.aegis_shell.specs.States.{State, beginning, left, ops_at, object_at_job, op_in, Going, Goes, Comes, begins, goes_on, on_going, want_by, want_in, want_left, settle, settled_at, finished, heard_at, hear, step}
 use Rattle.aegis_shell.specs.Shells.{Shelled, shell_of, state_after, shell_after, want_when, shell_wants}
 use Rattle.run_phases.specs.Paced.{ArePaced}
 use Rattle.script_runs.specs.Setups.{setup_of}
 use Rattle.script_runs.proofs.Driven.{wants-nothing}
 
--- the phase stays at commands that lack their object
-unless-phase : (want : Option Want) (at further : State) → further.phase ≡ at.phase → (unless_wanted want at further).phase ≡ at.phase
-unless-phase None at further same = same
-unless-phase (Some want) at further same = refl
+-- the phase stays where a command begins, goes on or ends
+going-phase : (going : Going) (at : State) (end : Outcome → State) → ((outcome : Outcome) → (end outcome).phase ≡ at.phase) → (on_going going at end).phase ≡ at.phase
+going-phase (Goes stage) at end same = refl
+going-phase (Comes outcome) at end same = same outcome
+
+unless-early : (early : Bool) (at further : State) → further.phase ≡ at.phase → (cond early at further).phase ≡ at.phase
+unless-early true at further same = refl
+unless-early false at further same = same
 
 settle-phase : (part : Part) (at : State) (jobs : List Job) → (settle part at jobs).phase ≡ at.phase
 settle-phase part at [] = refl
-settle-phase part at (job ∷ jobs) = unless-phase (want_at part at job) at (settle part (lacking at) jobs) (settle-phase part (lacking at) jobs)
+settle-phase part at (job ∷ jobs) =
+    let going = begins part at.working (object_at_job at job) job.command in
+    let further = λ (outcome : Outcome). settle part (finished part at job.command outcome) jobs in
+    unless-early (nat_lt at.phase job.phase) at (on_going going at further)
+    (going-phase going at further (λ outcome. settle-phase part (finished part at job.command outcome) jobs))
 
--- and at a reply
-if_on-phase : (op : Option Op) (at goes ends : State) → goes.phase ≡ at.phase → ends.phase ≡ at.phase → (if_on op goes ends).phase ≡ at.phase
-if_on-phase None at goes ends on end = end
-if_on-phase (Some op) at goes ends on end = on
+settled-phase : (part : Part) (at : State) (stage : Stage) → (settled_at part at stage).phase ≡ at.phase
+settled-phase part at Between = settle-phase part at (left part at)
+settled-phase part at First = refl
+settled-phase part at (Second first) = refl
+settled-phase part at (Talking talk) = refl
+settled-phase part at (Listing home last text) = refl
 
-replied-phase : (part : Part) (at : State) (job : Job) (told : Option Reply) → (replied part at job told).phase ≡ at.phase
-replied-phase part at job told =
-    if_on-phase (goes_on at.first (is_granted told) (second_of (ops_at part at job))) at (gone_on at (outcome at.first told)) (ended part at job.command (outcome at.first told)) refl refl
+-- a phase is waited for between commands alone, and an operation within one
+no_phase : (op : Option Op) → want_by op ≡ Phase → ⊥
+no_phase None wants = cc
+no_phase (Some op) wants = cc
+
+no_op : (early : Bool) (asked : Op) → cond early Phase Done ≡ Do asked → ⊥
+no_op true asked wants = cc
+no_op false asked wants = cc
 
 -- it is the next one where the process waits for a phase, else the same
 module _ (part : Part) (at : State) (told : Option Reply) where
-  passes-at : (job : Job) (early : Bool) (op : Option Op) → unwrap_or (want_in early op) Done ≡ Phase → (cond early (next_phase at) (replied part at job told)).phase ≡ suc at.phase
-  passes-at job true op wants = omega arith
-  passes-at job false None wants = absurd (cc)
-  passes-at job false (Some op) wants = absurd (cc)
+  passes-at : (job : Job) (stage : Stage) → want_in part at job stage ≡ Phase → (heard_at part at job stage told).phase ≡ suc at.phase
+  passes-at job Between wants = omega arith
+  passes-at job First wants = absurd (no_phase (op_in (ops_at part at job) First) wants)
+  passes-at job (Second first) wants = absurd (no_phase (op_in (ops_at part at job) (Second first)) wants)
+  passes-at job (Talking talk) wants = absurd (no_phase (op_in (ops_at part at job) (Talking talk)) wants)
+  passes-at job (Listing home last text) wants = absurd (no_phase (op_in (ops_at part at job) (Listing home last text)) wants)
 
   passes-left : (jobs : List Job) → want_left part at jobs ≡ Phase → (hear part at jobs told).phase ≡ suc at.phase
   passes-left [] wants = absurd (cc)
-  passes-left (job ∷ jobs) wants = passes-at job (is_early at.first at.phase job.phase) (next_op at.first (ops_at part at job)) wants
+  passes-left (job ∷ jobs) wants = passes-at job at.stage wants
 
-  stays-at : (job : Job) (asked : Op) (early : Bool) (op : Option Op) → unwrap_or (want_in early op) Done ≡ Do asked → (cond early (next_phase at) (replied part at job told)).phase ≡ at.phase
-  stays-at job asked true op wants = absurd (cc)
-  stays-at job asked false op wants = replied-phase part at job told
+  replied-phase : (job : Job) (stage : Stage) → (on_going (goes_on part.names (ops_at part at job) stage told) at (finished part at job.command)).phase ≡ at.phase
+  replied-phase job stage = going-phase (goes_on part.names (ops_at part at job) stage told) at (finished part at job.command) (λ outcome. refl)
+
+  stays-at : (job : Job) (asked : Op) (stage : Stage) → want_in part at job stage ≡ Do asked → (heard_at part at job stage told).phase ≡ at.phase
+  stays-at job asked Between wants = absurd (no_op (nat_lt at.phase job.phase) asked wants)
+  stays-at job asked First wants = replied-phase job First
+  stays-at job asked (Second first) wants = replied-phase job (Second first)
+  stays-at job asked (Talking talk) wants = replied-phase job (Talking talk)
+  stays-at job asked (Listing home last text) wants = replied-phase job (Listing home last text)
 
   stays-left : (jobs : List Job) (asked : Op) → want_left part at jobs ≡ Do asked → (hear part at jobs told).phase ≡ at.phase
   stays-left [] asked wants = absurd (cc)
-  stays-left (job ∷ jobs) asked wants = stays-at job asked (is_early at.first at.phase job.phase) (next_op at.first (ops_at part at job)) wants
+  stays-left (job ∷ jobs) asked wants = stays-at job asked at.stage wants
 
   step-phase : (step part at told).phase ≡ (hear part at (left part at) told).phase
-  step-phase = settle-phase part (hear part at (left part at) told) (left part (hear part at (left part at) told))
+  step-phase = settled-phase part (hear part at (left part at) told) (hear part at (left part at) told).stage
 
 -- a shell of a part that was called and has come to a phase
 record ComesTo (part : Part) (phase : ℕ) (v : Shelled) : Type 0 where
@@ -85,19 +110,21 @@ abbrev pub AsksByShell : Type 0
 AsksByShell = (s : Content) (p : ProcName) (heard : Heard) → asked_by shell_wants shell_after (shell_of s p) heard ≡ ask s p heard
 
 -- waiting for a phase, a process has a command in a later one
-early-below : (first : Option Reply) (phase wanted : ℕ) → is_early first phase wanted ≡ true → phase < wanted
-early-below None phase wanted early = grind (arith, nat_tests, early)
-early-below (Some first) phase wanted early = absurd (cc)
+awaits-early : (early : Bool) → cond early Phase Done ≡ Phase → early ≡ true
+awaits-early true wants = refl
+awaits-early false wants = absurd (cc)
 
-awaits-early : (early : Bool) (op : Option Op) → unwrap_or (want_in early op) Done ≡ Phase → early ≡ true
-awaits-early true op wants = refl
-awaits-early false None wants = absurd (cc)
-awaits-early false (Some op) wants = absurd (cc)
+awaits-at : (part : Part) (at : State) (job : Job) (stage : Stage) → want_in part at job stage ≡ Phase → at.phase < job.phase
+awaits-at part at job Between wants = let early = awaits-early (nat_lt at.phase job.phase) wants in grind (arith, nat_tests, early)
+awaits-at part at job First wants = absurd (no_phase (op_in (ops_at part at job) First) wants)
+awaits-at part at job (Second first) wants = absurd (no_phase (op_in (ops_at part at job) (Second first)) wants)
+awaits-at part at job (Talking talk) wants = absurd (no_phase (op_in (ops_at part at job) (Talking talk)) wants)
+awaits-at part at job (Listing home last text) wants = absurd (no_phase (op_in (ops_at part at job) (Listing home last text)) wants)
 
 awaits-within : (part : Part) (at : State) (last : ℕ) (jobs : List Job) → All (λ job. job.phase ≤ last) jobs → want_left part at jobs ≡ Phase → at.phase < last
 awaits-within part at last [] within wants = absurd (cc)
 awaits-within part at last (job ∷ jobs) within wants =
-    let below = early-below at.first at.phase job.phase (awaits-early (is_early at.first at.phase job.phase) (next_op at.first (ops_at part at job)) wants) in
+    let below = awaits-at part at job at.stage wants in
     let most = All-head (λ (j : Job). j.phase ≤ last) job jobs within in
     omega (arith, below, most)
 
@@ -112,7 +139,7 @@ module _ (asks_are : AsksByShell) (s : Content) (p : ProcName) where
 
   -- a shell counts the phases that it passed
   comes-to : {told : List Entry} {heard : Heard} {phase : ℕ} → Reaches (ask s p) told heard phase → ComesTo (part_of s p) phase (after heard)
-  comes-to starts = record { own = refl; called = refl; comes = settle-phase (part_of s p) beginning (left (part_of s p) beginning) }
+  comes-to starts = record { own = refl; called = refl; comes = settled-phase (part_of s p) (beginning (part_of s p)) Between }
   comes-to (answered {past} {heard} {phase} e is asks same) =
       let before = comes-to is in
       let v = after heard in

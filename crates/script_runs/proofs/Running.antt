@@ -50,9 +50,12 @@ one-report s seed last one events others run other = ap (λ (w : World). report 
 abbrev pub LedTo : (s : Content) → List Happening → World → Type 0
 LedTo s events w = (v : World) × (world_of (setup_of s) events ≡ Some v) × IsLike w v
 
+pub ends-timely : (s : Content) (seed last : ℕ) → last ≤ 2 ^ 40 → (events : List Happening) (run : IsRunOf s seed last events) → IsTimely run.picked.world
+ends-timely s seed last most events run n = let b = run.picked.ends.below n in omega (arith, b, most)
+
 module _ (s : Content) (seed last : ℕ) (most : last ≤ 2 ^ 40) (events : List Happening) (run : IsRunOf s seed last events) (led : LedTo s events run.picked.world) where
   pub led-timely : IsTimely led.0
-  led-timely n = subst (λ (x : NodeState). x.tick ≤ 2 ^ 40) (led.2.nodes n) (let b = run.picked.ends.below n in omega (arith, b, most))
+  led-timely n = subst (λ (x : NodeState). x.tick ≤ 2 ^ 40) (led.2.nodes n) (ends-timely s seed last most events run n)
 
   pub led-ended : HasEnded (setup_of s) run.picked.world → HasEnded (setup_of s) led.0
   led-ended ended n node = subst (λ (x : NodeState). is_ended (given (setup_of s) n) x ≡ true) (led.2.nodes n) (ended n node)

@@ -15,7 +15,7 @@ use Rattle.script_reader.specs.Commands.{IsCommandRow}
 use Rattle.script_reader.specs.Scripts.{Content, IsContent, IsNode}
 use Rattle.script_reader.specs.Variables.{declared_object}
 use Rattle.aegis_shell.specs.Work.{job_of, jobs_of}
-use Rattle.aegis_shell.specs.Bound.{unbound}
+use Rattle.aegis_shell.specs.Standing.{first_standing}
 use Rattle.aegis_shell.specs.Asking.{ask, reach}
 use Rattle.aegis_shell.specs.Work.{part_of}
 use Rattle.node_runs.specs.Doings.{node_numbers}
@@ -79,7 +79,7 @@ abbrev pub AskInRange : Type 0
 AskInRange = (s : Content) (p : ProcName) (heard : Heard) → IsContent s → IsNodeNumber p.node → AreNamedReplies heard → IsWant (ask s p heard)
 
 asks_done : (s : Content) (p : ProcName) (heard : Heard) → jobs_of s p ≡ [] → IsWant (ask s p heard)
-asks_done s p heard none = subst (λ jobs. IsWant (reach (part_of s p) 1 unbound jobs (reverse heard)).want) (sym none) tt
+asks_done s p heard none = subst (λ jobs. IsWant (reach (part_of s p) 1 (first_standing (part_of s p)) jobs (reverse heard)).want) (sym none) tt
 
 ranged : AskInRange → (s : Content) → IsContent s → (p : ProcName) (heard : Heard) → AreNamedReplies heard → IsWant (ask s p heard)
 ranged law s content p heard named = by_low (nat_le 1 p.node) (nat_le p.node 8) refl refl

@@ -1,15 +1,20 @@
 -- What the history of a script's run says of its processes.
-use Rattle.std.specs.Prelude.{◌≡◌, ℕ, List, map}
+use Rattle.std.specs.Prelude.{◌≡◌, ℕ, false, List, All, map}
 use Rattle.uid_names.specs.Names.{ProcName, IsProcNumber}
 use Rattle.dom_history.specs.declared.op.Entry.{Entry}
+use Rattle.dom_history.specs.declared.plan.FateRow.{FateRow}
 use Rattle.dom_history.specs.Events.{Happening}
-use Rattle.dom_history.specs.Histories.{History, entries}
-use Rattle.dom_history.specs.Follows.{Reaches, Follows, IsPhased, entries_of}
+use Rattle.dom_history.specs.Histories.{History, entries, told}
+use Rattle.dom_history.specs.Legal.{IsLegal}
+use Rattle.dom_history.specs.Runs.{AreAnswered, IsEntry}
+use Rattle.dom_history.specs.Follows.{Reaches, Follows, IsEnded, IsPhased, entries_of}
 use Rattle.script_reader.specs.Scripts.{Content}
 use Rattle.aegis_shell.specs.Asking.{ask}
-use Rattle.node_runs.specs.Runs.{World}
+use Rattle.node_runs.specs.Runs.{World, HasEnded}
 use Rattle.node_runs.specs.RunHistories.{history_of}
+use Rattle.node_runs.specs.Deliveries.{is_gone}
 use Rattle.run_calls.specs.Entries.{replies_in}
+use Rattle.run_moves.specs.HomesAtUnlocks as moves
 use Rattle.script_runs.specs.Setups.{setup_of}
 use Rattle.script_runs.specs.Runs.{heard_in}
 
@@ -21,9 +26,22 @@ script_history s events = history_of (setup_of s) events
 abbrev pub FollowsScript : Content → List Happening → Type 0
 FollowsScript s events = Follows (ask s) (script_history s events)
 
+-- it is a history of one store, without nodes or caches
+abbrev pub IsOfOneStore : Content → List Happening → Type 0
+IsOfOneStore s events = IsLegal s.opening (script_history s events)
+
+-- at each unlock of a lock that its process held, the object's home has every byte and the length of it as the history has them there, and so
+-- every page that the holder modified
+abbrev pub HomesHaveAll : Content → List Happening → Type 0
+HomesHaveAll s events = moves.HomesHaveAll (setup_of s) events
+
 -- its phases never overlap: no entry stands before one of a smaller phase, over all processes
 abbrev pub KeepsPhasesApart : Content → List Happening → Type 0
 KeepsPhasesApart s events = IsPhased (entries (script_history s events).items)
+
+-- it has ended: nothing is open, and each process has come to the end of its commands
+abbrev pub IsWhole : Content → List Happening → Type 0
+IsWhole s events = IsEnded (ask s) (script_history s events)
 
 -- the entries of a process in it, the last one by place first
 abbrev pub own_entries : Content → List Happening → ProcName → List Entry
@@ -36,3 +54,23 @@ AreRepliesHeard s events w = (p : ProcName) → IsProcNumber p.number → map (�
 -- and the operations that the script's process asked each time, each once and in its phase
 abbrev pub AreAskedHeard : Content → List Happening → World → Type 0
 AreAskedHeard s events w = (p : ProcName) → IsProcNumber p.number → (phase : ℕ) × Reaches (ask s p) (own_entries s events p) (heard_in w p) phase
+
+-- by the plan no frame is lost or late
+abbrev pub LosesNothing : List FateRow → Type 0
+LosesNothing plan = All (λ row. is_gone row.fate ≡ false) plan
+
+-- no link fault shows in it: it is its entries, without acts, and each has the very reply that the store gives over those before it
+pub record IsFaultless (s : Content) (events : List Happening) : Type 0 where
+  pub no_acts : All IsEntry (script_history s events).items
+  pub answered : AreAnswered s.opening (told (entries (script_history s events).items))
+
+-- a run of a script is as one store would have it, without nodes or caches; its nodes ended in this world
+pub record IsAsOneStore (s : Content) (events : List Happening) (w : World) : Type 0 where
+  pub ended : HasEnded (setup_of s) w
+  pub legal : IsOfOneStore s events
+  pub follows : FollowsScript s events
+  pub whole : IsWhole s events
+  pub phased : KeepsPhasesApart s events
+  pub heard : AreRepliesHeard s events w
+  pub homes : HomesHaveAll s events
+  pub faultless : LosesNothing s.plan → IsFaultless s events

@@ -2,9 +2,7 @@
 ghost use Rattle.std.specs.Prelude.{◌≡◌, ◌⊎◌, ℕ, ◌^◌, ◌≤◌, List, length, All};
 ghost use Rattle.uid_names.specs.Openings.{IsStart};
 ghost use Rattle.dom_history.specs.Events.{Happening};
-ghost use Rattle.dom_history.specs.Follows.{IsEnded};
 ghost use Rattle.script_reader.specs.Scripts.{Content, IsContent};
-ghost use Rattle.aegis_shell.specs.Asking.{ask};
 ghost use Rattle.node_runs.specs.Setups.{IsSetup};
 ghost use Rattle.node_runs.specs.Runs.{World, HasEnded};
 ghost use Rattle.world_runs.specs.ByPlace.{by_place};
@@ -15,12 +13,17 @@ ghost use Rattle.run_phases.specs.Paced.{ArePaced};
 ghost use Rattle.script_runs.specs.Setups.{setup_of};
 ghost use Rattle.script_runs.specs.Runs.{IsRunOf, ComesToTick};
 ghost use Rattle.script_runs.specs.Reports.{report_of};
-ghost use Rattle.script_runs.specs.Histories.{script_history, FollowsScript, KeepsPhasesApart, AreRepliesHeard, AreAskedHeard};
+ghost use Rattle.script_runs.specs.Histories.{IsOfOneStore, HomesHaveAll, IsAsOneStore, FollowsScript, KeepsPhasesApart, IsWhole, AreRepliesHeard, AreAskedHeard, LosesNothing, IsFaultless};
 
 use aegis_shell::laws::{asks_are_in_range, shells_go_by_all_they_heard};
 use run_calls::laws::{entries_are_what_programs_heard, histories_follow_programs};
+use run_ends::laws::no_turn_is_stuck;
+use run_moves::laws::{a_home_has_all_at_an_unlock, each_history_is_one_of_one_store};
 use run_phases::laws::{ended_runs_have_ended_histories, phases_never_overlap};
-use world_runs::laws::{a_seed_picks_one_run, events_name_nodes, turns_end};
+use world_runs::laws::{
+    a_seed_picks_one_run, each_link_fault_has_eight_notices, events_name_nodes,
+    link_faults_are_few, turns_end,
+};
 
 /// What a script gives its nodes is a set-up, of which runs can be spoken.
 pub fn scripts_set_nodes_up()
@@ -101,10 +104,70 @@ pub fn histories_are_phased()
 /// Where all nodes of a script's run have ended, its history has: nothing is open, and each process has come to its end.
 pub fn ended_nodes_end_histories()
     ensures { (s : Content) (seed last : ℕ) → IsContent s → IsStart s.opening → last ≤ 2 ^ 40 → (events : List Happening) →
-        (run : IsRunOf s seed last events) → HasEnded (setup_of s) run.picked.world → IsEnded (ask s) (script_history s events) }
+        (run : IsRunOf s seed last events) → HasEnded (setup_of s) run.picked.world → IsWhole s events }
 {
     scripts_set_nodes_up();
     scripts_are_paced();
     a_seed_picks_one_run();
     ended_runs_have_ended_histories();
+}
+
+/// A script's turns end in a run that has ended, whatever its faults, its seed and the last tick: all its nodes have, and so has its history.
+pub fn scripts_turns_end_ended()
+    ensures nodes { (s : Content) (seed last : ℕ) → IsContent s → IsStart s.opening → last ≤ 2 ^ 40 → (events : List Happening) →
+        (run : IsRunOf s seed last events) → HasEnded (setup_of s) run.picked.world }
+    ensures history { (s : Content) (seed last : ℕ) → IsContent s → IsStart s.opening → last ≤ 2 ^ 40 → (events : List Happening) →
+        IsRunOf s seed last events → IsWhole s events }
+{
+    scripts_set_nodes_up();
+    no_turn_is_stuck();
+    ended_nodes_end_histories();
+}
+
+/// The history of a script's run is one of one store, without nodes or caches: each reply is what that store says.
+pub fn histories_are_of_one_store()
+    ensures { (s : Content) (seed last : ℕ) → IsContent s → IsStart s.opening → last ≤ 2 ^ 40 → (events : List Happening) →
+        IsRunOf s seed last events → IsOfOneStore s events }
+{
+    scripts_set_nodes_up();
+    a_seed_picks_one_run();
+    each_history_is_one_of_one_store();
+}
+
+/// And at each unlock of a lock that its process held, every page that the holder modified is at its home, and the length.
+pub fn homes_have_all_at_unlocks()
+    ensures { (s : Content) (seed last : ℕ) → IsContent s → IsStart s.opening → last ≤ 2 ^ 40 → (events : List Happening) →
+        IsRunOf s seed last events → HomesHaveAll s events }
+{
+    scripts_set_nodes_up();
+    a_seed_picks_one_run();
+    a_home_has_all_at_an_unlock();
+}
+
+/// And where the plan has no frame that is lost or late, no link fault shows: the history is its entries, without acts, and each
+/// has the very reply that the store gives over those before it.
+pub fn runs_that_lose_nothing_are_faultless()
+    ensures { (s : Content) (seed last : ℕ) → IsContent s → IsStart s.opening → last ≤ 2 ^ 40 → (events : List Happening) →
+        IsRunOf s seed last events → LosesNothing s.plan → IsFaultless s events }
+{
+    scripts_set_nodes_up();
+    a_seed_picks_one_run();
+    each_link_fault_has_eight_notices();
+    link_faults_are_few();
+    histories_are_of_one_store();
+    scripts_turns_end_ended();
+}
+
+/// So a script's run is as one store would have it, without nodes or caches.
+pub fn runs_of_scripts_are_as_one_store()
+    ensures { (s : Content) (seed last : ℕ) → IsContent s → IsStart s.opening → last ≤ 2 ^ 40 → (events : List Happening) →
+        (run : IsRunOf s seed last events) → IsAsOneStore s events run.picked.world }
+{
+    scripts_turns_end_ended();
+    histories_are_of_one_store();
+    histories_follow_scripts();
+    histories_are_phased();
+    entries_are_what_scripts_heard();
+    homes_have_all_at_unlocks();
+    runs_that_lose_nothing_are_faultless();
 }

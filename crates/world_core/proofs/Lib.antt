@@ -1,6 +1,7 @@
 pub mod Comings
 pub mod OnOks
 pub mod Found
+pub mod Delivering
 pub mod Happening
 pub mod Standing
 pub mod Listing
@@ -31,3 +32,4 @@ pub mod NextWorld
 pub mod Sendable
 pub mod Turned
 pub mod Programs
+pub mod OneStore

@@ -1,5 +1,5 @@
 -- What comes to nodes, one thing after the other.
-use Rattle.std.proofs.Common.{◌≡◌, ◌≢◌, ℕ, Result, Ok, Err, OnOk, ◌+◌, ◌<◌, Bool, true, false, cond, Some, List, [], ◌∷◌, ◌++◌, length, refl, sym, ap, subst, ◌∙◌, append-nil, inl, inr, arith}
+use Rattle.std.proofs.Common.{◌≡◌, ◌≢◌, ℕ, Result, Ok, Err, OnOk, ◌<◌, Bool, true, false, cond, Some, List, [], ◌∷◌, ◌++◌, length, refl, sym, ap, subst, ◌∙◌, append-nil, inl, inr, arith}
 use Rattle.std.specs.Prelude.{◌==◌, ◌&&◌, ◌-◌, filter, slice_get, slice_set}
 use Rattle.std.proofs.lemmas.Bool.{cases_eq}
 use Rattle.std.proofs.lemmas.Option.{slice_get_within}
@@ -13,7 +13,7 @@ use Rattle.world_core.specs.declared.station.Station.{Station}
 use Rattle.world_core.specs.Stations.{open_ones, is_open_notice}
 use Rattle.world_core.specs.Listed.{IsListed}
 use Rattle.world_core.specs.Reached.{notice_if, ins_if, came_of, framed_ins, IsReached, AreReached}
-use Rattle.world_core.specs.Sending.{told, still, delivered}
+use Rattle.world_core.specs.Sending.{told, delivered}
 use Rattle.dom_history.specs.declared.plan.Fate.{Fate}
 use Rattle.ring_messages.specs.Frames.{Message}
 use Rattle.node_runs.specs.Deliveries.{is_gone}
@@ -114,14 +114,17 @@ module _ {P G : Type 0} (own : Bool) (x y : Station P G) (node : y.node ≡ x.no
     listed = λ is _. listed is;
   }
 
-  deliver-is : (ins : List LinkFrom) → y.ins.items ≡ ins → y.notices.items ≡ still own x.node x.notices.items → (own ≡ false → IsListed y) → IsReached own [] ins x y
+  deliver-is : (ins : List LinkFrom) → y.ins.items ≡ ins → y.notices ≡ x.notices → (own ≡ false → IsListed x → IsListed y) → IsReached own [] ins x y
   deliver-is ins ins-are notices listed = record {
     node = node;
     ins_are = ins-are;
-    own_notices = λ is. notices ∙ ap (λ b. still b x.node x.notices.items) is ∙ sym (append-nil x.notices.items);
-    notices = λ is _. notices ∙ ap (λ b. still b x.node x.notices.items) is ∙ ap (open_ones x.node) (sym (append-nil x.notices.items));
-    listed = λ is _. listed is;
+    own_notices = λ _. same ∙ sym (append-nil x.notices.items);
+    notices = λ _ open_are. same ∙ sym open_are ∙ ap (open_ones x.node) (sym (append-nil x.notices.items));
+    listed = listed;
   }
+    where
+      same : y.notices.items ≡ x.notices.items
+      same = ap (λ v. v.items) notices
 
 module _ {P G : Type 0} (at k : ℕ) (old : List (Station P G)) (x y : Station P G) (within : k < length old) (there : slice_get old k ≡ Some x) (node : y.node ≡ x.node) where
   pub told-one : (notice : Notice) → y.ins ≡ x.ins → y.notices.items ≡ told (k == at) x.node x.notices.items notice → ((k == at) ≡ false → IsListed y)
@@ -131,7 +134,7 @@ module _ {P G : Type 0} (at k : ℕ) (old : List (Station P G)) (x y : Station P
       (subst (λ b. IsReached (k == at) (notice_if b notice) x.ins.items x y) (sym (eq-same k)) (tell-is (k == at) x y node notice ins notices listed))
       (λ n differs. ap (λ b. notice_if b notice) (eq-other n k differs)) (λ n ls differs. refl)
 
-  pub delivered-one : (fate : Fate) (m : Message) → y.ins.items ≡ delivered at fate m x.ins.items → y.notices.items ≡ still (k == at) x.node x.notices.items → ((k == at) ≡ false → IsListed y)
+  pub delivered-one : (fate : Fate) (m : Message) → y.ins.items ≡ delivered at fate m x.ins.items → y.notices ≡ x.notices → ((k == at) ≡ false → IsListed x → IsListed y)
       → AreReached at (λ n. []) (λ n ins. ins_if (n == k) (delivered at fate m ins) ins) old (slice_set old k y)
   delivered-one fate m ins notices listed =
       reached-one at k (λ n. []) (λ n ls. ins_if (n == k) (delivered at fate m ls) ls) old x y within there

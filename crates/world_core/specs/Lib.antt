@@ -1,5 +1,7 @@
 pub mod Stations
 pub mod Listed
+pub mod OneStore
+pub mod Before
 pub mod Stands
 pub mod Ended
 pub mod Firsts

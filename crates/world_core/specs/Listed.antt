@@ -1,5 +1,5 @@
 -- A node of a world whose enabled events are listed, and what an event of it does there.
-use Rattle.std.specs.Prelude.{◌≡◌, ℕ, Bool, Option, Some, List, [], map, filter, drop, slice_get, slice_set, remove}
+use Rattle.std.specs.Prelude.{◌≡◌, ℕ, Option, Some, List, filter, drop, slice_get, slice_set, remove}
 use Rattle.dom_history.specs.declared.op.Reply.{Reply}
 use Rattle.dom_history.specs.declared.op.Want.{Want}
 use Rattle.dom_history.specs.declared.event.What.{What}
@@ -7,17 +7,14 @@ use Rattle.node_runs.specs.Setups.{Given}
 use Rattle.node_runs.specs.NodeStates.{NodeState}
 use Rattle.node_runs.specs.Incomings.{Incoming}
 use Rattle.node_runs.specs.Outcomes.{Stepped}
-use Rattle.ring_links.specs.declared.entry.Entry.{Entry}
-use Rattle.node_core.specs.declared.setup.Incoming as code
 use Rattle.node_core.specs.declared.setup.Emitted.{Emitted}
-use Rattle.node_core.specs.Receivings.{seen}
 use Rattle.node_core.specs.Nodes.{Noted, Stands, Happened}
 use Rattle.world_core.specs.declared.coming.Source as source
 use Rattle.world_core.specs.declared.coming.Source.TheVariants as sources
 use Rattle.world_core.specs.declared.notices.Notice.{Notice}
 use Rattle.world_core.specs.declared.station.LinkFrom.{LinkFrom}
 use Rattle.world_core.specs.declared.station.Station.{Station}
-use Rattle.world_core.specs.Stations.{Candidate, notice_what, notice_incoming, what_of, passes, comings, candidates}
+use Rattle.world_core.specs.Stations.{Candidate, passes, comings, candidates}
 
 -- the oldest entry of a link is taken
 abbrev pub link_less : LinkFrom → LinkFrom

@@ -1,33 +1,30 @@
 -- What a world of nodes stands for: the world of the definitions.
-use Rattle.std.specs.Prelude.{◌≡◌, ◌≢◌, ℕ, ◌+◌, ◌-◌, ◌<◌, ◌≤◌, ◌==◌, Bool, true, false, Option, Some, None, List, [], length, map, reverse, All, slice_get, IsSome}
+use Rattle.std.specs.Prelude.{◌≡◌, ◌≢◌, ℕ, ◌+◌, ◌<◌, Bool, true, false, Option, Some, None, List, [], length, map, reverse, All, slice_get, IsSome}
 use Rattle.std.specs.Option.{option_map}
 use Rattle.uid_names.specs.Names.{ProcName}
 use Rattle.dom_history.specs.declared.op.Reply.{Reply}
 use Rattle.dom_history.specs.declared.op.Want.{Want}
-use Rattle.dom_history.specs.declared.event.NodeLog.{NodeLog}
 use Rattle.dom_history.specs.declared.plan.FateRow.{FateRow}
 use Rattle.dom_history.specs.Events.{Happening}
 use Rattle.dom_history.specs.Plans.{IsPlan}
 use Rattle.dom_history.specs.Programs.{program_after}
 use Rattle.fault_handler.specs.Desks.{IsNode}
 use Rattle.node_runs.specs.Setups.{Setup, IsSetup, given}
-use Rattle.node_runs.specs.NodeStates.{NodeState, first_node, proc_of}
+use Rattle.node_runs.specs.NodeStates.{first_node, proc_of}
 use Rattle.node_runs.specs.NodesKeep.{IsTimely}
-use Rattle.node_runs.specs.Incomings.{tick_of}
 use Rattle.node_runs.specs.Runs as runs
 use Rattle.ring_links.specs.declared.entry.Waiting.{Waiting}
 use Rattle.ring_links.specs.declared.entry.Waiting.TheVariants.{Copy, Mark}
 use Rattle.ring_links.specs.Carried.{plain_link, CarriesFrames}
 use Rattle.node_core.specs.declared.setup.Incoming as code
 use Rattle.node_core.specs.declared.setup.Incoming.TheVariants as received
-use Rattle.node_core.specs.Receivings.{seen}
 use Rattle.node_core.specs.Nodes as nodes
 use Rattle.node_core.specs.Nodes.{Noted}
 use Rattle.world_runs.specs.Sendings.{sendings}
 use Rattle.world_runs.specs.Links.{link_of}
 use Rattle.world_runs.specs.OpenNotices.{open_notices}
 use Rattle.world_runs.specs.Turns.{Act, after_turns, enabled_events, turn}
-use Rattle.world_runs.specs.Draws.{EndsIn, ComesToLast}
+use Rattle.world_runs.specs.Draws.{EndsIn}
 use Rattle.world_runs.specs.ByPlace.{by_place, events_of}
 use Rattle.world_core.specs.declared.coming.Coming.{Coming}
 use Rattle.world_core.specs.declared.notices.Notice.{Notice}
@@ -36,6 +33,7 @@ use Rattle.world_core.specs.declared.station.Station.{Station}
 use Rattle.world_core.specs.declared.world.World.{World}
 use Rattle.world_core.specs.Stations.{notice_what, notice_incoming}
 use Rattle.world_core.specs.Listed.{IsListed}
+use Rattle.world_core.specs.OneStore.{IsOneStore}
 use Rattle.world_core.specs.Ended.{named}
 
 -- a listed event, as one of a node
@@ -112,12 +110,19 @@ module _ {P : Type 0} (wants : P → Want) (becomes : P → Option Reply → P) 
         → named programs p ≡ option_map (λ y. program_after becomes y (proc_of (w.nodes p.node) p.number).heard) (made p.node p.number)
     pub only : (p : ProcName) → IsSome (named programs p) → IsNode s.opening.nodes p.node
 
-  -- the turns of a seed end in a world, with these events by place and these programs
+  -- the turns of a seed end in a world in which all nodes have ended and which is as one store would have it, with these events by place and these programs
   pub record IsRunOf (plan : List FateRow) (seed last : ℕ) (events : List Happening) (programs : List (ProcName × P)) : Type 0 where
     pub world : runs.World
     pub ends : EndsIn s plan seed last world
+    pub ended : runs.HasEnded s world
+    pub one_store : IsOneStore s world
     pub events_are : events ≡ reverse (by_place world.done)
     pub programs_are : AreEnded world programs
+
+-- whether a turn was done tells whether all nodes have ended
+abbrev pub TellsEnd : Setup → runs.World → Bool → Type 0
+TellsEnd s w true = runs.HasEnded s w → ⊥
+TellsEnd s w false = runs.HasEnded s w
 
 -- no node's tick has come so far
 abbrev pub IsBelow : {P G : Type 0} → ℕ → World P G → Type 0

@@ -14,9 +14,12 @@ use dom_history::{EventList, NodeLog, Program};
 use node_core::Node;
 use page_store::Pages;
 use ring_links::{Draws, by_place};
+use run_ends::laws::no_turn_is_stuck;
+use run_moves::laws::{a_home_has_all_at_an_unlock, each_history_is_one_of_one_store};
 use std::alloc::Global;
 use thiserror::Error;
 use uid_names::{NoMemory, NodeId, ProcId};
+use world_runs::laws::turns_are_a_run_by_place;
 
 /// Why a run has no end.
 #[derive(Clone, Copy, Debug, PartialEq, Eq, Error)]
@@ -90,7 +93,7 @@ fn take_apart<P: Program, G: Pages>(
 impl<P: Program, G: Pages> World<P, G> {
     ghost use Rattle.world_core.specs.Stands.{Stands, IsRunOf};
 
-    /// Turns by the draws of a seed, until no event is enabled: all events by rising place, and the programs as they are
+    /// Turns by the draws of a seed, until all nodes have ended: all events by rising place, and the programs as they are
     /// then, by node and number. TickLimit is answered where an event gave that node the tick `last_tick`.
     pub fn run_turns(
         self,
@@ -106,6 +109,11 @@ impl<P: Program, G: Pages> World<P, G> {
         ensures limit { (n : ℕ) → IsErrOf result (faults.TickLimit n) → (made : ℕ → ℕ → Option P) (s : Setup) →
             Stands P.wants P.becomes made s self (first_world s) → ComesToLast s self.plan seed last_tick n }
     {
+        // So where no event is enabled all nodes have ended, and what was done is as one store would have it.
+        no_turn_is_stuck();
+        turns_are_a_run_by_place();
+        each_history_is_one_of_one_store();
+        a_home_has_all_at_an_unlock();
         let mut world = self;
         let mut draws = Draws::new(seed);
         for turn in 0..u64::MAX {

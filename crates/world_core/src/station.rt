@@ -1,5 +1,5 @@
 //! A node with all that may come to it.
-ghost use Rattle.std.specs.Prelude.{◌≡◌, ◌≤◌, ◌++◌, ◌∷◌, [], ℕ, true, false, map, OnOk, IfOk, length, slice_get};
+ghost use Rattle.std.specs.Prelude.{◌≡◌, ◌≤◌, ◌++◌, ◌∷◌, [], ℕ, true, false, map, take, drop, is_some, OnOk, IfOk, length, slice_get};
 ghost use Rattle.dom_history.specs.declared.event.What.TheVariants as events;
 ghost use Rattle.fault_handler.specs.Desks.{procs};
 ghost use Rattle.std.specs.List.{flat_map};
@@ -7,6 +7,7 @@ ghost use Rattle.std.specs.Option.{option_copied};
 ghost use Rattle.node_core.specs.Receivings.{seen};
 ghost use Rattle.node_core.specs.Nodes.{state_of};
 ghost use Rattle.node_runs.specs.Incomings.Incoming.{Nothing as received_nothing};
+ghost use Rattle.world_core.specs.Before.{is_before, count_before, before_link, behind_link};
 ghost use Rattle.world_core.specs.Firsts.{first_links};
 ghost use Rattle.world_core.specs.Stations.{comings, candidates, start, starts_of, notice_at, noticed, oldest, oldest_of, what_of, is_open_notice, open_ones};
 
@@ -157,6 +158,70 @@ fn put_oldest<P: Program, G: Pages>(
     }
 }
 
+/// Whether a listed event comes before that of the link at this place.
+fn is_before(coming: &Coming, at: usize) -> bool
+    ensures { result ≡ is_before at coming.now }
+{
+    match coming.source {
+        Source::Nothing => !matches!(coming.what, What::Ready(_)),
+        Source::Notice(_) => true,
+        Source::Link(i) => i < at,
+    }
+}
+
+/// How many listed events come before that of the link at this place.
+fn count_before(list: &[Coming], at: usize) -> usize
+    ensures value { result ≡ count_before at list.now }
+    ensures within { result ≤ length list.now }
+{
+    for i in 0..list.len() {
+        if !is_before(&list[i], at) {
+            return i;
+        }
+    }
+    list.len()
+}
+
+/// Puts an event at this place, if it is enabled.
+#[tactic(auto, using(crate::proofs::Delivering::put_nothing))]
+fn insert_enabled<P: Program, G: Pages>(
+    node: &Node<P, G>,
+    list: &mut Vec<Coming>,
+    place: usize,
+    coming: Coming,
+    incoming: &Incoming,
+) -> Result<(), NoMemory>
+    requires { place ≤ length list.old.items }
+    ensures { OnOk result (list.new.items ≡ take place list.old.items ++ (comings node.now (record { coming = coming; incoming = seen incoming.now } ∷ []) ++ drop place list.old.items)) }
+{
+    if !node.enabled(&coming.what, incoming) {
+        return Ok(());
+    }
+    list.insert(place, coming)?;
+    Ok(())
+}
+
+/// Puts the oldest entry of the link at the place `i` at this place.
+#[tactic(auto, using(crate::proofs::Delivering::put_nothing))]
+fn insert_oldest<P: Program, G: Pages>(
+    node: &Node<P, G>,
+    list: &mut Vec<Coming>,
+    place: usize,
+    i: usize,
+    link: &LinkFrom,
+) -> Result<(), NoMemory>
+    requires { place ≤ length list.old.items }
+    ensures { OnOk result (list.new.items ≡ take place list.old.items ++ (comings node.now (oldest_of i link.now.from link.now.link.queue) ++ drop place list.old.items)) }
+{
+    match link.link.oldest() {
+        Some(entry) => {
+            let (what, source) = (taking(link.from, entry.waiting), Source::Link(i));
+            insert_enabled(node, list, place, Coming { what, source }, &entry.received)
+        }
+        None => Ok(()),
+    }
+}
+
 /// The oldest entries of links.
 fn put_links<P: Program, G: Pages>(
     node: &Node<P, G>,
@@ -238,8 +303,28 @@ impl<P: Program, G: Pages> Station<P, G> {
         if own { Ok(()) } else { self.relist(alloc) }
     }
 
-    /// A frame of this fate comes to the link from the node at a place. The events are listed anew, unless the event that
-    /// sends it is the node's own.
+    /// Whether something waits on the link at a place.
+    fn waits(&self, at: usize) -> bool
+        requires { at < length self.now.ins.items }
+        ensures { IfSome (slice_get self.now.ins.items at) (λ l. result ≡ is_some (slice_get l.link.queue 0)) }
+    {
+        self.ins[at].link.oldest().is_some()
+    }
+
+    /// What came to the link at a place, on which nothing waited, is listed: its oldest entry, in its place.
+    fn list_oldest(&mut self, at: usize) -> Result<(), NoMemory>
+        requires within { at < length self.old.ins.items }
+        ensures listed { OnOk result (self.old.enabled.items ≡ comings self.old.node (before_link at self.old) ++ comings self.old.node (behind_link at self.old) →
+            IsListed self.new) }
+        ensures notices { self.new.notices ≡ self.old.notices }
+        ensures others { IsKept self.old self.new }
+    {
+        let place = count_before(self.enabled.as_slice(), at);
+        insert_oldest(&self.node, &mut self.enabled, place, at, &self.ins[at])
+    }
+
+    /// A frame of this fate comes to the link from the node at a place. What it changes of the list is changed, unless the
+    /// event that sends it is the node's own.
     pub(crate) fn deliver(
         &mut self,
         alloc: Global,
@@ -252,11 +337,15 @@ impl<P: Program, G: Pages> Station<P, G> {
         requires few { IfSome (slice_get self.old.ins.items at) (λ l. l.link.frames < 2 ^ 63) }
         ensures node { OnOk result (self.new.node ≡ self.old.node) }
         ensures ins { OnOk result (self.new.ins.items ≡ delivered at fate frame self.old.ins.items) }
-        ensures notices { OnOk result (self.new.notices.items ≡ still own self.old.node self.old.notices.items) }
-        ensures listed { OnOk result (own ≡ false → IsListed self.new) }
+        ensures notices { OnOk result (self.new.notices ≡ self.old.notices) }
+        ensures listed { OnOk result (own ≡ false → IsListed self.old → IsListed self.new) }
     {
+        let waits = self.waits(at);
         put(alloc, &mut self.ins[at].link, fate, frame)?;
-        if own { Ok(()) } else { self.relist(alloc) }
+        if own || waits {
+            return Ok(());
+        }
+        self.list_oldest(at)
     }
 
     /// A mark comes to the link from the node at a place. The events are listed anew.

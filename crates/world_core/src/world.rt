@@ -8,8 +8,11 @@ use crate::station::Station;
 use dom_history::{FaultPlan, Program};
 use node_core::Node;
 use page_store::Pages;
+use run_ends::laws::no_turn_is_stuck;
+use run_moves::laws::{a_home_has_all_at_an_unlock, each_history_is_one_of_one_store};
 use std::alloc::Global;
 use uid_names::NoMemory;
+use world_runs::laws::turns_are_a_run_by_place;
 
 /// All nodes on one thread, with what waits on their links by a fault plan.
 ///
@@ -22,7 +25,8 @@ pub struct World<P: Program, G: Pages> {
 }
 
 impl<P: Program, G: Pages> World<P, G> {
-    ghost use Rattle.world_core.specs.Stands.{AreNodes, Stands, IsTurn, IsTurnAt, IsBelow};
+    ghost use Rattle.world_core.specs.OneStore.{IsOneStore};
+    ghost use Rattle.world_core.specs.Stands.{AreNodes, Stands, IsTurn, IsTurnAt, TellsEnd, IsBelow};
 
     /// The world of these nodes, which are all, by number, as they were made.
     pub fn new(
@@ -79,15 +83,24 @@ impl<P: Program, G: Pages> World<P, G> {
     }
 
     /// Does the enabled event at the place `choice`, counted on from the first behind the last; false where none is
-    /// enabled. Without memory the world is spent.
+    /// enabled, which is just where all nodes have ended. What was done so far, ended or not, is as one store would have it. Without
+    /// memory the world is spent.
     pub fn turn(&mut self, alloc: Global, choice: u64) -> Result<bool, NoMemory>
         requires stands { (made : ℕ → ℕ → Option P) × (s : Setup) × (w : Done) × Stands P.wants P.becomes made s self.old w }
         requires below { IsBelow (2 ^ 40) self.old }
         ensures turn { IfOk result (λ done. (made : ℕ → ℕ → Option P) (s : Setup) (w : Done) → Stands P.wants P.becomes made s self.old w →
             IsTurn P.wants P.becomes made s self.old self.new w choice done) }
+        ensures ended { IfOk result (λ done. (made : ℕ → ℕ → Option P) (s : Setup) (w : Done) → Stands P.wants P.becomes made s self.old w →
+            TellsEnd s w done) }
+        ensures one_store { IfOk result (λ done. (made : ℕ → ℕ → Option P) (s : Setup) (w : Done) → Stands P.wants P.becomes made s self.new w →
+            IsOneStore s w) }
         ensures plan { self.new.plan ≡ self.old.plan }
         ensures spent { OnErr result (self.new.spent ≡ true) }
     {
+        no_turn_is_stuck();
+        turns_are_a_run_by_place();
+        each_history_is_one_of_one_store();
+        a_home_has_all_at_an_unlock();
         Ok(self.take_turn(alloc, choice)?.is_some())
     }
 

@@ -1,5 +1,5 @@
 //! Loads, stores, lengths and mappings.
-ghost use Rattle.std.specs.Prelude.{◌≡◌, ◌⊎◌, ◌+◌, ◌%◌, ◌≤◌, ◌<◌, true, false, is_some, length, ◌∷◌, Some, None, IsSome, IfOk, IfSome, IfNone, OnOk, OnErr, [], vec_capacity};
+ghost use Rattle.std.specs.Prelude.{◌≡◌, ◌⊎◌, ◌+◌, ◌%◌, ◌≤◌, ◌<◌, true, false, is_some, length, Some, None, IsSome, IfOk, IfSome, OnOk, OnErr, []};
 ghost use Rattle.std.specs.Option.{ForSome, option_map};
 ghost use Rattle.dom_history.specs.Locks.{is_held};
 ghost use Rattle.dom_history.specs.Ranges.{IsOp};
@@ -21,10 +21,11 @@ ghost use Rattle.fault_handler.specs.Next.{FitsTurn, IsAsked, IsNext, IsAtOnce};
 use super::Desk;
 use crate::access::{Access, Local};
 use crate::four::{index_of, others_fetch, writing_grant};
+use crate::spare::Spare;
 use crate::tasks::{Task, Work};
 use address_map::{MapRefusal, NotMapped};
 use dom_history::{Dropped, Op, Reply, Spot};
-use ring_messages::Body;
+use ring_messages::{Body, PageBytes};
 use std::alloc::Global;
 use uid_names::{ByteList, NoMemory, PAGE_BYTES, ProcId, Uid};
 
@@ -186,34 +187,32 @@ impl Desk {
         ensures outcome { IfOk result (ComesTo proc.number self.new (page_by self.old proc.number task None)) }
         ensures unchanged { OnErr result (self.new ≡ self.old) }
     {
-        let list = self.list_for_one(alloc)?;
-        Ok(self.missed(alloc, proc, task, list))
+        let spare = self.spare(alloc)?;
+        Ok(self.missed(alloc, proc, task, spare))
     }
 
-    /// An empty list, with room for the page that makes room where no frame is free.
-    pub(super) fn list_for_one(&self, alloc: Global) -> Result<Vec<(Uid, u32)>, NoMemory>
-        ensures empty { IfOk result (λ list. list.items ≡ []) }
-        ensures room { IfOk result (λ list. (0 < free_count self.now.cache) ⊎ (1 ≤ vec_capacity list)) }
+    /// What making room for a page may want, where no frame is free.
+    pub(super) fn spare(&self, alloc: Global) -> Result<Option<Spare>, NoMemory>
+        ensures { IfOk result (λ spare. (0 < free_count self.now.cache) ⊎ IsSome spare) }
     {
         if self.pages.free() > 0 {
-            return Ok(Vec::new(alloc));
+            return Ok(None);
         }
-        Ok(Vec::with_capacity(alloc, 1)?)
+        Ok(Some(Spare::new(alloc)?))
     }
 
-    /// A load or store whose page is not resident; the list is for the page that makes room. Takes no memory.
+    /// A load or store whose page is not resident, with what making room for it may want. Takes no memory.
     pub(super) fn missed(
         &mut self,
         alloc: Global,
         proc: ProcId,
         task: Task,
-        list: Vec<(Uid, u32)>,
+        spare: Option<Spare>,
     ) -> Access
         requires idle { IsIdle self.old proc.number }
         requires absent { page_at self.old.cache.pages task.uid (page_of task) ≡ None }
         requires allowed { IsAllowed self.old.entries proc.number task }
-        requires empty { list.items ≡ [] }
-        requires room { (0 < free_count self.old.cache) ⊎ (1 ≤ vec_capacity list) }
+        requires room { (0 < free_count self.old.cache) ⊎ IsSome spare }
         ensures outcome { ComesTo proc.number self.new (page_by self.old proc.number task None) result }
     {
         let uid = task.uid;
@@ -224,7 +223,11 @@ impl Desk {
         if self.pages.free() > 0 {
             return self.fetch_page(proc, task, Dropped::new(alloc));
         }
-        self.make_room(alloc, proc, task, list)
+        match spare {
+            Some(spare) => self.make_room(alloc, proc, task, spare),
+            // No frame is free.
+            None => unreachable!(),
+        }
     }
 
     /// Asks for the page of a load or store, into a frame that is free.
@@ -244,29 +247,21 @@ impl Desk {
 
     /// Makes room for the page of a load or store: a clean page is dropped, or a dirty one sent home.
     #[inline(never)]
-    fn make_room(
-        &mut self,
-        alloc: Global,
-        proc: ProcId,
-        task: Task,
-        list: Vec<(Uid, u32)>,
-    ) -> Access
+    fn make_room(&mut self, alloc: Global, proc: ProcId, task: Task, spare: Spare) -> Access
         requires idle { IsIdle self.old proc.number }
         requires full { free_count self.old.cache ≡ 0 }
         requires limit { length self.old.cache.pages + self.old.cache.reserved ≤ self.old.cache.frames }
         requires absent { page_at self.old.cache.pages task.uid (page_of task) ≡ None }
         requires alone { others_fetch self.old.moving proc.number task.uid (page_of task) ≡ false }
         requires allowed { IsAllowed self.old.entries proc.number task }
-        requires empty { list.items ≡ [] }
-        requires room { 1 ≤ vec_capacity list }
         ensures outcome { ComesTo proc.number self.new (Accessed.NeedsRoom self.old task) result }
     {
         let (uid, page, dirty) = self.chosen(proc);
         if dirty {
-            return self.evict_page(alloc, proc, task, uid, page);
+            return self.evict_page(alloc, proc, task, uid, page, spare.into_page());
         }
         self.drop_page(uid, page);
-        self.fetch_page(proc, task, dropped_one(list, uid, page))
+        self.fetch_page(proc, task, spare.dropped(uid, page))
     }
 
     /// The page that is chosen to make room, and whether it is dirty.
@@ -288,31 +283,41 @@ impl Desk {
         }
     }
 
-    /// Sends a dirty page home, to make room for that of a load or store.
+    /// Sends a dirty page home, in this place for its bytes, to make room for that of a load or store.
     #[inline(never)]
-    fn evict_page(&mut self, alloc: Global, proc: ProcId, task: Task, uid: Uid, page: u32) -> Access
+    fn evict_page(
+        &mut self,
+        alloc: Global,
+        proc: ProcId,
+        task: Task,
+        uid: Uid,
+        page: u32,
+        place: PageBytes,
+    ) -> Access
         requires idle { IsIdle self.old proc.number }
         requires dirty { is_dirty (page_at self.old.cache.pages uid page) ≡ true }
         requires still { is_marked (page_at self.old.cache.pages uid page) ≡ false }
         requires allowed { IsAllowed self.old.entries proc.number task }
         ensures outcome { IfSome (page_at self.old.cache.pages uid page) (λ r. GivesTo self.new (room_made self.old proc.number task (Victim.SendsHome r)) result) }
     {
-        let body = self.page_out(uid, page);
+        let body = self.page_out(uid, page, place);
         self.evict(proc, task, uid, page);
         Access::Need(uid.home(), body, Dropped::new(alloc))
     }
 
-    /// The request that sends a resident page home, under the grant under which its node writes the object.
-    pub(super) fn page_out(&self, uid: Uid, page: u32) -> Body
+    /// The request that sends a resident page home, in this place for its bytes, under the grant under which its node
+    /// writes the object.
+    pub(super) fn page_out(&self, uid: Uid, page: u32, mut place: PageBytes) -> Body
         requires { IsResident self.now.cache.pages uid page }
         ensures { option_map (λ r. body_of_ask (page_out self.now uid page r.bytes)) (page_at self.now.cache.pages uid page) ≡ Some result }
     {
+        place.write(self.pages.bytes(uid, page));
         Body::PageOut {
             uid,
             page,
             grant: writing_grant(&self.entries, uid),
             base: self.seen.of(uid).unwrap_or(0),
-            bytes: self.pages.bytes(uid, page),
+            bytes: place,
         }
     }
 
@@ -354,18 +359,5 @@ impl Desk {
             Ok(()) => Local::Done(Reply::Fine),
             Err(NotMapped) => Local::Refused(Reply::NotMapped),
         }
-    }
-}
-
-/// The list of the one page that was dropped, in a list with room for it.
-fn dropped_one(mut list: Vec<(Uid, u32)>, uid: Uid, page: u32) -> Dropped
-    requires empty { list.items ≡ [] }
-    requires room { 1 ≤ vec_capacity list }
-    ensures { result ≡ (uid, page) ∷ [] }
-{
-    match list.push((uid, page)) {
-        Ok(()) => Dropped::from_vec(list),
-        // There is room for one.
-        Err(_) => unreachable!(),
     }
 }

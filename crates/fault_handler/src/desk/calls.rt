@@ -1,5 +1,5 @@
 //! The further calls by which locking and unlocking read and change a desk.
-ghost use Rattle.std.specs.Prelude.{◌≡◌, ◌⊎◌, ◌≤◌, ◌<◌, ◌*◌, ℕ, true, false, length, Some, None, IsSome, IsOk, is_some, IfOk, IfSome, OnOk, OnErr};
+ghost use Rattle.std.specs.Prelude.{◌≡◌, ◌⊎◌, ◌≤◌, ◌<◌, ◌*◌, ℕ, true, false, length, Some, None, IsSome, is_some, IfOk, IfSome, OnOk, OnErr};
 ghost use Rattle.uid_names.specs.Rooms.{IsRoom, IsLength};
 ghost use Rattle.dom_history.specs.Locks.{is_free, is_held};
 ghost use Rattle.page_cache.specs.Caches.{IsResident, page_at};
@@ -22,7 +22,7 @@ use crate::open_call::OpenCall;
 use crate::transits::Transit;
 use dom_history::LockState;
 use page_cache::PageList;
-use ring_messages::Body;
+use ring_messages::{Body, PageBytes};
 use std::alloc::Global;
 use uid_names::{NoMemory, PROCESS_LOCKS, ProcId, Uid};
 
@@ -128,15 +128,21 @@ impl Desk {
     }
 
     /// Sends a page home under the process's own grant, with the seen stamp as base: the page is in
-    /// transit and counts as sent.
-    pub fn send_page(&mut self, proc: ProcId, uid: Uid, page: u32) -> Result<Body, NoMemory>
+    /// transit and counts as sent. Without memory nothing changes.
+    pub fn send_page(
+        &mut self,
+        alloc: Global,
+        proc: ProcId,
+        uid: Uid,
+        page: u32,
+    ) -> Result<Body, NoMemory>
         requires own { IsOf self.old proc }
         requires keeps { keeps (entry_at self.old.entries proc.number uid) ≡ true }
         requires other { IsNotAccessing self.old proc.number }
         requires alone { (moving_of self.old proc.number ≡ None) ⊎ (moving_of self.old proc.number ≡ going uid page) }
         requires resident { IsResident self.old.cache.pages uid page }
         requires still { (moving_of self.old proc.number ≡ None) → is_marked (page_at self.old.cache.pages uid page) ≡ false }
-        ensures sent { IsOk result }
+        ensures unchanged { OnErr result (self.new ≡ self.old) }
         ensures desk { OnOk result (self.new ≡ with_sent_page self.old proc.number uid page) }
         ensures body { IfOk result (λ body. IfSome (page_at self.old.cache.pages uid page) (λ r. body ≡ body_of_ask (own_page_out self.old proc.number uid page r.bytes))) }
     {
@@ -146,7 +152,7 @@ impl Desk {
             page,
             grant: self.entries[at].grant(uid),
             base: self.seen.of(uid).unwrap_or(0),
-            bytes: self.pages.bytes(uid, page),
+            bytes: PageBytes::new(alloc, self.pages.bytes(uid, page))?,
         };
         self.pages.send(uid, page);
         self.moving[at] = Some(Transit {

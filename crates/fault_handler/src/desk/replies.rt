@@ -1,5 +1,5 @@
 //! How a load or store goes on where a home answers, or where a link fault ends its call.
-ghost use Rattle.std.specs.Prelude.{◌≡◌, ◌⊎◌, ◌≤◌, ◌<◌, true, false, length, nat_lt, Some, None, IfOk, IfSome, OnOk, OnErr, [], vec_capacity};
+ghost use Rattle.std.specs.Prelude.{◌≡◌, ◌⊎◌, ◌≤◌, ◌<◌, true, false, length, nat_lt, Some, None, IsSome, IfOk, IfSome, OnOk, OnErr, [], vec_capacity};
 ghost use Rattle.std.specs.Option.{ForSome};
 ghost use Rattle.ring_messages.specs.Bodies.{answer_of};
 ghost use Rattle.ring_messages.specs.Ranges.{IsBody};
@@ -22,6 +22,7 @@ ghost use Rattle.fault_handler.specs.Next.{FitsTurn, IsAsked, IsOpen, IsNext};
 use super::Desk;
 use crate::access::Access;
 use crate::four::{index_of, transit_of};
+use crate::spare::{Spare, blank_page};
 use crate::tasks::{Task, Work};
 use crate::transits::Transit;
 use dom_history::{Dropped, Reply};
@@ -31,8 +32,8 @@ use uid_names::{ByteList, NoMemory, PAGE_BYTES, ProcId, Uid};
 
 impl Desk {
     /// Goes on with a load or store at the answer to its open call. It is never refused. Wants memory
-    /// only at a page that is not an old one, or where a home took the page that makes room, and without
-    /// it nothing changes.
+    /// only at a page that is not an old one, or at an answer to the page that makes room, and without it
+    /// nothing changes.
     pub fn page_came(
         &mut self,
         alloc: Global,
@@ -73,10 +74,17 @@ impl Desk {
         let transit = self.moved(proc, body);
         match body {
             Body::Page { stamp, bytes } => {
-                self.page_in_came(alloc, proc, transit.uid, transit.page, *stamp, bytes)
+                self.page_in_came(
+                    alloc,
+                    proc,
+                    transit.uid,
+                    transit.page,
+                    *stamp,
+                    bytes.bytes(),
+                )
             }
             Body::Stored { stamp } => self.page_taken(alloc, proc, transit, *stamp),
-            Body::Stale { stamp } => Ok(self.page_stale(alloc, proc, transit, *stamp)),
+            Body::Stale { stamp } => self.page_stale(alloc, proc, transit, *stamp),
             _ => unreachable!(),
         }
     }
@@ -196,42 +204,41 @@ impl Desk {
         self.kept(proc);
         // What wants memory comes first.
         let room = self.room_for_bytes(alloc, proc)?;
-        let list = self.list_for_one(alloc)?;
+        let spare = self.spare(alloc)?;
         let task = self.settle_room(proc, transit.uid, transit.page, true);
         self.raise(transit.uid, stamp);
-        Ok(self.access_anew(alloc, proc, task, room, list))
+        Ok(self.access_anew(alloc, proc, task, room, spare))
     }
 
-    /// A load or store that passed its local tests, with room for the bytes that a load takes from its page and a
-    /// list for the page that makes room. Takes no memory.
+    /// A load or store that passed its local tests, with room for the bytes that a load takes from its page and what
+    /// making room may want. Takes no memory.
     fn access_anew(
         &mut self,
         alloc: Global,
         proc: ProcId,
         task: Task,
         room: Vec<u8>,
-        list: Vec<(Uid, u32)>,
+        spare: Option<Spare>,
     ) -> Access
         requires idle { IsIdle self.old proc.number }
         requires allowed { IsAllowed self.old.entries proc.number task }
         requires no_bytes { room.items ≡ [] }
         requires bytes { loaded_size task.work ≤ vec_capacity room }
-        requires empty { list.items ≡ [] }
-        requires room { (0 < free_count self.old.cache) ⊎ (1 ≤ vec_capacity list) }
+        requires room { (0 < free_count self.old.cache) ⊎ IsSome spare }
         ensures outcome { ComesTo proc.number self.new (page_access self.old proc.number task) result }
     {
         match &task.work {
             Work::Load(count) => {
                 match self.load_page(room, task.uid, task.page(), task.start(), *count) {
                     Some(bytes) => Access::done(alloc, Reply::Bytes(bytes)),
-                    None => self.missed(alloc, proc, task, list),
+                    None => self.missed(alloc, proc, task, spare),
                 }
             }
             Work::Store(bytes) => {
                 if self.store_page(proc, task.uid, task.offset, bytes.bytes()) {
                     Access::done(alloc, Reply::Fine)
                 } else {
-                    self.missed(alloc, proc, task, list)
+                    self.missed(alloc, proc, task, spare)
                 }
             }
         }
@@ -239,17 +246,26 @@ impl Desk {
 
     /// The home did not take it, since its base was another stamp: it is sent again.
     #[inline(never)]
-    fn page_stale(&mut self, alloc: Global, proc: ProcId, transit: Transit, stamp: u64) -> Access
+    fn page_stale(
+        &mut self,
+        alloc: Global,
+        proc: ProcId,
+        transit: Transit,
+        stamp: u64,
+    ) -> Result<Access, NoMemory>
         requires access { IsAccessing self.old proc.number }
         requires going { moving_of self.old proc.number ≡ going transit.uid transit.page }
         requires stamp { 1 ≤ stamp }
-        ensures outcome { IfSome (page_at self.old.cache.pages transit.uid transit.page) (λ r. GivesTo self.new (room_sent_again (with_raised self.old r.uid stamp) r) result) }
+        ensures outcome { IfOk result (λ access. IfSome (page_at self.old.cache.pages transit.uid transit.page) (λ r. GivesTo self.new (room_sent_again (with_raised self.old r.uid stamp) r) access)) }
+        ensures unchanged { OnErr result (self.new ≡ self.old) }
     {
         self.kept(proc);
+        // What wants memory comes first.
+        let place = blank_page(alloc)?;
         self.raise(transit.uid, stamp);
-        let body = self.page_out(transit.uid, transit.page);
+        let body = self.page_out(transit.uid, transit.page, place);
         self.send_again(transit.uid, transit.page);
-        Access::Need(transit.uid.home(), body, Dropped::new(alloc))
+        Ok(Access::Need(transit.uid.home(), body, Dropped::new(alloc)))
     }
 
     /// A link fault ended the call of a process's load or store: what it moved is in transit no more.

@@ -7,7 +7,9 @@ ghost use Rattle.ring_messages.specs.ReaderFields.{byte_at, be32_at, be64_at, by
 
 use crate::frame::FrameFault;
 use crate::limits::WRITTEN_LENGTH;
+use crate::page_bytes::PageBytes;
 use byteorder::{BigEndian, ByteOrder};
+use std::alloc::Global;
 use uid_names::{Mode, NodeId, ObjKind, PAGE_BYTES, ProcId, Uid, WRITTEN_ROOM};
 
 /// Nothing is left.
@@ -54,7 +56,7 @@ pub(super) fn number64(bytes: &[u8]) -> Result<(u64, &[u8]), FrameFault>
 
 /// The bytes of a page.
 #[tactic(auto, unfolding(crate::specs::ReaderFields::bytes_at))]
-pub(super) fn page_bytes(bytes: &[u8]) -> Result<([u8; PAGE_BYTES], &[u8]), FrameFault>
+pub(super) fn page_bytes(alloc: Global, bytes: &[u8]) -> Result<(PageBytes, &[u8]), FrameFault>
     ensures { Gives (λ x. (x.0, x.1.now)) result (bytes_at bytes.now) }
 {
     if bytes.len() < PAGE_BYTES {
@@ -63,6 +65,7 @@ pub(super) fn page_bytes(bytes: &[u8]) -> Result<([u8; PAGE_BYTES], &[u8]), Fram
     let (front, rest) = bytes.split_at(PAGE_BYTES);
     let mut page = [0; PAGE_BYTES];
     page.copy_from_slice(front);
+    let page = PageBytes::new(alloc, &page)?;
     Ok((page, rest))
 }
 

@@ -9,15 +9,17 @@ use super::fields::{
     byte, count, end, length, mode, number64, object, page_bytes, proc, room, uid,
 };
 use crate::frame::FrameFault;
-use uid_names::{Mode, ObjKind, PAGE_BYTES, ProcId, Uid};
+use crate::page_bytes::PageBytes;
+use std::alloc::Global;
+use uid_names::{Mode, ObjKind, ProcId, Uid};
 
 /// The stamp, and the bytes.
 #[tactic(auto, unfolding(crate::specs::ReaderBodies::body_at))]
-pub(super) fn page(bytes: &[u8]) -> Result<(u64, [u8; PAGE_BYTES]), FrameFault>
+pub(super) fn page(alloc: Global, bytes: &[u8]) -> Result<(u64, PageBytes), FrameFault>
     ensures { (to : ℕ) → Gives (λ x. bodies.Page x.0 x.1) result (body_at kinds.Page to bytes.now) }
 {
     let (stamp, rest) = count(bytes)?;
-    let (bytes, rest) = page_bytes(rest)?;
+    let (bytes, rest) = page_bytes(alloc, rest)?;
     end(rest)?;
     Ok((stamp, bytes))
 }

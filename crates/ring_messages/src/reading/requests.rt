@@ -10,7 +10,9 @@ use super::fields::{
     byte, count, end, flag, length, mode, number64, object, own, page, page_bytes, proc, room, uid,
 };
 use crate::frame::FrameFault;
-use uid_names::{Mode, NodeId, ObjKind, PAGE_BYTES, ProcId, Uid};
+use crate::page_bytes::PageBytes;
+use std::alloc::Global;
+use uid_names::{Mode, NodeId, ObjKind, ProcId, Uid};
 
 /// The object, and the page.
 #[tactic(auto, unfolding(crate::specs::ReaderBodies::body_at))]
@@ -27,9 +29,10 @@ pub(super) fn page_in(to: NodeId, bytes: &[u8]) -> Result<(Uid, u32), FrameFault
 /// The object, the page, the grant, the base, and the bytes.
 #[tactic(auto, unfolding(crate::specs::ReaderBodies::body_at))]
 pub(super) fn page_out(
+    alloc: Global,
     to: NodeId,
     bytes: &[u8],
-) -> Result<(Uid, u32, u64, u64, [u8; PAGE_BYTES]), FrameFault>
+) -> Result<(Uid, u32, u64, u64, PageBytes), FrameFault>
     ensures { Gives (λ x. bodies.PageOut x.0 x.1 x.2 x.3 x.4) result (body_at kinds.PageOut to bytes.now) }
 {
     let (number, rest) = number64(bytes)?;
@@ -37,7 +40,7 @@ pub(super) fn page_out(
     let (page, rest) = page(rest)?;
     let (grant, rest) = count(rest)?;
     let (base, rest) = count(rest)?;
-    let (bytes, rest) = page_bytes(rest)?;
+    let (bytes, rest) = page_bytes(alloc, rest)?;
     end(rest)?;
     Ok((uid, page, grant, base, bytes))
 }

@@ -1,10 +1,10 @@
 -- What is known of a line once its place and its form were tested.
-use Rattle.std.specs.Prelude.{ℕ, ◌≡◌, ◌≤◌, false, IfSome, List, [], map}
+use Rattle.std.specs.Prelude.{ℕ, ◌≡◌, ◌≤◌, false, Some, IfSome, List, [], map}
 use Rattle.std.specs.List.{AllByRecursion}
 use Rattle.std.specs.Prelude.{bytes_eq}
 use Rattle.uid_names.specs.Rooms.{IsRoom}
 use Rattle.uid_names.specs.declared.limits.TheConstants.{NODE_PROCESSES}
-use Rattle.script_reader.specs.Arguments.{Said, Var, NewVar, Room, Offset, Count, Address, Text, Mode, Home}
+use Rattle.script_reader.specs.Arguments.{Said, Var, NewVar, Room, Offset, Count, Address, Text, Mode, Home, HomeNode, OptionalRoom, Path, OptionalPath}
 use Rattle.script_reader.specs.Commands.{IsOffset, IsCount, IsAddress}
 use Rattle.script_reader.specs.Scripts.{Content}
 use Rattle.script_reader.specs.Sayings.{Saying, Node, Object, Fault, Does, SaidFate, Lose, Twice, Late}
@@ -22,6 +22,10 @@ kind_of (Address found) = kind.Address
 kind_of (Text text) = kind.Text
 kind_of (Mode mode) = kind.Mode
 kind_of (Home name) = kind.Home
+kind_of (HomeNode name) = kind.HomeNode
+kind_of (OptionalRoom found) = kind.OptionalRoom
+kind_of (Path path) = kind.Path
+kind_of (OptionalPath path) = kind.OptionalPath
 
 -- a number that was found is in its range
 abbrev pub IsFound : Said → Type 0
@@ -29,6 +33,7 @@ IsFound (Room found) = IfSome found IsRoom
 IsFound (Offset found) = IfSome found IsOffset
 IsFound (Count found) = IfSome found IsCount
 IsFound (Address found) = IfSome found IsAddress
+IsFound (OptionalRoom (Some found)) = IfSome found IsRoom
 IsFound _ = Unit {0}
 
 -- arguments of these kinds

@@ -11,7 +11,7 @@ fn written(alloc: Global, script: &[u8], status: u8) -> Result<ByteList, Fail> {
     words.push(String::from_str(alloc, "run")?)?;
     let mut source = MemSource::new(alloc, script, &[])?;
     let mut out = MemSink::new(alloc, 10_000, &[])?;
-    let mut journal = MemSink::new(alloc, 10_000, &[])?;
+    let mut journal = MemSink::new(alloc, 200_000, &[])?;
     let ended = run_domain(alloc, words.as_slice(), &mut source, &mut out, &mut journal);
     if ended != status {
         return Err(Fail::from("another status"));
@@ -35,7 +35,7 @@ fn first_other(
 
 #[test]
 fn examples_have_their_reports(rt: HostRuntime) -> Result<(), Fail> {
-    let examples: [(&[u8], &[u8]); 11] = [
+    let examples: [(&[u8], &[u8]); 12] = [
         (
             b"# Two lines without tokens stand first.
 
@@ -218,6 +218,46 @@ a.1 4 ok 0000000000300001
 a.1 5 no lock
 a.2 1 ok 0000000000200001
 a.2 2 ok
+",
+        ),
+        (
+            b"node a
+node b
+a.1 crd //b/d
+a.1 crf //b/d/f.txt 4
+a.1 crl l //b/d
+a.1 ld l
+a.1 wd l
+a.1 crf f.txt
+a.1 bind v f.txt
+a.1 lock v w
+a.1 llkob b
+a.1 unlock v
+a.1 dlf f.txt
+a.1 ld //b/d
+a.1 dlf //b/d
+a.1 ld //
+a.1 wd /
+a.1 dlf l
+a.1 ld l
+",
+            b"a.1 1 ok
+a.1 2 ok
+a.1 3 ok
+a.1 4 ok f.txt:file
+a.1 5 ok //a/l
+a.1 6 name exists
+a.1 7 ok 0000000000300002
+a.1 8 ok
+a.1 9 ok 0000000000300002/a.1/w
+a.1 10 ok
+a.1 11 ok
+a.1 12 ok
+a.1 13 is a directory
+a.1 14 ok a:node b:node
+a.1 15 ok //a
+a.1 16 ok
+a.1 17 no name
 ",
         ),
         (

@@ -13,13 +13,13 @@ use Rattle.fault_handler.specs.Next.{IsOpen}
 use Rattle.lock_validate.specs.declared.step.Step.{Step}
 use Rattle.lock_validate.specs.Steps.{as_step}
 use Rattle.lock_validate.specs.Answers.{answered, answer_came_of, answer_at, lock_answer_of}
-use Rattle.lock_validate.specs.GrantDrops.{MayDropAt}
+use Rattle.lock_validate.specs.Wants.{MayWantAt}
 use Rattle.fault_handler.proofs.LockKeeps.{IsDesk-with_call}
 use Rattle.fault_handler.proofs.TransitKeeps.{there_is}
 use Rattle.fault_handler.proofs.Outcomes.{each-some}
 use Rattle.lock_validate.proofs.Standing.{op_of, is-open, answers-at, answer-parts}
 use Rattle.lock_validate.proofs.Answering.{answer_came_of-good}
-use Rattle.lock_validate.proofs.Dropping.{may-open}
+use Rattle.lock_validate.proofs.Dropping.{want-open}
 use Rattle.lock_validate.proofs.Outcomes.{IsTold, told}
 use Rattle.lock_validate.proofs.answers.answer_came.Goals as goal
 
@@ -43,8 +43,8 @@ returns c =
     let range : IsBody c.args.proc.node (body_of_answer parts.1) = subst (IsBody c.args.proc.node) parts.3 c.requires.range in
     let outcome : IfOk r (λ step. IfSome (answer_at oc body) (λ a. Gives as_step new (answer_came_of d p a) step)) =
     subst (λ (e : DeskState). IfOk r (λ step. IfSome (answer_at oc body) (λ a. Gives as_step new (answered e p a) step))) c.set_open_call.ensures c.answered.ensures.outcome in
-    let memory : OnErr r (IfSome (answer_at oc body) (MayDropAt (with_call d p None))) =
-    subst (λ (e : DeskState). OnErr r (IfSome (answer_at oc body) (MayDropAt e))) c.set_open_call.ensures c.answered.ensures.memory in
+    let memory : OnErr r (IfSome (answer_at oc body) (MayWantAt (with_call d p None) p)) =
+    subst (λ (e : DeskState). OnErr r (IfSome (answer_at oc body) (MayWantAt e p))) c.set_open_call.ensures c.answered.ensures.memory in
     let gives : IfOk r (Gives as_step new (answer_came_of d p found.0)) =
     IfOk-weaker r (λ (step : Step). IfSome (answer_at oc body) (λ a. Gives as_step new (answer_came_of d p a) step)) (Gives as_step new (answer_came_of d p found.0)) (λ step h. each-some (answer_at oc body) (λ a. Gives as_step new (answer_came_of d p a) step) h found.0 found.1) outcome in
     let tells : (op : Op) → IsOpen d p op → IsTold d new p op r =
@@ -54,7 +54,7 @@ returns c =
     let own = tells (op_of parts.0) (is-open d p parts.0 call_opened) in
     record {
       outcome = IfOk-weaker r (λ (step : Step). IfSome (answer_at oc body) (λ a. Gives as_step new (answer_came_of d p a) step)) (λ step. ForSome (lock_answer_of d p body) (λ a. Gives as_step new (answer_came_of d p a) step)) (λ step h a is. each-some (answer_at oc body) (λ x. Gives as_step new (answer_came_of d p x) step) h a (rw opened at is)) outcome;
-      memory = on_err_weaker r (λ h a is. may-open d p a (each-some (answer_at oc body) (MayDropAt (with_call d p None)) h a (rw opened at is))) memory;
+      memory = on_err_weaker r (λ h a is. want-open d p a (each-some (answer_at oc body) (MayWantAt (with_call d p None) p) h a (rw opened at is))) memory;
       fits = λ op open_it. (tells op open_it).fits;
       asks = own.asks;
       next = λ op open_it. (tells op open_it).next;

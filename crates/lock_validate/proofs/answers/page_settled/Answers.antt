@@ -2,3 +2,6 @@ use Rattle.lock_validate.proofs.answers.page_settled.Goals as goal
 
 pub returns-clause-outcome : goal.returns-clause-outcome
 returns-clause-outcome c = rw c.page_done.ensures.done at c.settled.ensures.outcome
+
+pub returns-clause-memory : goal.returns-clause-memory
+returns-clause-memory c = rw c.page_done.ensures.done at c.settled.ensures.memory

@@ -16,4 +16,4 @@ returns c =
     let tells = told d c.delete_by.new.desk p (ops.Delete u) (begin_delete_of d p u) c.delete_by.result
     (begin_delete_of-good d p u c.state-state.ensures.kept (omega arith, omega arith) c.requires.idle)
     gives in
-    record { done = c.delete_by.ensures.done; outcome = gives; fits = tells.fits; asks = tells.asks; next = tells.next; ready = tells.ready; node = tells.node; nodes = tells.nodes }
+    record { unchanged = c.delete_by.ensures.unchanged; memory = c.delete_by.ensures.memory; outcome = gives; fits = tells.fits; asks = tells.asks; next = tells.next; ready = tells.ready; node = tells.node; nodes = tells.nodes }

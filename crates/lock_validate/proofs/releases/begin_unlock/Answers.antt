@@ -16,4 +16,4 @@ returns c =
     let tells = told d c.unlock_by.new.desk p (ops.Unlock u) (begin_unlock_of d p u) c.unlock_by.result
     (begin_unlock_of-good d p u c.state-state.ensures.kept (omega arith, omega arith) c.requires.idle)
     gives in
-    record { done = c.unlock_by.ensures.done; outcome = gives; fits = tells.fits; asks = tells.asks; next = tells.next; ready = tells.ready; node = tells.node; nodes = tells.nodes }
+    record { unchanged = c.unlock_by.ensures.unchanged; memory = c.unlock_by.ensures.memory; outcome = gives; fits = tells.fits; asks = tells.asks; next = tells.next; ready = tells.ready; node = tells.node; nodes = tells.nodes }

@@ -5,6 +5,6 @@ new-requires c = record {
   proc_low = rw c.proc.ensures.value c.proc.ensures.ranges.proc_low;
   proc_high = rw c.proc.ensures.value c.proc.ensures.ranges.proc_high;
   number = rw c.number.ensures.value c.number.ensures.ranges.number;
-  tick = c.requires.tick;
-  body = c.requires.carried c.from.result;
+  tick = c.requires;
+  body = c.into_body.ensures.ranges c.from.result;
 }

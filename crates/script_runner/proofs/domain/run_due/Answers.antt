@@ -24,9 +24,7 @@ returns-clause-due c =
     record {
       events = ran.events;
       run = ran.run;
-      follows = ran.follows;
-      phased = ran.phased;
-      heard = ran.heard;
+      one_store = ran.one_store;
       reported = c.in_ok-text.ensures ∙ (ap (λ nodes. lines_of (map (λ n. n.name) nodes) (map answers_in c.items.result.now)) c.nodes.ensures.value ∙ ap (lines_of (names_of c.args.script.now)) rows);
       written = c.in_ok-lines.ensures ∙ (ap (λ names. journal names c.in-Ok.ran.events) names ∙ ap (journal (names_of c.args.script.now)) ran.by_place);
     }

@@ -29,6 +29,6 @@ returns-clause-ran c =
     subst (λ seed. IsRan c.args.script.now seed c.args.last_tick (record { events = c.in_ok-events.events; answers = c.in_ok-answers.answers })) c.unwrap_or.ensures
     (ran_is s c.commands.ensures.content (subst IsStart c.opening.ensures.value c.nodes-start.ensures.start) c.unwrap_or.result c.args.last_tick c.requires.few
     c.in_ok-events.events c.in_ok-events.shells.items c.in_ok-events.ensures.run c.a_seed_picks_one_run_of_a_script.ensures.planned
-    c.histories_follow_scripts.ensures c.histories_are_phased.ensures c.entries_are_what_scripts_heard.ensures.replies (c.shells_go_by_all_they_heard.ensures.answers s)
+    c.runs_of_scripts_are_as_one_store.ensures (c.shells_go_by_all_they_heard.ensures.answers s)
     c.as_slice-2.result.now procs c.in_ok-answers.answers
     (c.in_ok-answers.ensures ∙ ap (λ shells. map (row_in shells) c.as_slice-2.result.now) c.as_slice.ensures.value))

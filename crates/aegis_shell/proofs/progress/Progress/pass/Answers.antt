@@ -8,7 +8,7 @@ overflow_add-self c =
     let facts = passes-phase c.args.work.now c.args.self.now c.requires c.jobs-jobs.ensures.ranges in
     omega (arith, facts.2, ap (λ (s : State). s.phase) c.self.view_is)
 
-pub returns-clause-first : goal.returns-clause-first
-returns-clause-first c =
+pub returns-clause-stage : goal.returns-clause-stage
+returns-clause-stage c =
     let facts = passes-phase c.args.work.now c.args.self.now c.requires c.jobs-jobs.ensures.ranges in
-    ap (λ (s : State). s.first) c.self.view_is ∙ facts.1
+    ap (λ (s : State). s.stage) c.self.view_is ∙ facts.1

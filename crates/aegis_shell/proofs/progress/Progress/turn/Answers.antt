@@ -1,6 +1,6 @@
 use Rattle.std.proofs.Common.{length, sym, ◌∙◌, ap, subst, ◌≤◌}
 use Rattle.std.specs.Option.{option_copied}
-use Rattle.aegis_shell.specs.States.{State, left, settled}
+use Rattle.aegis_shell.specs.States.{State, settled}
 use Rattle.aegis_shell.specs.Shells.{state_after}
 use Rattle.aegis_shell.proofs.Turns.{asks-settled, settled-few, hears-few, on_ok, kept}
 use Rattle.aegis_shell.proofs.progress.Progress.turn.Goals as goal
@@ -21,7 +21,7 @@ returns-in-Some-clause-state c =
     let part = c.args.work.now in
     let new = c.hear.new.self in
     let asks = rw c.in-Some.is at c.in_ok-op.ensures.next in
-    sym (asks-settled part new (left part new) c.in-Some.op asks)
+    sym (asks-settled part new c.in-Some.op asks)
     ∙ (ap (settled part) c.in_ok-op.ensures.state
     ∙ ap (λ begun. state_after begun part c.args.self.now (option_copied c.args.last)) (sym c.if-not-begun.false))
 

@@ -28,6 +28,9 @@ returns-in-Stored-clause-outcome c =
 pub returns-in-Stale-clause-outcome : goal.returns-in-Stale-clause-outcome
 returns-in-Stale-clause-outcome c =
     rw c.in-Stale.is
-    (comes-sent c.args.self.now _ c.args.proc.number c.moved-transit.result c.page_stale.result c.moved-transit.ensures.moves (Answer.Stale c.in-Stale.stamp) (λ task r. PageAnswer.NotTaken task r c.in-Stale.stamp) (λ task r. refl) (λ task. refl)
+    (IfOk-weaker c.page_stale.result _ _
+    (λ access gives.
+    comes-sent c.args.self.now _ c.args.proc.number c.moved-transit.result access c.moved-transit.ensures.moves (Answer.Stale c.in-Stale.stamp) (λ task r. PageAnswer.NotTaken task r c.in-Stale.stamp) (λ task r. refl) (λ task. refl)
     (not-true c.moved-transit.result.inward (rw c.in-Stale.is at c.moved-transit.ensures.fits))
-    (some-each (task_of c.args.self.now c.args.proc.number) _ (λ task there. c.page_stale.ensures.outcome)))
+    (some-each (task_of c.args.self.now c.args.proc.number) _ (λ task there. gives)))
+    c.page_stale.ensures.outcome)

@@ -11,5 +11,5 @@ fetch_page-requires-clause-absent c = rw c.drop_page.ensures (absent-dropped c.a
 pub returns : goal.returns
 returns c = record {
   outcome = comes-dropped c.args.self.now c.fetch_page.new.self c.args.proc.number c.args.task c.chosen-uid.result.0 c.chosen-uid.result.1 c.fetch_page.result c.chosen-uid.ensures.chosen c.chosen-uid.ensures.resident
-      c.drop_page.new.self _ c.drop_page.ensures c.dropped_one.ensures (c.chosen-uid.ensures.dirty ∙ c.if-dirty.false) c.fetch_page.ensures.outcome;
+      c.drop_page.new.self _ c.drop_page.ensures c.dropped.ensures (c.chosen-uid.ensures.dirty ∙ c.if-dirty.false) c.fetch_page.ensures.outcome;
 }

@@ -16,10 +16,8 @@ pub send_again-requires : goal.send_again-requires
 send_again-requires c =
     rw c.raise.ensures (marked-going c.args.self.now c.args.proc.number c.kept.ensures.desk c.kept.ensures.process c.args.transit.uid c.args.transit.page c.requires.access c.requires.going)
 
-pub returns : goal.returns
-returns c =
+pub returns-clause-outcome : goal.returns-clause-outcome
+returns-clause-outcome c =
     let sent = c.send_again.ensures ∙ ap (λ d. with_sent_again d c.args.transit.uid c.args.transit.page) c.raise.ensures in
-    record {
-      outcome = gives-again c.args.self.now c.args.proc.number c.kept.ensures.desk c.kept.ensures.process c.args.transit.uid c.args.transit.page c.requires.access c.requires.going
-          c.send_again.new.self c.args.stamp c.home.result c.page_out-body.result c.new.result sent c.home.ensures.value (rw c.raise.ensures at c.page_out-body.ensures) c.new.ensures;
-    }
+    gives-again c.args.self.now c.args.proc.number c.kept.ensures.desk c.kept.ensures.process c.args.transit.uid c.args.transit.page c.requires.access c.requires.going
+    c.send_again.new.self c.args.stamp c.home.result c.page_out-body.result c.new.result sent c.home.ensures.value (rw c.raise.ensures at c.page_out-body.ensures) c.new.ensures

@@ -23,7 +23,7 @@ resends-requires-clause-number g c =
     let d = c.index-self-index_of.result in
     let found = calling-there (proc_of (state_of old) p).doing c.requires.called in
     let here = ap (λ (x : ProcState). x.doing) (seen-here old.procs i p (get_or old.procs i d) d c.requires.before.within.four c.index_of.ensures.bound c.index_of.ensures.value refl) in
-    let again = c.in-Some.ensures.again found.0 found.1 (sym here ∙ found.2) in
+    let again = (rw c.in-Some.is at c.in_ok-again.ensures.again) found.0 found.1 (sym here ∙ found.2) in
     again-least g.P.Program.spent g.P.Program.wants g.P.Program.becomes old c.requires.before p c.index_of.ensures.process found.0 found.1 found.2 c.in-Some.again again.0
 
 pub resends-requires-clause-range : goal.resends-requires-clause-range
@@ -34,7 +34,7 @@ resends-requires-clause-range g c =
     let d = c.index-self-index_of.result in
     let found = calling-there (proc_of (state_of old) p).doing c.requires.called in
     let here = ap (λ (x : ProcState). x.doing) (seen-here old.procs i p (get_or old.procs i d) d c.requires.before.within.four c.index_of.ensures.bound c.index_of.ensures.value refl) in
-    let again = c.in-Some.ensures.again found.0 found.1 (sym here ∙ found.2) in
+    let again = (rw c.in-Some.is at c.in_ok-again.ensures.again) found.0 found.1 (sym here ∙ found.2) in
     again-range g.P.Program.spent g.P.Program.wants g.P.Program.becomes old c.requires.before p c.index_of.ensures.process found.0 found.1 found.2 c.in-Some.again again.0
 
 pub returns-in-Some : goal.returns-in-Some
@@ -45,9 +45,9 @@ returns-in-Some g c s comes =
     let d = c.index-self-index_of.result in
     let found = calling-there (proc_of (state_of old) p).doing c.requires.called in
     let here = ap (λ (x : ProcState). x.doing) (seen-here old.procs i p (get_or old.procs i d) d c.requires.before.within.four c.index_of.ensures.bound c.index_of.ensures.value refl) in
-    let again = c.in-Some.ensures.again found.0 found.1 (sym here ∙ found.2) in
-    resent-led g.P.Program.spent g.P.Program.wants g.P.Program.becomes old c.requires.before p c.index_of.ensures.process found.0 found.1 found.2 i d c.notice-again.new.self c.resends.new.self c.resends.result c.in-Some.again []
-    c.index_of.ensures.value c.index_of.ensures.bound c.notice-again.ensures.want again.2 again.0 again.1 c.resends.ensures s comes
+    let again = (rw c.in-Some.is at c.in_ok-again.ensures.again) found.0 found.1 (sym here ∙ found.2) in
+    resent-led g.P.Program.spent g.P.Program.wants g.P.Program.becomes old c.requires.before p c.index_of.ensures.process found.0 found.1 found.2 i d c.notice.new.self c.resends.new.self c.resends.result c.in-Some.again []
+    c.index_of.ensures.value c.index_of.ensures.bound c.notice.ensures.want again.2 again.0 again.1 c.resends.ensures s comes
 
 pub gives_up-requires-clause-at : goal.gives_up-requires-clause-at
 gives_up-requires-clause-at g c =
@@ -57,7 +57,7 @@ gives_up-requires-clause-at g c =
     let d = c.index-self-index_of.result in
     let found = calling-there (proc_of (state_of old) p).doing c.requires.called in
     let here = ap (λ (x : ProcState). x.doing) (seen-here old.procs i p (get_or old.procs i d) d c.requires.before.within.four c.index_of.ensures.bound c.index_of.ensures.value refl) in
-    let e : set old.procs i c.notice-again.new.self ≡ old.procs = ap (set old.procs i) (c.in-None.ensures.none found.0 found.1 (sym here ∙ found.2)).1 ∙ set-same old.procs i d in
+    let e : set old.procs i c.notice.new.self ≡ old.procs = ap (set old.procs i) ((rw c.in-None.is at c.in_ok-again.ensures.none) found.0 found.1 (sym here ∙ found.2)).1 ∙ set-same old.procs i d in
     subst (λ ps. IsAtEvent g.P.Program.spent g.P.Program.wants (record old { procs = ps })) (sym e) c.requires.before.within
 
 pub gives_up-requires-clause-wanted : goal.gives_up-requires-clause-wanted
@@ -68,7 +68,7 @@ gives_up-requires-clause-wanted g c =
     let d = c.index-self-index_of.result in
     let found = calling-there (proc_of (state_of old) p).doing c.requires.called in
     let here = ap (λ (x : ProcState). x.doing) (seen-here old.procs i p (get_or old.procs i d) d c.requires.before.within.four c.index_of.ensures.bound c.index_of.ensures.value refl) in
-    let e : set old.procs i c.notice-again.new.self ≡ old.procs = ap (set old.procs i) (c.in-None.ensures.none found.0 found.1 (sym here ∙ found.2)).1 ∙ set-same old.procs i d in
+    let e : set old.procs i c.notice.new.self ≡ old.procs = ap (set old.procs i) ((rw c.in-None.is at c.in_ok-again.ensures.none) found.0 found.1 (sym here ∙ found.2)).1 ∙ set-same old.procs i d in
     let x : OpenOp = record { began = found.0; awaits = Await.Answer found.1 } in
     subst (λ ps. IsWanted (want_at ps p)) (sym e) (range-open g.P.Program.spent g.P.Program.wants old c.requires.before p c.index_of.ensures.process x found.2)
 
@@ -80,7 +80,7 @@ gives_up-requires-clause-call g c =
     let d = c.index-self-index_of.result in
     let found = calling-there (proc_of (state_of old) p).doing c.requires.called in
     let here = ap (λ (x : ProcState). x.doing) (seen-here old.procs i p (get_or old.procs i d) d c.requires.before.within.four c.index_of.ensures.bound c.index_of.ensures.value refl) in
-    let e : set old.procs i c.notice-again.new.self ≡ old.procs = ap (set old.procs i) (c.in-None.ensures.none found.0 found.1 (sym here ∙ found.2)).1 ∙ set-same old.procs i d in
+    let e : set old.procs i c.notice.new.self ≡ old.procs = ap (set old.procs i) ((rw c.in-None.is at c.in_ok-again.ensures.none) found.0 found.1 (sym here ∙ found.2)).1 ∙ set-same old.procs i d in
     let x : OpenOp = record { began = found.0; awaits = Await.Answer found.1 } in
     subst (λ ps. (op : Op) → want_at ps p ≡ Do op → IsInCall old.desk p op) (sym e)
     (call-open g.P.Program.spent g.P.Program.wants old c.requires.before p c.index_of.ensures.process x found.2 found.1 refl)
@@ -93,8 +93,8 @@ returns-in-None g c =
     let d = c.index-self-index_of.result in
     let found = calling-there (proc_of (state_of old) p).doing c.requires.called in
     let here = ap (λ (x : ProcState). x.doing) (seen-here old.procs i p (get_or old.procs i d) d c.requires.before.within.four c.index_of.ensures.bound c.index_of.ensures.value refl) in
-    let none = c.in-None.ensures.none found.0 found.1 (sym here ∙ found.2) in
-    let e : set old.procs i c.notice-again.new.self ≡ old.procs = ap (set old.procs i) none.1 ∙ set-same old.procs i d in
+    let none = (rw c.in-None.is at c.in_ok-again.ensures.none) found.0 found.1 (sym here ∙ found.2) in
+    let e : set old.procs i c.notice.new.self ≡ old.procs = ap (set old.procs i) none.1 ∙ set-same old.procs i d in
     IfOk-weaker c.gives_up.result _ _ (λ done moves.
     gave_up-led g.P.Program.spent g.P.Program.wants g.P.Program.becomes old c.requires.before p c.index_of.ensures.process found.0 found.1 found.2 c.gives_up.new.self done none.0
     (subst (λ ps. (begun : Place) (op : Op) → want_at ps p ≡ Do op → ForSome (failed old.desk p op) (λ m. Moves g.P.Program.spent g.P.Program.wants g.P.Program.becomes (record old { procs = ps }) c.gives_up.new.self done p begun (Accessed.Settled m))) e moves))

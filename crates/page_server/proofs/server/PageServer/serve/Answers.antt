@@ -1,28 +1,42 @@
-use Rattle.std.proofs.Common.{◌≡◌, ◌∙◌, ap, refl, Some}
-use Rattle.std.specs.Prelude.{Option, IfSome}
-use Rattle.call_once.specs.Calls.{body_of}
-use Rattle.ring_messages.specs.Bodies.{Answer}
+use Rattle.std.proofs.Common.{◌≡◌, ◌+◌, ◌<◌, ◌∙◌, ap, sym, refl, arith}
+use Rattle.ring_messages.specs.Bodies.{ask_of}
 use Rattle.ring_messages.specs.Frames.{caller_of}
-use Rattle.page_server.specs.Answers.{IsCarried}
-use Rattle.page_server.specs.KeptAnswers.{plain_answer}
-use Rattle.page_server.specs.Serving.{serve_frame}
-use Rattle.page_server.proofs.KeptAnswers.{page-told}
+use Rattle.page_server.proofs.Stamps.{AreStampedTo-weaker}
+use Rattle.ring_messages.proofs.Asking.{asked-of}
+use Rattle.page_server.proofs.Bounds.{IsServer-later}
+use Rattle.page_server.proofs.Sides.{IsServer-asked, asked-range}
+use Rattle.page_server.proofs.Rising.{asked-node}
 use Rattle.page_server.proofs.server.PageServer.serve.Goals as goal
 
--- what is answered can be carried
-carried : (answer : Option Answer) (told : Answer) → answer ≡ Some told → IfSome answer IsCarried → IsCarried told
-carried answer told is all = rw is at all
+pub fresh-requires-clause-stamps : goal.fresh-requires-clause-stamps
+fresh-requires-clause-stamps g c =
+    let tick : c.self.inside.tick ≡ c.args.self.now.tick = ap (λ s. s.tick) c.self.view_is in
+    AreStampedTo-weaker (1 + c.self.inside.tick) _ c.self.inside.home.objects (omega arith) c.self.invariant.counted.stamps
 
-pub reply-requires-clause-carried : goal.reply-requires-clause-carried
-reply-requires-clause-carried g c =
-    let answer : Option Answer = (serve_frame c.args.self.now.side c.args.frame.now).answer in
-    let kept : body_of c.caller.result c.self.inside.served ≡ answer =
-    ap (λ p. body_of p c.self.inside.served) c.caller.ensures ∙ ap (λ s. body_of (caller_of c.args.frame.now) s.side.served) c.self.view_is ∙ c.in_ok-kept.ensures.kept (rw c.in-Some.is refl) in
-    carried answer (Answer.Page c.in-Page.stamp c.page-bytes.result.now)
-    (page-told answer (body_of c.caller.result c.self.inside.served) c.in-Page.stamp c.page-bytes.result.now (rw (c.in-Some.is, c.in-Page.is) at c.in_ok-kept.ensures.told) kept c.page-bytes.ensures)
-    c.in_ok-kept.ensures.carried
+pub invariant_of-self-in-Fresh : goal.invariant_of-self-in-Fresh
+invariant_of-self-in-Fresh g c =
+    let tick : c.self.inside.tick ≡ c.args.self.now.tick = ap (λ s. s.tick) c.self.view_is in
+    let later : c.self.inside.tick < c.args.tick = omega arith in
+    let decided = c.in_ok-answer-in-Fresh.ensures in
+    let to : c.args.frame.now.to ≡ c.self.inside.home.node = c.requires.here ∙ sym (ap (λ s. s.side.home.node) c.self.view_is) in
+    IsServer-asked _ (caller_of c.args.frame.now) c.args.frame.now.number (ask_of c.args.frame.now.body) (record { home = c.fresh.new.home; locks = c.fresh.new.locks; served = c.fresh.new.served }) c.in_ok-answer-in-Fresh.answer c.args.tick c.self.invariant later
+    (asked-of c.args.frame.now.body c.requires.request) (asked-range c.self.inside.home.node c.args.frame.now.body (ask_of c.args.frame.now.body) refl (rw to at c.number.ensures.ranges.body))
+    (record { home = decided.home; locks = decided.locks; answer = decided.answer; served = decided.served })
 
-pub reply-requires-in-Plain-clause-carried : goal.reply-requires-in-Plain-clause-carried
-reply-requires-in-Plain-clause-carried g c =
-    rw c.into_body.ensures
-    (carried (serve_frame c.args.self.now.side c.args.frame.now).answer (plain_answer c.in-Plain.plain) (rw (c.in-Some.is, c.in-Plain.is) at c.in_ok-kept.ensures.told) c.in_ok-kept.ensures.carried)
+pub invariant_of-self-in-Again : goal.invariant_of-self-in-Again
+invariant_of-self-in-Again g c =
+    let tick : c.self.inside.tick ≡ c.args.self.now.tick = ap (λ s. s.tick) c.self.view_is in
+    let later : c.self.inside.tick < c.args.tick = omega arith in
+    IsServer-later _ c.args.tick c.self.invariant later
+
+pub invariant_of-self-in-Old : goal.invariant_of-self-in-Old
+invariant_of-self-in-Old g c =
+    let tick : c.self.inside.tick ≡ c.args.self.now.tick = ap (λ s. s.tick) c.self.view_is in
+    let later : c.self.inside.tick < c.args.tick = omega arith in
+    IsServer-later _ c.args.tick c.self.invariant later
+
+pub returns-in_ok-answer-in-Fresh-clause-node : goal.returns-in_ok-answer-in-Fresh-clause-node
+returns-in_ok-answer-in-Fresh-clause-node g c =
+    asked-node c.self.inside.home c.fresh.new.home c.self.inside.locks (caller_of c.args.frame.now) (ask_of c.args.frame.now.body)
+    (asked-of c.args.frame.now.body c.requires.request) c.in_ok-answer-in-Fresh.ensures.home
+    ∙ ap (λ s. s.side.home.node) c.self.view_is

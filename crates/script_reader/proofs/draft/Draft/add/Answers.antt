@@ -11,7 +11,7 @@ use Rattle.script_reader.specs.Walk.Formed.{IsFormed}
 use Rattle.script_reader.specs.Walk.Found.{AreNodesOf}
 use Rattle.script_reader.specs.Commands.{IsCommand}
 use Rattle.script_reader.specs.Walk.Seen.{seen, seen_arguments, seen_fate}
-use Rattle.script_reader.proofs.Arguing.{command_is, command_spoken}
+use Rattle.script_reader.proofs.Arguing.{command_is, command_spoken, nodes_known}
 use Rattle.script_reader.proofs.Ranges.{both_true, fate_is, is_true, node_is, nodes_apart}
 use Rattle.script_reader.proofs.draft.Draft.add.Goals as goal
 
@@ -40,7 +40,9 @@ add_command-requires-clause-range c =
     let formed = subst (λ l. IsFormed s (seen l)) c.in-Does.is c.requires.formed in
     let numbers = both_true (is_some c.in-Does.number) (list_all has_number arguments) (subst (λ l. is_no_number (seen l) ≡ false) c.in-Does.is c.requires.numbers) in
     let names = is_true (list_all has_name arguments) (subst (λ l. is_no_name (seen l) ≡ false) c.in-Does.is c.requires.names) in
-    subst (IsCommand (length s.nodes)) (sym c.in_ok-command-in-Does.ensures) (command_is s.nodes c.in-Does.verb arguments formed.1 numbers.1 names)
+    let process : ProcessWord = record { node = c.in-Does.node.now; number = c.in-Does.number } in
+    let known = both_true (is_node_name s.nodes process.node) (list_all (is_known s (proc_of s.nodes process)) arguments) (subst (λ l. is_unknown s (seen l) ≡ false) c.in-Does.is c.requires.known) in
+    subst (IsCommand (length s.nodes)) (sym c.in_ok-command-in-Does.ensures) (command_is s.nodes c.in-Does.verb arguments formed.1 numbers.1 names (nodes_known s (proc_of s.nodes process) arguments known.1))
 
 pub add_command-requires-clause-spoken : goal.add_command-requires-clause-spoken
 add_command-requires-clause-spoken c =

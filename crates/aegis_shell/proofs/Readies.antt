@@ -1,0 +1,90 @@
+-- Which machines may be told something.
+use Rattle.std.proofs.Common.{◌≡◌, ℕ, Bool, true, false, Option, Some, None, List, [], ◌∷◌, refl, sym, subst, ◌∙◌}
+use Rattle.std.specs.Prelude.{IsSome, is_some, unwrap_or}
+use Rattle.uid_names.specs.Names.{ObjectName}
+use Rattle.uid_names.specs.declared.mode.ObjKind.{ObjKind}
+use Rattle.dom_history.specs.declared.op.Op.{Op}
+use Rattle.dom_history.specs.declared.op.Reply.{Reply}
+use Rattle.script_reader.specs.declared.command.Command.{Command}
+use Rattle.script_reader.specs.declared.command.Command.TheVariants.{New, Lock, Unlock, Delete, Load, Store, Length, Map, Unmap, Loadat, Storeat, Bind, Crf, Crd, Crl, Dlf, Ld, Wd, Llkob}
+use Rattle.naming_tree.specs.declared.by_path.ByPath.{ByPath}
+use Rattle.naming_tree.specs.declared.path.Route.{Route}
+use Rattle.naming_tree.specs.declared.path.Start.{Start}
+use Rattle.naming_tree.specs.declared.site.Site.{Site}
+use Rattle.naming_tree.specs.declared.step.Walked.{Walked}
+use Rattle.naming_tree.specs.declared.step.NameResult.{NameResult}
+use Rattle.naming_tree.specs.declared.task.Task.{Task}
+use Rattle.naming_tree.specs.declared.task.Task.TheVariants as tasks
+use Rattle.naming_tree.specs.declared.walking.Walking.{Walking}
+use Rattle.naming_tree.specs.Paths.{route_of}
+use Rattle.naming_tree.specs.Turns.{FitsAsked, FitsStood}
+use Rattle.naming_tree.specs.Walking.{walking_asks, walk_of}
+use Rattle.naming_tree.specs.NamePaths.{last_of, added_alone, removed_alone, addition}
+use Rattle.naming_tree.specs.Adding.{adding_of}
+use Rattle.naming_tree.specs.Removing.{removing_of}
+use Rattle.naming_tree.specs.ByPaths.{by_path_asks, on_last, add_name_of, drop_name_of, list_dir_of}
+use Rattle.aegis_shell.specs.Plans.{talks, is_path, is_room, is_sound, talk_of}
+use Rattle.aegis_shell.specs.Standing.{site_of}
+use Rattle.aegis_shell.specs.Talks.{asked_at, talk_asks, MayBeTold}
+use Rattle.aegis_shell.specs.Work.{Part}
+use Rattle.aegis_shell.specs.declared.talk.Talk.{Talk}
+use Rattle.aegis_shell.specs.declared.talk.Talk.TheVariants.{Walk, List as ListRows, Add, Drop}
+use Rattle.aegis_shell.specs.declared.working.Working.{Working}
+use Rattle.aegis_shell.proofs.Talking.{both_true}
+
+-- one that asks something may be told a reply that fits
+stood_told : {S : Type 0} (asks : S → Option Op) (m : Option S) (reply : Reply) → FitsAsked (asked_at asks m) (Some reply) → IsSome m × FitsStood asks m (Some reply)
+stood_told asks None reply fits = absurd fits
+stood_told asks (Some state) reply fits = (refl, fits)
+
+pub talk_told : (talk : Talk) (reply : Reply) → FitsAsked (talk_asks talk) (Some reply) → MayBeTold talk (Some reply)
+talk_told (Walk m) reply fits = stood_told walking_asks m reply fits
+talk_told (ListRows m) reply fits = stood_told by_path_asks m reply fits
+talk_told (Add m) reply fits = stood_told by_path_asks m reply fits
+talk_told (Drop m) reply fits = stood_told by_path_asks m reply fits
+
+-- one before its first turn may be told nothing
+walk_begun : (site : Site) (dir : ObjectName) (route : Option Route) → is_some route ≡ true → IsSome (walk_of site true route dir) × FitsStood walking_asks (walk_of site true route dir) None
+walk_begun site dir None h = absurd cc
+walk_begun site dir (Some route) h = (refl, tt)
+
+last_begun : (site : Site) (start : Start) (dir : ObjectName) (alone : Option Walked → NameResult) (task : List ℕ → Task) (last : Option (List (List ℕ) × List ℕ))
+    → FitsStood by_path_asks (Some (on_last site start dir alone task last)) None
+last_begun site start dir alone task None = tt
+last_begun site start dir alone task (Some (front, name)) = tt
+
+list_begun : (site : Site) (dir : ObjectName) (route : Option Route) → is_some route ≡ true → IsSome (list_dir_of site route dir) × FitsStood by_path_asks (list_dir_of site route dir) None
+list_begun site dir None h = absurd cc
+list_begun site dir (Some route) h = (refl, tt)
+
+module _ (part : Part) (working : Working) where
+  add_begun : (kind : ObjKind) (room : ℕ) (text : Option (List ℕ)) (route : Option Route) → is_some route ≡ true
+      → IsSome (add_name_of (site_of part) route working.dir kind room text) × FitsStood by_path_asks (add_name_of (site_of part) route working.dir kind room text) None
+  add_begun kind room text None h = absurd cc
+  add_begun kind room text (Some route) h = (refl, last_begun (site_of part) route.start working.dir added_alone (λ name. tasks.Add (adding_of working.dir (addition kind room text name))) (last_of route.names))
+
+  drop_begun : (route : Option Route) → is_some route ≡ true → IsSome (drop_name_of (site_of part) route working.dir) × FitsStood by_path_asks (drop_name_of (site_of part) route working.dir) None
+  drop_begun None h = absurd cc
+  drop_begun (Some route) h = (refl, last_begun (site_of part) route.start working.dir removed_alone (λ name. tasks.Remove (removing_of working.dir name)) (last_of route.names))
+
+  pub talk_begun : (command : Command) → talks command ≡ true → is_sound command ≡ true → MayBeTold (talk_of part working command) None
+  talk_begun (Bind var path) t sound = walk_begun (site_of part) working.dir (route_of path) sound
+  talk_begun (Wd (Some path)) t sound = walk_begun (site_of part) working.dir (route_of path) sound
+  talk_begun (Crf path room) t sound = add_begun _ (unwrap_or room 16) None (route_of path) (both_true (is_path path) (is_room (unwrap_or room 16)) sound).0
+  talk_begun (Crd path) t sound = add_begun _ 8 None (route_of path) sound
+  talk_begun (Crl path target) t sound = add_begun _ 1 (Some target) (route_of path) (both_true (is_path path) (is_path target) sound).0
+  talk_begun (Dlf path) t sound = drop_begun (route_of path) sound
+  talk_begun (Ld path) t sound = list_begun (site_of part) working.dir (route_of path) sound
+  talk_begun (Wd None) t sound = cc
+  talk_begun (Llkob node) t sound = cc
+  talk_begun (New var room home) t sound = cc
+  talk_begun (Lock var mode) t sound = cc
+  talk_begun (Unlock var) t sound = cc
+  talk_begun (Delete var) t sound = cc
+  talk_begun (Load var offset count) t sound = cc
+  talk_begun (Store var offset text) t sound = cc
+  talk_begun (Length var) t sound = cc
+  talk_begun (Map var) t sound = cc
+  talk_begun (Unmap var) t sound = cc
+  talk_begun (Loadat address count) t sound = cc
+  talk_begun (Storeat address text) t sound = cc

@@ -1,0 +1,56 @@
+use Rattle.std.proofs.Common.{◌≡◌, true, false, Option, Some, None, ap, ◌∙◌, sym, subst}
+use Rattle.std.specs.Prelude.{MatchOption}
+use Rattle.aegis_shell.specs.AnswerTexts.{path_too_long}
+use Rattle.aegis_shell.specs.Operations.{ops_of}
+use Rattle.aegis_shell.specs.Plans.{talks, talk_of}
+use Rattle.aegis_shell.specs.States.{begins, talk_goes}
+use Rattle.aegis_shell.specs.Talks.{MayBeTold}
+use Rattle.aegis_shell.specs.declared.outcome.Outcome.TheVariants.{Written}
+use Rattle.aegis_shell.specs.declared.stage.Turn.TheVariants as turns
+use Rattle.aegis_shell.specs.declared.talk.Talk.{Talk}
+use Rattle.aegis_shell.proofs.Beginnings.{ranged_begun, talk_begins, long_begins}
+use Rattle.aegis_shell.proofs.Calls.{leads_same, leads_by, asks_any, ends_asking}
+use Rattle.aegis_shell.proofs.begin.begin.Goals as goal
+
+pub talk-requires : goal.talk-requires
+talk-requires c = c.requires
+
+pub returns-then-branch : goal.returns-then-branch
+returns-then-branch c =
+    let part = c.args.work.now in
+    let command = c.args.job.now.command in
+    let long = sym c.in_ok-is_too_long.ensures ∙ c.if-branch.true in
+    record {
+      turn = leads_by c.written.result (turns.Comes (Written path_too_long)) (begins part c.args.working.now c.args.object command) c.written.ensures
+          (long_begins part c.args.working.now c.args.object command long);
+      asks = ends_asking (ops_of part.node command c.args.object) c.written.result path_too_long c.written.ensures;
+    }
+
+pub turn_of-requires : goal.turn_of-requires
+turn_of-requires c =
+    let part = c.args.work.now in
+    let command = c.args.job.now.command in
+    let found = rw c.in-Some.is at c.in_ok-machine.ensures in
+    subst (λ (t : Talk). MayBeTold t None) (sym found.1) (ranged_begun part c.args.working.now command found.0 c.requires)
+
+pub returns-in-Some : goal.returns-in-Some
+returns-in-Some c =
+    let part = c.args.work.now in
+    let working = c.args.working.now in
+    let command = c.args.job.now.command in
+    let found = rw c.in-Some.is at c.in_ok-machine.ensures in
+    let short = sym c.in_ok-is_too_long.ensures ∙ c.if-branch.false in
+    record {
+      turn = leads_same c.turn_of.result (talk_goes c.in-Some.machine None) (begins part working c.args.object command) c.turn_of.ensures.turn
+          (ap (λ (t : Talk). talk_goes t None) found.1 ∙ talk_begins part working c.args.object command found.0 short c.requires);
+      asks = asks_any (ops_of part.node command c.args.object) c.turn_of.result c.turn_of.ensures.asks;
+    }
+
+pub begin_alone-requires-clause-range : goal.begin_alone-requires-clause-range
+begin_alone-requires-clause-range c = c.requires
+
+pub begin_alone-requires-clause-alone : goal.begin_alone-requires-clause-alone
+begin_alone-requires-clause-alone c = rw c.in-None.is at c.in_ok-machine.ensures
+
+pub returns-in-None : goal.returns-in-None
+returns-in-None c = record { turn = c.begin_alone.ensures.turn; asks = c.begin_alone.ensures.asks }

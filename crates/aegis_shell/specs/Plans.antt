@@ -1,0 +1,97 @@
+-- How a command is done: by operations one after another, by the dialogue of a name, by lists of locks, or at once.
+use Rattle.std.specs.Prelude.{ℕ, nat_lt, nat_le, Bool, true, false, ◌&&◌, cond, is_some, Option, Some, None, List, [], length, codes, ◌++◌, unwrap_or}
+use Rattle.uid_names.specs.Names.{ObjectName}
+use Rattle.uid_names.specs.declared.mode.ObjKind.TheVariants as kinds
+use Rattle.uid_names.specs.declared.limits.TheConstants.{MAX_ROOM}
+use Rattle.dom_history.specs.declared.op.Op.{Op}
+use Rattle.script_reader.specs.declared.command.Command.{Command}
+use Rattle.script_reader.specs.declared.command.Command.TheVariants.{Bind, Crf, Crd, Crl, Dlf, Ld, Wd, Llkob}
+use Rattle.naming_tree.specs.Paths.{route_of}
+use Rattle.naming_tree.specs.Dialogues.{Dialogue, Ends}
+use Rattle.naming_tree.specs.declared.step.NameResult.TheVariants.{Removed}
+use Rattle.naming_tree.specs.Walks.{walk}
+use Rattle.naming_tree.specs.Walking.{walk_of}
+use Rattle.naming_tree.specs.NamePaths.{add_name, drop_name, list_dir}
+use Rattle.naming_tree.specs.ByPaths.{add_name_of, drop_name_of, list_dir_of}
+use Rattle.aegis_shell.specs.AnswerTexts.{not_bound, path_too_long}
+use Rattle.aegis_shell.specs.Operations.{ops_of}
+use Rattle.aegis_shell.specs.Standing.{site_of, text_at}
+use Rattle.aegis_shell.specs.Work.{Part}
+use Rattle.aegis_shell.specs.declared.talk.Talk.{Talk}
+use Rattle.aegis_shell.specs.declared.talk.Talk.TheVariants as machines
+use Rattle.aegis_shell.specs.declared.working.Working.{Working}
+
+pub data Plan : Type 0 where
+  Makes : (list : List Op) → Plan
+  Talks : Plan
+  Lists : (home : ℕ) → Plan
+  Writes : (text : List ℕ) → Plan
+
+-- operations on an object; without it the command is answered so
+abbrev pub makes : Option (List Op) → Plan
+makes None = Writes not_bound
+makes (Some list) = Makes list
+
+-- the text of the directory that a command is to enter is too long
+abbrev pub is_long : Part → Working → Command → Bool
+is_long part working (Wd (Some path)) = nat_lt 256 (length (text_at part working path))
+is_long part working command = false
+
+-- a command is done by a dialogue
+abbrev pub talks : Command → Bool
+talks (Bind var path) = true
+talks (Crf path room) = true
+talks (Crd path) = true
+talks (Crl path target) = true
+talks (Dlf path) = true
+talks (Ld path) = true
+talks (Wd (Some path)) = true
+talks _ = false
+
+-- its paths are paths and its room is one, as they are in every script
+abbrev pub is_path : List ℕ → Bool
+is_path text = is_some (route_of text)
+
+abbrev pub is_room : ℕ → Bool
+is_room room = nat_le 1 room && nat_le room MAX_ROOM
+
+abbrev pub is_sound : Command → Bool
+is_sound (Bind var path) = is_path path
+is_sound (Crf path room) = is_path path && is_room (unwrap_or room 16)
+is_sound (Crd path) = is_path path
+is_sound (Crl path target) = is_path path && is_path target
+is_sound (Dlf path) = is_path path
+is_sound (Ld path) = is_path path
+is_sound (Wd (Some path)) = is_path path
+is_sound _ = true
+
+-- its dialogue is held, unless the text of the directory that it enters would be too long
+abbrev pub talk_plan : Part → Working → Command → Plan
+talk_plan part working command = cond (is_long part working command) (Writes path_too_long) (cond (is_sound command) Talks (Writes []))
+
+abbrev pub plan_of : Part → Working → Option ObjectName → Command → Plan
+plan_of part working uid (Wd None) = Writes (codes "ok " ++ working.text)
+plan_of part working uid (Llkob node) = Lists node
+plan_of part working uid command = cond (talks command) (talk_plan part working command) (makes (ops_of part.node command uid))
+
+-- the dialogue of a command that has one
+abbrev pub dialogue_of : Part → Working → Command → Dialogue
+dialogue_of part working (Bind var path) = walk (site_of part) path working.dir true
+dialogue_of part working (Crf path room) = add_name (site_of part) path working.dir kinds.File (unwrap_or room 16) None
+dialogue_of part working (Crd path) = add_name (site_of part) path working.dir kinds.Directory 8 None
+dialogue_of part working (Crl path target) = add_name (site_of part) path working.dir kinds.Link 1 (Some target)
+dialogue_of part working (Dlf path) = drop_name (site_of part) path working.dir
+dialogue_of part working (Ld path) = list_dir (site_of part) path working.dir
+dialogue_of part working (Wd (Some path)) = walk (site_of part) path working.dir true
+dialogue_of part working _ = Ends Removed
+
+-- the machine that has it, before its first turn
+abbrev pub talk_of : Part → Working → Command → Talk
+talk_of part working (Bind var path) = machines.Walk (walk_of (site_of part) true (route_of path) working.dir)
+talk_of part working (Crf path room) = machines.Add (add_name_of (site_of part) (route_of path) working.dir kinds.File (unwrap_or room 16) None)
+talk_of part working (Crd path) = machines.Add (add_name_of (site_of part) (route_of path) working.dir kinds.Directory 8 None)
+talk_of part working (Crl path target) = machines.Add (add_name_of (site_of part) (route_of path) working.dir kinds.Link 1 (Some target))
+talk_of part working (Dlf path) = machines.Drop (drop_name_of (site_of part) (route_of path) working.dir)
+talk_of part working (Ld path) = machines.List (list_dir_of (site_of part) (route_of path) working.dir)
+talk_of part working (Wd (Some path)) = machines.Walk (walk_of (site_of part) true (route_of path) working.dir)
+talk_of part working _ = machines.Walk None

@@ -1,0 +1,144 @@
+//! How commands begin.
+ghost use Rattle.std.specs.Prelude.{◌≡◌, false, codes, None, Option, List, IfOk};
+ghost use Rattle.std.specs.Option.{option_copied};
+ghost use Rattle.dom_history.specs.declared.op.Op.{Op};
+ghost use Rattle.dom_history.specs.declared.op.Op.TheVariants.{List as ListOp};
+ghost use Rattle.dom_history.specs.Ranges.{IsNodeNumber};
+ghost use Rattle.aegis_shell.specs.Ranges.{IsRanged};
+ghost use Rattle.aegis_shell.specs.Operations.{ops_of};
+ghost use Rattle.aegis_shell.specs.Plans.{is_long, makes, talks};
+ghost use Rattle.aegis_shell.specs.States.{begins as begins_so, begins_by, talk_goes};
+ghost use Rattle.aegis_shell.specs.Talks.{MayBeTold};
+ghost use Rattle.aegis_shell.specs.Turns.{going, AsksIn};
+ghost use Rattle.aegis_shell.specs.declared.outcome.Outcome.TheVariants.{Written};
+ghost use Rattle.aegis_shell.specs.declared.stage.Stage.TheVariants.{Lists};
+ghost use Rattle.aegis_shell.specs.declared.stage.Turn.TheVariants.{Goes, Comes};
+
+use crate::names::directory_text;
+use crate::naming::talk;
+use crate::operation::first_operation;
+use crate::outcome::Outcome;
+use crate::stage::{Stage, Turn};
+use crate::talk::Talk;
+use crate::work::{Job, Work};
+use crate::working::Working;
+use dom_history::{Op, Reply};
+use naming_tree::NameStep;
+use script_reader::Command;
+use std::alloc::Global;
+use uid_names::{ByteList, NoMemory, NodeId, Uid};
+
+/// The most bytes of a working directory's text.
+const MAX_TEXT: usize = 256;
+
+/// A machine that is told this.
+pub fn turn_of(alloc: Global, mut talk: Talk, last: Option<&Reply>) -> Result<Turn, NoMemory>
+    requires { MayBeTold talk (option_copied last) }
+    ensures turn { IfOk result (λ turn. going turn ≡ talk_goes talk (option_copied last.entry)) }
+    ensures asks { IfOk result (λ turn. (list : Option (List Op)) → AsksIn list turn) }
+{
+    match talk.next(alloc, last)? {
+        NameStep::Do(op) => Ok(Turn::Goes(Stage::Talks(talk), op)),
+        NameStep::Over(come) => Ok(Turn::Comes(Outcome::Came(come))),
+    }
+}
+
+/// An answer that is written at once.
+fn written(alloc: Global, text: &[u8]) -> Result<Turn, NoMemory>
+    ensures { IfOk result (λ turn. turn ≡ Comes (Written text.now)) }
+{
+    let text = ByteList::from_slice(alloc, text)?;
+    Ok(Turn::Comes(Outcome::Written(text)))
+}
+
+/// The beginning of a list of the locks of a home.
+fn list(alloc: Global, home: NodeId) -> Result<Turn, NoMemory>
+    ensures turn { IfOk result (λ turn. turn ≡ Goes (Lists home None (codes "ok")) (ListOp home None)) }
+    ensures range { IfOk result (λ turn. IsNodeNumber home) }
+{
+    let _number = home.number();
+    let text = ByteList::from_slice(alloc, b"ok")?;
+    let stage = Stage::Lists(home, None, text);
+    Ok(Turn::Goes(stage, Op::List { home, after: None }))
+}
+
+/// The beginning of a command that makes operations on this object, or lacks it.
+#[tactic(auto, using(crate::proofs::Beginnings::makes_first, crate::proofs::Beginnings::lacks_object))]
+fn operate(
+    alloc: Global,
+    work: &Work,
+    working: &Working,
+    command: &Command,
+    object: Option<Uid>,
+) -> Result<Turn, NoMemory>
+    requires { IsRanged command.now }
+    ensures turn { IfOk result (λ turn. going turn ≡ begins_by work.now working.now command.now (makes (ops_of work.now.node command.now object))) }
+    ensures asks { IfOk result (AsksIn (ops_of work.now.node command.now object)) }
+{
+    match first_operation(alloc, work.node(), command, object)? {
+        Some(op) => Ok(Turn::Goes(Stage::First, op)),
+        None => written(alloc, b"not bound"),
+    }
+}
+
+/// Whether the command enters a directory whose text would be too long.
+fn is_too_long(
+    alloc: Global,
+    work: &Work,
+    working: &Working,
+    command: &Command,
+) -> Result<bool, NoMemory>
+    ensures { IfOk result (λ long. long ≡ is_long work.now working.now command.now) }
+{
+    match command {
+        Command::Wd { path: Some(path) } => {
+            let text = working.text_at(alloc, work, path.bytes())?;
+            Ok(text.bytes().len() > MAX_TEXT)
+        }
+        _ => Ok(false),
+    }
+}
+
+/// The beginning of a command that has no dialogue.
+fn begin_alone(
+    alloc: Global,
+    work: &Work,
+    working: &Working,
+    command: &Command,
+    object: Option<Uid>,
+) -> Result<Turn, NoMemory>
+    requires range { IsRanged command.now }
+    requires alone { talks command.now ≡ false }
+    ensures turn { IfOk result (λ turn. going turn ≡ begins_so work.now working.now object command.now) }
+    ensures asks { IfOk result (AsksIn (ops_of work.now.node command.now object)) }
+{
+    match command {
+        Command::Wd { path: _ } => {
+            let text = directory_text(alloc, working.text.bytes())?;
+            Ok(Turn::Comes(Outcome::Written(text)))
+        }
+        Command::Llkob { node } => list(alloc, *node),
+        _ => operate(alloc, work, working, command, object),
+    }
+}
+
+/// The beginning of a job that works on this object.
+pub fn begin(
+    alloc: Global,
+    work: &Work,
+    job: &Job,
+    object: Option<Uid>,
+    working: &Working,
+) -> Result<Turn, NoMemory>
+    requires { IsRanged job.now.command }
+    ensures turn { IfOk result (λ turn. going turn ≡ begins_so work.now working.now object job.now.command) }
+    ensures asks { IfOk result (AsksIn (ops_of work.now.node job.now.command object)) }
+{
+    if is_too_long(alloc, work, working, &job.command)? {
+        return written(alloc, b"path too long");
+    }
+    match talk(alloc, work, working, &job.command)? {
+        Some(machine) => turn_of(alloc, machine, None),
+        None => begin_alone(alloc, work, working, &job.command, object),
+    }
+}

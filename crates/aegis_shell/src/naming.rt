@@ -1,0 +1,154 @@
+//! How commands on names begin.
+ghost use Rattle.std.specs.Prelude.{◌≡◌, true, false, None, Some, MatchOption, IfOk, IfSome, IsSome, unwrap_or};
+ghost use Rattle.uid_names.specs.Rooms.{IsRoom};
+ghost use Rattle.uid_names.specs.declared.mode.ObjKind.TheVariants.{File, Link};
+ghost use Rattle.naming_tree.specs.Additions.{IsText};
+ghost use Rattle.naming_tree.specs.Paths.{route_of};
+ghost use Rattle.naming_tree.specs.Walking.{walk_of};
+ghost use Rattle.naming_tree.specs.ByPaths.{add_name_of, drop_name_of, list_dir_of};
+ghost use Rattle.aegis_shell.specs.Ranges.{IsRanged};
+ghost use Rattle.aegis_shell.specs.Standing.{site_of};
+ghost use Rattle.aegis_shell.specs.Plans.{talk_of, talks};
+ghost use Rattle.aegis_shell.specs.declared.talk.Talk.TheVariants.{Walk as WalkTalk, List as ListTalk, Add as AddTalk, Drop as DropTalk};
+
+use crate::talk::Talk;
+use crate::work::Work;
+use crate::working::Working;
+use dom_history::NodeNames;
+use naming_tree::{AddName, DropName, ListDir, Site, Walk};
+use script_reader::Command;
+use std::alloc::Global;
+use uid_names::{ByteList, NoMemory, ObjKind, Uid};
+
+/// The room of a file where a command says none, in pages.
+const FILE_ROOM: u32 = 16;
+
+/// The room of a directory, and that of a link.
+const DIRECTORY_ROOM: u32 = 8;
+
+const LINK_ROOM: u32 = 1;
+
+/// Where the names of a process's commands are looked up.
+fn site(alloc: Global, work: &Work) -> Result<Site, NoMemory>
+    ensures { IfOk result (λ site. site ≡ site_of work.now) }
+{
+    // A node at least has a name, and no two have one.
+    let _nodes = work.names().len();
+    Ok(Site {
+        own: work.node(),
+        names: NodeNames::from_list(alloc, work.names().items())?,
+    })
+}
+
+/// A walk along a path, at whose end a link is followed.
+fn walk(alloc: Global, work: &Work, dir: Uid, path: &[u8]) -> Result<Talk, NoMemory>
+    requires { IsSome (route_of path.now) }
+    ensures { IfOk result (λ talk. talk ≡ WalkTalk (walk_of (site_of work.now) true (route_of path.now) dir)) }
+{
+    let site = site(alloc, work)?;
+    Ok(Talk::Walk(Walk::new(alloc, site, path, dir, true)?))
+}
+
+/// The addition of a name with an object.
+fn add(
+    alloc: Global,
+    work: &Work,
+    dir: Uid,
+    path: &[u8],
+    kind: ObjKind,
+    room: u32,
+    text: Option<ByteList>,
+) -> Result<Talk, NoMemory>
+    requires path { IsSome (route_of path.now) }
+    requires room { IsRoom room }
+    requires text { IsText kind text }
+    ensures { IfOk result (λ talk. talk ≡ AddTalk (add_name_of (site_of work.now) (route_of path.now) dir kind room text)) }
+{
+    let site = site(alloc, work)?;
+    let machine = AddName::new(alloc, site, path, dir, kind, room, text)?;
+    Ok(Talk::Add(machine))
+}
+
+/// The addition of a file; where no room is said it is that of a file.
+#[tactic(auto, using(crate::proofs::Beginnings::room_or))]
+fn add_file(
+    alloc: Global,
+    work: &Work,
+    dir: Uid,
+    path: &[u8],
+    room: Option<u32>,
+) -> Result<Talk, NoMemory>
+    requires path { IsSome (route_of path.now) }
+    requires room { IfSome room IsRoom }
+    ensures { IfOk result (λ talk. talk ≡ AddTalk (add_name_of (site_of work.now) (route_of path.now) dir File (unwrap_or room 16) None)) }
+{
+    let room = room.unwrap_or(FILE_ROOM);
+    add(alloc, work, dir, path, ObjKind::File, room, None)
+}
+
+/// The addition of a link that stands for a path.
+fn add_link(
+    alloc: Global,
+    work: &Work,
+    dir: Uid,
+    path: &[u8],
+    target: &ByteList,
+) -> Result<Talk, NoMemory>
+    requires path { IsSome (route_of path.now) }
+    requires target { IsSome (route_of target.now) }
+    ensures { IfOk result (λ talk. talk ≡ AddTalk (add_name_of (site_of work.now) (route_of path.now) dir Link 1 (Some target.now))) }
+{
+    let text = Some(target.copy(alloc)?);
+    add(alloc, work, dir, path, ObjKind::Link, LINK_ROOM, text)
+}
+
+/// The removal of a name.
+fn drop_name(alloc: Global, work: &Work, dir: Uid, path: &[u8]) -> Result<Talk, NoMemory>
+    requires { IsSome (route_of path.now) }
+    ensures { IfOk result (λ talk. talk ≡ DropTalk (drop_name_of (site_of work.now) (route_of path.now) dir)) }
+{
+    let site = site(alloc, work)?;
+    Ok(Talk::Drop(DropName::new(alloc, site, path, dir)?))
+}
+
+/// The list of a directory.
+fn list_dir(alloc: Global, work: &Work, dir: Uid, path: &[u8]) -> Result<Talk, NoMemory>
+    requires { IsSome (route_of path.now) }
+    ensures { IfOk result (λ talk. talk ≡ ListTalk (list_dir_of (site_of work.now) (route_of path.now) dir)) }
+{
+    let site = site(alloc, work)?;
+    Ok(Talk::List(ListDir::new(alloc, site, path, dir)?))
+}
+
+/// The machine of a command, before its first turn; None for a command that has none.
+pub fn talk(
+    alloc: Global,
+    work: &Work,
+    working: &Working,
+    command: &Command,
+) -> Result<Option<Talk>, NoMemory>
+    requires { IsRanged command.now }
+    ensures { IfOk result (λ found. MatchOption found (talks command.now ≡ false) (λ talk. (talks command.now ≡ true) × (talk ≡ talk_of work.now working.now command.now))) }
+{
+    let dir = working.dir;
+    match command {
+        Command::Bind { var: _, path } => Ok(Some(walk(alloc, work, dir, path.bytes())?)),
+        Command::Crf { path, room } => {
+            Ok(Some(add_file(alloc, work, dir, path.bytes(), *room)?))
+        }
+        Command::Crd { path } => {
+            let kind = ObjKind::Directory;
+            Ok(Some(add(alloc, work, dir, path.bytes(), kind, DIRECTORY_ROOM, None)?))
+        }
+        Command::Crl { path, target } => {
+            Ok(Some(add_link(alloc, work, dir, path.bytes(), target)?))
+        }
+        Command::Dlf { path } => Ok(Some(drop_name(alloc, work, dir, path.bytes())?)),
+        Command::Ld { path } => Ok(Some(list_dir(alloc, work, dir, path.bytes())?)),
+        Command::Wd { path } => match path {
+            Some(path) => Ok(Some(walk(alloc, work, dir, path.bytes())?)),
+            None => Ok(None),
+        },
+        _ => Ok(None),
+    }
+}

@@ -1,0 +1,16 @@
+pub mod ItemSteps
+pub mod Decisions
+pub mod Traces
+pub mod Answers
+pub mod Raising
+pub mod Settling
+pub mod Gone
+pub mod Shown
+pub mod Calls
+pub mod Lawful
+pub mod Quiet
+pub mod Decided
+pub mod Sending
+pub mod Moved
+pub mod Steps
+pub mod Keeping

@@ -1,0 +1,3 @@
+pub mod NotedEffects
+pub mod NotedDeeds
+pub mod NotedRooms

@@ -1,0 +1,4 @@
+pub mod KnownRuns
+pub mod MovedHistories
+pub mod HomesAtUnlocks
+pub mod DoubtfulRun

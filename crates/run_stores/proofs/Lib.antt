@@ -1,0 +1,16 @@
+pub mod PageChanges
+pub mod Middle
+pub mod StoredBytes
+pub mod Keepers
+pub mod ReadsRight
+pub mod NotedStores
+pub mod Doings
+pub mod Moved
+pub mod Endings
+pub mod Stepping
+pub mod StoresRun
+pub mod LoadedPages
+pub mod StandingRows
+pub mod WholeHomes
+pub mod GivenBack
+pub mod StoresAre
