@@ -100,7 +100,10 @@ impl Walk {
         let alloc = self.process.alloc;
         let start = self.draws.below(1024) as usize;
         let count = 1 + self.draws.below(1024) as usize;
-        let text = ByteList::from_slice(alloc, &self.letters.bytes()[start..start + count])?;
+        let text = match self.letters.bytes().get(start..start + count) {
+            Some(letters) => ByteList::from_slice(alloc, letters)?,
+            None => return Err(Fail::from("too few letters")),
+        };
         let file = self.file(at)?;
         let has_room = file.append(text.bytes())?;
         let machine = appending(alloc, file.uid, text.bytes())?;
