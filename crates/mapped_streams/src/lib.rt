@@ -4,13 +4,21 @@
 mod append;
 mod copy;
 mod count_lines;
+#[cfg(test)]
+mod file_tests;
 mod gathered;
 pub mod laws;
 mod machine;
 mod mapped;
 mod read_all;
+#[cfg(test)]
+mod refusal_tests;
+#[cfg(test)]
+mod served;
 mod step;
 mod streaming;
+#[cfg(test)]
+mod walk_tests;
 mod work;
 
 pub use append::Append;
