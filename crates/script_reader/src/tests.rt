@@ -1,3 +1,5 @@
+mod generated;
+
 use super::*;
 use dom_history::Fate;
 use std::alloc::Global;
