@@ -141,11 +141,7 @@ fn generated_due(alloc: Global, seed: u64, turns: Option<u64>) -> Result<Due, Ru
 }
 
 /// What is due for the script that is asked for; a source is read only for one that is not generated.
-fn asked_due<S: Source>(
-    alloc: Global,
-    asked: Asked,
-    script: &mut S,
-) -> Result<Due, RunEnd>
+fn asked_due<S: Source>(alloc: Global, asked: Asked, script: &mut S) -> Result<Due, RunEnd>
     ensures due { IfOk result (IsDueText asked.origin (S.left script.old) (seed_of asked.turns)) }
     ensures read_fault { IsErrOf result RunEnd.ReadFault → CountRose (S.faults script.old) (S.faults script.new) }
     ensures read { IsErrOf result RunEnd.ReadFault → asked.origin ≡ Read }

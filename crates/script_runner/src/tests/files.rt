@@ -138,7 +138,9 @@ fn two_more(alloc: Global, count: usize) -> Result<ByteList, Fail> {
     let text = vec![in alloc; b'x'; count]?;
     let mut script = ByteList::from_slice(alloc, b"node a\na.1 crf f 1\na.1 apf f \"")?;
     script.extend(text.as_slice())?;
-    script.extend(b"\"\na.1 apf f \"yz\"\na.1 bind v f\na.1 lock v r\na.1 length v\na.1 load v 1022 2\na.1 llkob a\n")?;
+    script.extend(
+        b"\"\na.1 apf f \"yz\"\na.1 bind v f\na.1 lock v r\na.1 length v\na.1 load v 1022 2\na.1 llkob a\n",
+    )?;
     written(alloc, script.bytes(), 0)
 }
 

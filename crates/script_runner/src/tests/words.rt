@@ -48,8 +48,22 @@ fn five_lists_of_words_are_taken(rt: HostRuntime) -> Result<(), Fail> {
     assert!(rt; asks(rt.alloc(), &["run"], Origin::Read, None)?);
     assert!(rt; asks(rt.alloc(), &["run", "--turns", "7"], Origin::Read, Some(7))?);
     assert!(rt; asks(rt.alloc(), &["gen", "5"], generated, None)?);
-    assert!(rt; asks(rt.alloc(), &["gen", "5", "--turns", "7"], generated, Some(7))?);
-    assert!(rt; asks(rt.alloc(), &["gen", "--turns", "7", "5"], generated, Some(7))?);
+    assert!(rt;
+        asks(
+            rt.alloc(),
+            &["gen", "5", "--turns", "7"],
+            generated,
+            Some(7)
+        )?
+    );
+    assert!(rt;
+        asks(
+            rt.alloc(),
+            &["gen", "--turns", "7", "5"],
+            generated,
+            Some(7)
+        )?
+    );
     Ok(())
 }
 
@@ -69,7 +83,14 @@ fn turns_are_any_number_below_two_to_the_64(rt: HostRuntime) -> Result<(), Fail>
 #[test]
 fn seeds_are_any_number_below_two_to_the_64(rt: HostRuntime) -> Result<(), Fail> {
     assert!(rt; asks(rt.alloc(), &["gen", "0"], Origin::Generated(0), None)?);
-    assert!(rt; asks(rt.alloc(), &["gen", "18446744073709551615"], Origin::Generated(u64::MAX), None)?);
+    assert!(rt;
+        asks(
+            rt.alloc(),
+            &["gen", "18446744073709551615"],
+            Origin::Generated(u64::MAX),
+            None
+        )?
+    );
     let others: [&[&str]; 5] = [
         &["gen", "18446744073709551616"],
         &["gen", "01"],
