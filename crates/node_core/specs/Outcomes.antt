@@ -14,7 +14,7 @@ use Rattle.ring_messages.specs.Frames.{Message}
 use Rattle.fault_handler.specs.Outcomes.{Turn}
 use Rattle.fault_handler.specs.Accesses.{Accessed}
 use Rattle.node_runs.specs.Setups.{Given}
-use Rattle.node_runs.specs.NodeStates.{NodeState, proc_of, with_proc}
+use Rattle.node_runs.specs.NodeStates.{proc_of, with_proc}
 use Rattle.node_runs.specs.Notes.{Note}
 use Rattle.node_runs.specs.Outcomes.{Stepped, Stage, sending, dropping, turned, moved}
 use Rattle.node_runs.specs.Doings.{Doing, hears_said}

@@ -1,5 +1,5 @@
 //! A process begins what its program wants, or goes on with it after a wait.
-ghost use Rattle.std.specs.Prelude.{◌≡◌, ◌≤◌, length, ◌&&◌, nat_le, true, false, Some, None, IsSome, IfOk};
+ghost use Rattle.std.specs.Prelude.{◌≡◌, ◌≤◌, length, ◌&&◌, nat_le, true, false, Some, None, IsSome, IfOk, OnOk};
 ghost use Rattle.std.specs.Option.{ForSome};
 ghost use Rattle.uid_names.specs.Names.{IsProcNumber};
 ghost use Rattle.uid_names.specs.Rooms.{IsRoom};
@@ -80,92 +80,112 @@ impl<P: Program, G: Pages> Machine<P, G> {
     ghost use Rattle.node_core.specs.Outcomes.{Moves, Does};
 
     /// A process begins what its program wants, or is at the end of its phase or of all.
-    pub(crate) fn begin(&mut self, alloc: Global, proc: ProcId) -> Result<Done, NoMemory>
+    pub(crate) fn begin(
+        &mut self,
+        alloc: Global,
+        proc: ProcId,
+        done: &mut Done,
+    ) -> Result<(), NoMemory>
         requires own { proc.node ≡ self.old.desk.node }
         requires before { IsBefore P.spent P.wants self.old }
         requires going { self.old.phase ≤ self.old.phases }
         requires enabled { may_begin (given_of self.old) (state_of self.old) proc.number ≡ true }
-        ensures { IfOk result (λ done. Does P.spent P.wants P.becomes self.old self.new done
+        ensures { OnOk result (Does P.spent P.wants P.becomes self.old self.new done.new
             (Some (begins (given_of self.old) (state_of self.old) proc.number (want_at self.old.procs proc.number)))) }
     {
         match &self.procs[index_of(proc)].want {
-            Want::Do(_) => self.begins(alloc, proc, self.place()),
-            Want::Phase => self.pauses(alloc, proc),
-            Want::Done => Ok(self.finishes(alloc, proc)),
+            Want::Do(_) => self.begins(alloc, proc, self.place(), done),
+            Want::Phase => self.pauses(alloc, proc, done),
+            Want::Done => {
+                self.finishes(alloc, proc, done);
+                Ok(())
+            }
         }
     }
 
     /// The program is told that a phase begins, which is that of what it wants next.
-    fn pauses(&mut self, alloc: Global, proc: ProcId) -> Result<Done, NoMemory>
+    fn pauses(&mut self, alloc: Global, proc: ProcId, done: &mut Done) -> Result<(), NoMemory>
         requires before { IsBefore P.spent P.wants self.old }
         requires going { self.old.phase ≤ self.old.phases }
         requires enabled { may_begin (given_of self.old) (state_of self.old) proc.number ≡ true }
         requires wanted { want_at self.old.procs proc.number ≡ Phase }
-        ensures { IfOk result (λ done. Does P.spent P.wants P.becomes self.old self.new done
+        ensures { OnOk result (Does P.spent P.wants P.becomes self.old self.new done.new
             (Some (begins (given_of self.old) (state_of self.old) proc.number Phase))) }
     {
         let phase = self.procs[index_of(proc)].phase + 1;
         self.tell(alloc, proc, None, phase)?;
-        Ok(quiet(Dropped::new(alloc)))
+        quiet(Dropped::new(alloc), done);
+        Ok(())
     }
 
     /// The process is at the end of all phases.
-    fn finishes(&mut self, alloc: Global, proc: ProcId) -> Done
+    fn finishes(&mut self, alloc: Global, proc: ProcId, done: &mut Done)
         requires before { IsBefore P.spent P.wants self.old }
-        ensures { Does P.spent P.wants P.becomes self.old self.new result (Some (begins (given_of self.old) (state_of self.old) proc.number AllDone)) }
+        ensures { Does P.spent P.wants P.becomes self.old self.new done.new (Some (begins (given_of self.old) (state_of self.old) proc.number AllDone)) }
     {
         self.procs[index_of(proc)].phase = self.phases + 1;
-        quiet(Dropped::new(alloc))
+        quiet(Dropped::new(alloc), done)
     }
 
     /// A process goes on after a wait: its operation begins anew.
-    pub(crate) fn go(&mut self, alloc: Global, proc: ProcId) -> Result<Done, NoMemory>
+    pub(crate) fn go(
+        &mut self,
+        alloc: Global,
+        proc: ProcId,
+        done: &mut Done,
+    ) -> Result<(), NoMemory>
         requires own { proc.node ≡ self.old.desk.node }
         requires before { IsBefore P.spent P.wants self.old }
         requires program { IsSome (program_in self.old.programs.items proc.number) }
         requires enabled { may_go self.old.desk (proc_of (state_of self.old) proc.number).doing ≡ true }
-        ensures { IfOk result (λ done. Does P.spent P.wants P.becomes self.old self.new done
+        ensures { OnOk result (Does P.spent P.wants P.becomes self.old self.new done.new
             (goes_on (state_of self.old) proc.number (proc_of (state_of self.old) proc.number).doing)) }
     {
         match self.procs[index_of(proc)].doing() {
-            Some(open) => self.begins(alloc, proc, open.begun),
+            Some(open) => self.begins(alloc, proc, open.begun, done),
             None => unreachable!(),
         }
     }
 
     /// The operation that began at this place begins, or begins anew after a wait.
-    fn begins(&mut self, alloc: Global, proc: ProcId, begun: Place) -> Result<Done, NoMemory>
+    fn begins(
+        &mut self,
+        alloc: Global,
+        proc: ProcId,
+        begun: Place,
+        done: &mut Done,
+    ) -> Result<(), NoMemory>
         requires own { proc.node ≡ self.old.desk.node }
         requires at { IsAtEvent P.spent P.wants self.old }
         requires program { IsSome (program_in self.old.programs.items proc.number) }
         requires wanted { IsWanted (want_at self.old.procs proc.number) }
         requires desk { IsDesk self.old.desk }
         requires idle { IsIdle self.old.desk proc.number }
-        ensures { IfOk result (λ done. (op : Op) → want_at self.old.procs proc.number ≡ Do op →
-            Moves P.spent P.wants P.becomes self.old self.new done proc.number begun (begun_as (given_of self.old).opening self.old.desk proc.number op)) }
+        ensures { OnOk result ((op : Op) → want_at self.old.procs proc.number ≡ Do op →
+            Moves P.spent P.wants P.becomes self.old self.new done.new proc.number begun (begun_as (given_of self.old).opening self.old.desk proc.number op)) }
     {
         match &self.procs[index_of(proc)].want {
             Want::Do(Op::New { home, kind, room }) => {
                 let (home, kind, room) = (*home, *kind, *room);
-                self.begins_new(alloc, proc, begun, home, kind, room)
+                self.begins_new(alloc, proc, begun, home, kind, room, done)
             }
             Want::Do(Op::List { home, after }) => {
                 let (home, after) = (*home, *after);
-                self.begins_list(alloc, proc, begun, home, after)
+                self.begins_list(alloc, proc, begun, home, after, done)
             }
             Want::Do(Op::Lock { uid, mode }) => {
                 let (uid, mode) = (*uid, *mode);
-                self.begins_lock(alloc, proc, begun, uid, mode)
+                self.begins_lock(alloc, proc, begun, uid, mode, done)
             }
             Want::Do(Op::Unlock { uid }) => {
                 let uid = *uid;
-                self.begins_unlock(alloc, proc, begun, uid)
+                self.begins_unlock(alloc, proc, begun, uid, done)
             }
             Want::Do(Op::Delete { uid }) => {
                 let uid = *uid;
-                self.begins_delete(alloc, proc, begun, uid)
+                self.begins_delete(alloc, proc, begun, uid, done)
             }
-            Want::Do(_) => self.begins_access(alloc, proc, begun),
+            Want::Do(_) => self.begins_access(alloc, proc, begun, done),
             Want::Phase | Want::Done => unreachable!(),
         }
     }
@@ -192,20 +212,22 @@ impl<P: Program, G: Pages> Machine<P, G> {
         home: NodeId,
         kind: ObjKind,
         room: u32,
-    ) -> Result<Done, NoMemory>
+        done: &mut Done,
+    ) -> Result<(), NoMemory>
         requires own { proc.node ≡ self.old.desk.node }
         requires at { IsAtEvent P.spent P.wants self.old }
         requires program { IsSome (program_in self.old.programs.items proc.number) }
         requires wanted { want_at self.old.procs proc.number ≡ Do (New home kind room) }
         requires room { IsRoom room }
-        ensures { IfOk result (λ done. (op : Op) → want_at self.old.procs proc.number ≡ Do op →
-            Moves P.spent P.wants P.becomes self.old self.new done proc.number begun (begun_as (given_of self.old).opening self.old.desk proc.number op)) }
+        ensures { OnOk result ((op : Op) → want_at self.old.procs proc.number ≡ Do op →
+            Moves P.spent P.wants P.becomes self.old self.new done.new proc.number begun (begun_as (given_of self.old).opening self.old.desk proc.number op)) }
     {
         if self.may_make(home, room) {
             let body = Body::Make { kind, room };
-            return Ok(self.asks(proc, begun, home, body, Dropped::new(alloc)));
+            self.asks(proc, begun, home, body, Dropped::new(alloc), done);
+            return Ok(());
         }
-        self.ends(alloc, proc, Reply::NoSpace, Dropped::new(alloc))
+        self.ends(alloc, proc, Reply::NoSpace, Dropped::new(alloc), done)
     }
 
     fn begins_list(
@@ -215,23 +237,25 @@ impl<P: Program, G: Pages> Machine<P, G> {
         begun: Place,
         home: NodeId,
         after: Option<(Uid, ProcId)>,
-    ) -> Result<Done, NoMemory>
+        done: &mut Done,
+    ) -> Result<(), NoMemory>
         requires own { proc.node ≡ self.old.desk.node }
         requires at { IsAtEvent P.spent P.wants self.old }
         requires program { IsSome (program_in self.old.programs.items proc.number) }
         requires wanted { want_at self.old.procs proc.number ≡ Do (ListOp home after) }
-        ensures { IfOk result (λ done. (op : Op) → want_at self.old.procs proc.number ≡ Do op →
-            Moves P.spent P.wants P.becomes self.old self.new done proc.number begun (begun_as (given_of self.old).opening self.old.desk proc.number op)) }
+        ensures { OnOk result ((op : Op) → want_at self.old.procs proc.number ≡ Do op →
+            Moves P.spent P.wants P.becomes self.old self.new done.new proc.number begun (begun_as (given_of self.old).opening self.old.desk proc.number op)) }
     {
         if self.is_node(home) {
             let body = Body::List { after };
-            return Ok(self.asks(proc, begun, home, body, Dropped::new(alloc)));
+            self.asks(proc, begun, home, body, Dropped::new(alloc), done);
+            return Ok(());
         }
         let reply = Reply::Locks {
             rows: LockRows::new(alloc),
             more: false,
         };
-        self.ends(alloc, proc, reply, Dropped::new(alloc))
+        self.ends(alloc, proc, reply, Dropped::new(alloc), done)
     }
 
     fn begins_lock(
@@ -241,18 +265,19 @@ impl<P: Program, G: Pages> Machine<P, G> {
         begun: Place,
         uid: Uid,
         mode: Mode,
-    ) -> Result<Done, NoMemory>
+        done: &mut Done,
+    ) -> Result<(), NoMemory>
         requires own { proc.node ≡ self.old.desk.node }
         requires at { IsAtEvent P.spent P.wants self.old }
         requires program { IsSome (program_in self.old.programs.items proc.number) }
         requires wanted { want_at self.old.procs proc.number ≡ Do (Lock uid mode) }
         requires range { IsOp (Lock uid mode) }
         requires idle { IsIdle self.old.desk proc.number }
-        ensures { IfOk result (λ done. (op : Op) → want_at self.old.procs proc.number ≡ Do op →
-            Moves P.spent P.wants P.becomes self.old self.new done proc.number begun (begun_as (given_of self.old).opening self.old.desk proc.number op)) }
+        ensures { OnOk result ((op : Op) → want_at self.old.procs proc.number ≡ Do op →
+            Moves P.spent P.wants P.becomes self.old self.new done.new proc.number begun (begun_as (given_of self.old).opening self.old.desk proc.number op)) }
     {
         let step = begin_lock(alloc, &mut self.desk, proc, uid, mode)?;
-        self.stepped(alloc, proc, begun, step)
+        self.stepped(alloc, proc, begun, step, done)
     }
 
     fn begins_unlock(
@@ -261,18 +286,19 @@ impl<P: Program, G: Pages> Machine<P, G> {
         proc: ProcId,
         begun: Place,
         uid: Uid,
-    ) -> Result<Done, NoMemory>
+        done: &mut Done,
+    ) -> Result<(), NoMemory>
         requires own { proc.node ≡ self.old.desk.node }
         requires at { IsAtEvent P.spent P.wants self.old }
         requires program { IsSome (program_in self.old.programs.items proc.number) }
         requires wanted { want_at self.old.procs proc.number ≡ Do (Unlock uid) }
         requires range { IsOp (Unlock uid) }
         requires idle { IsIdle self.old.desk proc.number }
-        ensures { IfOk result (λ done. (op : Op) → want_at self.old.procs proc.number ≡ Do op →
-            Moves P.spent P.wants P.becomes self.old self.new done proc.number begun (begun_as (given_of self.old).opening self.old.desk proc.number op)) }
+        ensures { OnOk result ((op : Op) → want_at self.old.procs proc.number ≡ Do op →
+            Moves P.spent P.wants P.becomes self.old self.new done.new proc.number begun (begun_as (given_of self.old).opening self.old.desk proc.number op)) }
     {
         let step = begin_unlock(alloc, &mut self.desk, proc, uid)?;
-        self.stepped(alloc, proc, begun, step)
+        self.stepped(alloc, proc, begun, step, done)
     }
 
     fn begins_delete(
@@ -281,22 +307,29 @@ impl<P: Program, G: Pages> Machine<P, G> {
         proc: ProcId,
         begun: Place,
         uid: Uid,
-    ) -> Result<Done, NoMemory>
+        done: &mut Done,
+    ) -> Result<(), NoMemory>
         requires own { proc.node ≡ self.old.desk.node }
         requires at { IsAtEvent P.spent P.wants self.old }
         requires program { IsSome (program_in self.old.programs.items proc.number) }
         requires wanted { want_at self.old.procs proc.number ≡ Do (Delete uid) }
         requires range { IsOp (Delete uid) }
         requires idle { IsIdle self.old.desk proc.number }
-        ensures { IfOk result (λ done. (op : Op) → want_at self.old.procs proc.number ≡ Do op →
-            Moves P.spent P.wants P.becomes self.old self.new done proc.number begun (begun_as (given_of self.old).opening self.old.desk proc.number op)) }
+        ensures { OnOk result ((op : Op) → want_at self.old.procs proc.number ≡ Do op →
+            Moves P.spent P.wants P.becomes self.old self.new done.new proc.number begun (begun_as (given_of self.old).opening self.old.desk proc.number op)) }
     {
         let step = begin_delete(alloc, &mut self.desk, proc, uid)?;
-        self.stepped(alloc, proc, begun, step)
+        self.stepped(alloc, proc, begun, step, done)
     }
 
     /// A load, a store, or what is asked of a length or a mapping.
-    fn begins_access(&mut self, alloc: Global, proc: ProcId, begun: Place) -> Result<Done, NoMemory>
+    fn begins_access(
+        &mut self,
+        alloc: Global,
+        proc: ProcId,
+        begun: Place,
+        done: &mut Done,
+    ) -> Result<(), NoMemory>
         requires own { proc.node ≡ self.old.desk.node }
         requires at { IsAtEvent P.spent P.wants self.old }
         requires program { IsSome (program_in self.old.programs.items proc.number) }
@@ -304,11 +337,11 @@ impl<P: Program, G: Pages> Machine<P, G> {
         requires access { (op : Op) → want_at self.old.procs proc.number ≡ Do op → IsSome (desk_op op) }
         requires desk { IsDesk self.old.desk }
         requires idle { IsIdle self.old.desk proc.number }
-        ensures { IfOk result (λ done. (op : Op) → want_at self.old.procs proc.number ≡ Do op →
-            Moves P.spent P.wants P.becomes self.old self.new done proc.number begun (begun_as (given_of self.old).opening self.old.desk proc.number op)) }
+        ensures { OnOk result ((op : Op) → want_at self.old.procs proc.number ≡ Do op →
+            Moves P.spent P.wants P.becomes self.old self.new done.new proc.number begun (begun_as (given_of self.old).opening self.old.desk proc.number op)) }
     {
         let (desk, procs) = (&mut self.desk, &self.procs);
         let access = access_wanted(alloc, desk, proc, procs)?;
-        self.accessed(alloc, proc, begun, access)
+        self.accessed(alloc, proc, begun, access, done)
     }
 }

@@ -344,40 +344,50 @@ impl<P: Program, G: Pages> Machine<P, G> {
         alloc: Global,
         what: &What,
         incoming: &Incoming,
-    ) -> Result<Done, NoMemory>
+        done: &mut Done,
+    ) -> Result<(), NoMemory>
         requires kept { IsKept P.spent P.wants self.old }
         requires enabled { enabled (given_of self.old) (state_of self.old) what.now (seen incoming.now) ≡ true }
         requires tick { self.old.tick < 2 ^ 40 }
         requires incoming { tick_of (seen incoming.now) < 2 ^ 40 }
         requires frame { IsIncoming (seen incoming.now) }
-        ensures happens { IfOk result (λ done. ForSome (named_step (given_of self.old) (state_of self.old) what.now (seen incoming.now)) (λ s. Led P.spent P.wants P.becomes self.old self.new done s)) }
+        ensures happens { OnOk result (ForSome (named_step (given_of self.old) (state_of self.old) what.now (seen incoming.now)) (λ s. Led P.spent P.wants P.becomes self.old self.new done.new s)) }
         ensures kept { OnOk result (IsKept P.spent P.wants self.new) }
         ensures what { IsWhat what.now }
-        ensures effects { IfOk result (λ done. AreEffects done.effects) }
+        ensures effects { OnOk result (AreEffects done.new.effects) }
     {
         self.tick = self.tick.max(incoming.tick()) + 1;
-        self.does(alloc, what, incoming)
+        self.does(alloc, what, incoming, done)
     }
 
     /// The same, at a machine that has the tick of the event.
-    fn does(&mut self, alloc: Global, what: &What, incoming: &Incoming) -> Result<Done, NoMemory>
+    fn does(
+        &mut self,
+        alloc: Global,
+        what: &What,
+        incoming: &Incoming,
+        done: &mut Done,
+    ) -> Result<(), NoMemory>
         requires before { IsBefore P.spent P.wants self.old }
         requires enabled { enabled (given_of self.old) (state_of self.old) what.now (seen incoming.now) ≡ true }
         requires frame { IsIncoming (seen incoming.now) }
-        ensures does { IfOk result (λ done. Does P.spent P.wants P.becomes self.old self.new done
+        ensures does { OnOk result (Does P.spent P.wants P.becomes self.old self.new done.new
             (event_of (given_of self.old) (state_of self.old) what.now (seen incoming.now))) }
         ensures what { IsWhat what.now }
     {
         match what {
-            What::Begin(p) => self.begin(alloc, self.proc(*p)),
-            What::Go(p) => self.go(alloc, self.proc(*p)),
+            What::Begin(p) => self.begin(alloc, self.proc(*p), done),
+            What::Go(p) => self.go(alloc, self.proc(*p), done),
             What::Take(_, _) => match incoming {
-                Incoming::Frame(frame) => self.take(alloc, frame),
+                Incoming::Frame(frame) => self.take(alloc, frame, done),
                 _ => unreachable!(),
             },
-            What::Notice(p, _, _, _) => self.notice(alloc, self.proc(*p)),
-            What::Ready(_) => Ok(self.end_phase(alloc)),
-            What::Mark(from, phase) => self.mark(alloc, *from, *phase),
+            What::Notice(p, _, _, _) => self.notice(alloc, self.proc(*p), done),
+            What::Ready(_) => {
+                self.end_phase(alloc, done);
+                Ok(())
+            }
+            What::Mark(from, phase) => self.mark(alloc, *from, *phase, done),
         }
     }
 }

@@ -17,25 +17,14 @@ use crate::machine::Machine;
 use crate::programs::program_of;
 use crate::setup::{Emitted, Incoming, NodeSetup};
 use crate::turns::Done;
-use dom_history::{Event, EventList, NodeLog, Program, Sent, What};
+use dom_history::{Event, EventList, NodeLog, Program, What};
 use page_store::Pages;
-use ring_messages::Frame;
 use std::alloc::Global;
 use std::marker::Model;
 use uid_names::{NoMemory, Opening, Place};
 
 // A journal has one of these for each event.
 const _: () = prove!(size_of::<Event>() <= 112);
-
-/// A frame that is sent, with its index on its link.
-fn indexed(frame: Option<Frame>, sent: Option<Sent>) -> Option<(u64, Frame)>
-    ensures { result ≡ indexed frame sent }
-{
-    match (frame, sent) {
-        (Some(frame), Some(sent)) => Some((sent.index, frame)),
-        _ => None,
-    }
-}
 
 /// The phase whose mark an event sends.
 fn mark_in(what: &What) -> Option<u32>
@@ -47,21 +36,39 @@ fn mark_in(what: &What) -> Option<u32>
     }
 }
 
-/// Writes the line of the journal, and answers what the event emits. Without memory the journal is as it was.
-fn write(log: &mut NodeLog, place: Place, what: What, done: Done) -> Result<Emitted, NoMemory>
+/// Writes the line of the journal, and answers what the event emits. The node is spent no more; without memory it stays
+/// so, and the journal is as it was.
+fn write(
+    log: &mut NodeLog,
+    spent: &mut bool,
+    place: Place,
+    what: What,
+    done: Done,
+) -> Result<Emitted, NoMemory>
     requires what { IsWhat what }
     requires effects { AreEffects done.effects }
     ensures emits { IfOk result (λ emitted. emitted ≡ record { frame = indexed done.frame done.effects.sent; mark = mark_in what }) }
     ensures events { OnOk result (log.new.events ≡ log.old.events ++ record { place = place; what = what; effects = done.effects } ∷ []) }
     ensures node { log.new.node ≡ log.old.node }
+    ensures whole { OnOk result (spent.new ≡ false) }
     ensures err { OnErr result (log.new ≡ log.old) }
+    ensures err_spent { OnErr result (spent.new ≡ spent.old) }
 {
     let Done { frame, effects } = done;
-    let frame = indexed(frame, effects.sent);
-    let mark = mark_in(&what);
-    let event = Event::new(place, what, effects);
-    log.events.push(event)?;
-    Ok(Emitted { frame, mark })
+    let (sent, mark) = (effects.sent, mark_in(&what));
+    log.events.push(Event::new(place, what, effects))?;
+    *spent = false;
+    // Each answer is made where it is returned, so that the frame is moved once.
+    match frame {
+        Some(frame) => match sent {
+            Some(sent) => Ok(Emitted {
+                frame: Some((sent.index, frame)),
+                mark,
+            }),
+            None => Ok(Emitted { frame: None, mark }),
+        },
+        None => Ok(Emitted { frame: None, mark }),
+    }
 }
 
 /// A node: its home side, its desk, its processes with their programs, and its journal.
@@ -199,10 +206,10 @@ impl<P: Program, G: Pages> Node<P, G> {
     {
         incoming.known();
         self.spent = true;
-        let done = self.machine.happen(alloc, &what, incoming)?;
+        let mut done = Done::new(alloc);
+        self.machine.happen(alloc, &what, incoming, &mut done)?;
         let place = self.machine.place();
-        let emitted = write(&mut self.log, place, what, done)?;
-        self.spent = false;
-        Ok(emitted)
+        let (log, spent) = (&mut self.log, &mut self.spent);
+        write(log, spent, place, what, done)
     }
 }

@@ -1,5 +1,5 @@
 //! A process is told that a frame of its open call was lost or is late.
-ghost use Rattle.std.specs.Prelude.{◌≡◌, ◌≤◌, ◌<◌, ◌^◌, ℕ, [], length, false, IsSome, IfOk};
+ghost use Rattle.std.specs.Prelude.{◌≡◌, ◌≤◌, ◌<◌, ◌^◌, ℕ, [], length, false, IsSome, OnOk};
 ghost use Rattle.std.specs.Option.{ForSome};
 ghost use Rattle.uid_names.specs.declared.ids.Place.{Place};
 ghost use Rattle.uid_names.specs.declared.limits.TheConstants.{NODE_PROCESSES};
@@ -34,47 +34,55 @@ impl<P: Program, G: Pages> Machine<P, G> {
     ghost use Rattle.node_core.specs.Outcomes.{Sent, Moves, Does};
 
     /// The request is sent again, or the call is given up.
-    pub(crate) fn notice(&mut self, alloc: Global, proc: ProcId) -> Result<Done, NoMemory>
+    pub(crate) fn notice(
+        &mut self,
+        alloc: Global,
+        proc: ProcId,
+        done: &mut Done,
+    ) -> Result<(), NoMemory>
         requires own { proc.node ≡ self.old.desk.node }
         requires before { IsBefore P.spent P.wants self.old }
         requires program { IsSome (program_in self.old.programs.items proc.number) }
         requires called { IsCalling (proc_of (state_of self.old) proc.number).doing }
-        ensures { IfOk result (λ done. Does P.spent P.wants P.becomes self.old self.new done
+        ensures { OnOk result (Does P.spent P.wants P.becomes self.old self.new done.new
             (notices (given_of self.old) (state_of self.old) proc.number (proc_of (state_of self.old) proc.number).doing)) }
     {
         let again = self.procs[index_of(proc)].notice(alloc)?;
         match again {
-            Some(again) => Ok(self.resends(alloc, proc, again)),
-            None => self.gives_up(alloc, proc),
+            Some(again) => {
+                self.resends(alloc, proc, again, done);
+                Ok(())
+            }
+            None => self.gives_up(alloc, proc, done),
         }
     }
 
     /// The request of a call is sent again, by a frame of its own.
-    fn resends(&mut self, alloc: Global, proc: ProcId, again: Again) -> Done
+    fn resends(&mut self, alloc: Global, proc: ProcId, again: Again, done: &mut Done)
         requires counted { (to : ℕ) → at self.old.emitted to 0 < 2 ^ 40 }
         requires ticked { 1 ≤ self.old.tick }
         requires number { 1 ≤ again.number }
         requires range { IsBody again.home again.body }
-        ensures { Sent self.old self.new result (again_sent self.old.desk.node proc.number self.old.tick again) [] }
+        ensures { Sent self.old self.new done.new (again_sent self.old.desk.node proc.number self.old.tick again) [] }
     {
         let Again { home, number, body } = again;
         let frame = Frame::new(self.node(), home, proc.number(), number, self.tick, body);
-        self.sends(frame, Dropped::new(alloc))
+        self.sends(frame, Dropped::new(alloc), done)
     }
 
     /// The open call of a process is given up, and its operation ends.
-    fn gives_up(&mut self, alloc: Global, proc: ProcId) -> Result<Done, NoMemory>
+    fn gives_up(&mut self, alloc: Global, proc: ProcId, done: &mut Done) -> Result<(), NoMemory>
         requires own { proc.node ≡ self.old.desk.node }
         requires at { IsAtEvent P.spent P.wants self.old }
         requires program { IsSome (program_in self.old.programs.items proc.number) }
         requires wanted { IsWanted (want_at self.old.procs proc.number) }
         requires call { (op : Op) → want_at self.old.procs proc.number ≡ Do op → IsInCall self.old.desk proc.number op }
-        ensures { IfOk result (λ done. (begun : Place) (op : Op) → want_at self.old.procs proc.number ≡ Do op →
-            ForSome (failed_as self.old.desk proc.number op) (λ m. Moves P.spent P.wants P.becomes self.old self.new done proc.number begun (Accessed.Settled m))) }
+        ensures { OnOk result ((begun : Place) (op : Op) → want_at self.old.procs proc.number ≡ Do op →
+            ForSome (failed_as self.old.desk proc.number op) (λ m. Moves P.spent P.wants P.becomes self.old self.new done.new proc.number begun (Accessed.Settled m))) }
     {
         let (desk, procs) = (&mut self.desk, &self.procs);
         let reply = failed_wanted(desk, proc, procs);
-        self.ends(alloc, proc, reply, Dropped::new(alloc))
+        self.ends(alloc, proc, reply, Dropped::new(alloc), done)
     }
 }
 

@@ -1,5 +1,5 @@
 //! A node comes to the end of its phase, and takes in that others did.
-ghost use Rattle.std.specs.Prelude.{◌≡◌, ◌≤◌, ◌<◌, ◌-◌, ◌^◌, ◌∷◌, ◌&&◌, ◌||◌, ◌==◌, nat_le, not, Some, IfOk, true};
+ghost use Rattle.std.specs.Prelude.{◌≡◌, ◌≤◌, ◌<◌, ◌-◌, ◌^◌, ◌∷◌, ◌&&◌, ◌||◌, ◌==◌, nat_le, not, Some, true, OnOk};
 ghost use Rattle.node_runs.specs.Notes.{Note};
 ghost use Rattle.node_runs.specs.Outcomes.{quiet as quiet_step};
 ghost use Rattle.node_runs.specs.Doings.{Doing, after_marks, others_marked};
@@ -17,27 +17,34 @@ impl<P: Program, G: Pages> Machine<P, G> {
     ghost use Rattle.node_core.specs.Outcomes.{Does};
 
     /// The node sends the mark of its phase.
-    pub(crate) fn end_phase(&mut self, alloc: Global) -> Done
+    pub(crate) fn end_phase(&mut self, alloc: Global, done: &mut Done)
         requires before { IsBefore P.spent P.wants self.old }
         requires going { self.old.phase ≤ self.old.phases }
-        ensures { Does P.spent P.wants P.becomes self.old self.new result
+        ensures { Does P.spent P.wants P.becomes self.old self.new done.new
             (Some (Doing.Does (quiet_step (after_marks (given_of self.old) (record (state_of self.old) { ready = true })) Note.Nothing))) }
     {
         self.ready = true;
         self.pass_phase();
-        quiet(Dropped::new(alloc))
+        quiet(Dropped::new(alloc), done)
     }
 
     /// The mark of a node is taken.
-    pub(crate) fn mark(&mut self, alloc: Global, from: NodeId, phase: u32) -> Result<Done, NoMemory>
+    pub(crate) fn mark(
+        &mut self,
+        alloc: Global,
+        from: NodeId,
+        phase: u32,
+        done: &mut Done,
+    ) -> Result<(), NoMemory>
         requires before { IsBefore P.spent P.wants self.old }
         requires going { self.old.phase ≤ self.old.phases }
-        ensures { IfOk result (λ done. Does P.spent P.wants P.becomes self.old self.new done
+        ensures { OnOk result (Does P.spent P.wants P.becomes self.old self.new done.new
             (Some (Doing.Does (quiet_step (after_marks (given_of self.old) (record (state_of self.old) { marks = (from, phase) ∷ self.old.marks })) Note.Nothing)))) }
     {
         self.marks.add(from, phase)?;
         self.pass_phase();
-        Ok(quiet(Dropped::new(alloc)))
+        quiet(Dropped::new(alloc), done);
+        Ok(())
     }
 
     /// The phase is over once its mark was sent and those of all other nodes were taken.

@@ -1,5 +1,5 @@
 //! A frame is taken: a request is served, and a reply goes to the operation whose call it answers.
-ghost use Rattle.std.specs.Prelude.{◌≡◌, true, false, Some, None, IsSome, IfSome, IfOk, IsTrue, IsFalse};
+ghost use Rattle.std.specs.Prelude.{◌≡◌, true, false, Some, None, IsSome, IfSome, IsTrue, IsFalse, OnOk};
 ghost use Rattle.std.specs.Option.{ForSome};
 ghost use Rattle.dom_history.specs.declared.op.Op.{Op};
 ghost use Rattle.dom_history.specs.declared.op.Op.TheVariants.{New, List as ListOp};
@@ -30,52 +30,66 @@ impl<P: Program, G: Pages> Machine<P, G> {
     ghost use Rattle.node_core.specs.Outcomes.{Does, Hears};
 
     /// A frame is taken.
-    pub(crate) fn take(&mut self, alloc: Global, frame: &Frame) -> Result<Done, NoMemory>
+    pub(crate) fn take(
+        &mut self,
+        alloc: Global,
+        frame: &Frame,
+        done: &mut Done,
+    ) -> Result<(), NoMemory>
         requires before { IsBefore P.spent P.wants self.old }
         requires here { frame.now.to ≡ self.old.desk.node }
         requires frame { IsFrame frame.now }
-        ensures { IfOk result (λ done. Does P.spent P.wants P.becomes self.old self.new done (Some (takes (state_of self.old) frame.now (ask_of frame.now.body)))) }
+        ensures { OnOk result (Does P.spent P.wants P.becomes self.old self.new done.new (Some (takes (state_of self.old) frame.now (ask_of frame.now.body)))) }
     {
         if frame.body().is_request() {
-            self.serves(alloc, frame)
+            self.serves(alloc, frame, done)
         } else {
-            self.hears(alloc, frame)
+            self.hears(alloc, frame, done)
         }
     }
 
     /// A request is served.
-    fn serves(&mut self, alloc: Global, frame: &Frame) -> Result<Done, NoMemory>
+    fn serves(&mut self, alloc: Global, frame: &Frame, done: &mut Done) -> Result<(), NoMemory>
         requires before { IsBefore P.spent P.wants self.old }
         requires here { frame.now.to ≡ self.old.desk.node }
         requires request { IsTrue (is_request frame.now.body) }
-        ensures { IfOk result (λ done. Does P.spent P.wants P.becomes self.old self.new done (Some (takes (state_of self.old) frame.now (ask_of frame.now.body)))) }
+        ensures { OnOk result (Does P.spent P.wants P.becomes self.old self.new done.new (Some (takes (state_of self.old) frame.now (ask_of frame.now.body)))) }
     {
         match self.server.serve(alloc, frame, self.tick)? {
-            Some(reply) => Ok(self.sends(reply, Dropped::new(alloc))),
-            None => Ok(quiet(Dropped::new(alloc))),
+            Some(reply) => {
+                self.sends(reply, Dropped::new(alloc), done);
+                Ok(())
+            }
+            None => {
+                quiet(Dropped::new(alloc), done);
+                Ok(())
+            }
         }
     }
 
     /// A reply is taken. One that is of no open call does nothing.
-    fn hears(&mut self, alloc: Global, frame: &Frame) -> Result<Done, NoMemory>
+    fn hears(&mut self, alloc: Global, frame: &Frame, done: &mut Done) -> Result<(), NoMemory>
         requires before { IsBefore P.spent P.wants self.old }
         requires here { frame.now.to ≡ self.old.desk.node }
         requires frame { IsFrame frame.now }
         requires reply { IsFalse (is_request frame.now.body) }
-        ensures { IfOk result (λ done. Does P.spent P.wants P.becomes self.old self.new done
+        ensures { OnOk result (Does P.spent P.wants P.becomes self.old self.new done.new
             (Some (hears (state_of self.old) frame.now (proc_of (state_of self.old) frame.now.proc).doing))) }
     {
         let proc = frame.caller();
         let Some(Open { begun, awaits }) = self.procs[index_of(proc)].doing() else {
-            return Ok(quiet(Dropped::new(alloc)));
+            quiet(Dropped::new(alloc), done);
+            return Ok(());
         };
         let Await::Answer(call) = awaits else {
-            return Ok(quiet(Dropped::new(alloc)));
+            quiet(Dropped::new(alloc), done);
+            return Ok(());
         };
         if !call.asking.fits(frame.number()) {
-            return Ok(quiet(Dropped::new(alloc)));
+            quiet(Dropped::new(alloc), done);
+            return Ok(());
         }
-        self.hears_body(alloc, proc, begun, frame.body())
+        self.hears_body(alloc, proc, begun, frame.body(), done)
     }
 
     /// A reply to the open call of a process is taken. One that does not fit does nothing.
@@ -85,7 +99,8 @@ impl<P: Program, G: Pages> Machine<P, G> {
         proc: ProcId,
         begun: Place,
         body: &Body,
-    ) -> Result<Done, NoMemory>
+        done: &mut Done,
+    ) -> Result<(), NoMemory>
         requires own { proc.node ≡ self.old.desk.node }
         requires program { IsSome (program_in self.old.programs.items proc.number) }
         requires at { IsAtEvent P.spent P.wants self.old }
@@ -93,12 +108,12 @@ impl<P: Program, G: Pages> Machine<P, G> {
         requires call { (op : Op) → want_at self.old.procs proc.number ≡ Do op → IsInCall self.old.desk proc.number op }
         requires range { IsBody proc.node body.now }
         requires named { IsNamedBody body.now }
-        ensures { IfOk result (λ done. Hears P.spent P.wants P.becomes self.old self.new done proc.number begun body.now) }
+        ensures { OnOk result (Hears P.spent P.wants P.becomes self.old self.new done.new proc.number begun body.now) }
     {
         match &self.procs[index_of(proc)].want {
-            Want::Do(Op::New { .. }) => self.hears_made(alloc, proc, begun, body),
-            Want::Do(Op::List { .. }) => self.hears_listed(alloc, proc, begun, body),
-            _ => self.hears_at_desk(alloc, proc, begun, body),
+            Want::Do(Op::New { .. }) => self.hears_made(alloc, proc, begun, body, done),
+            Want::Do(Op::List { .. }) => self.hears_listed(alloc, proc, begun, body, done),
+            _ => self.hears_at_desk(alloc, proc, begun, body, done),
         }
     }
 
@@ -108,17 +123,21 @@ impl<P: Program, G: Pages> Machine<P, G> {
         proc: ProcId,
         begun: Place,
         body: &Body,
-    ) -> Result<Done, NoMemory>
+        done: &mut Done,
+    ) -> Result<(), NoMemory>
         requires at { IsAtEvent P.spent P.wants self.old }
         requires program { IsSome (program_in self.old.programs.items proc.number) }
         requires wanted { is_new (want_at self.old.procs proc.number) ≡ true }
-        ensures { IfOk result (λ done. Hears P.spent P.wants P.becomes self.old self.new done proc.number begun body.now) }
+        ensures { OnOk result (Hears P.spent P.wants P.becomes self.old self.new done.new proc.number begun body.now) }
     {
         let dropped = Dropped::new(alloc);
         match body {
-            Body::Made { uid } => self.ends(alloc, proc, Reply::Made(*uid), dropped),
-            Body::NoSpace => self.ends(alloc, proc, Reply::NoSpace, dropped),
-            _ => Ok(quiet(dropped)),
+            Body::Made { uid } => self.ends(alloc, proc, Reply::Made(*uid), dropped, done),
+            Body::NoSpace => self.ends(alloc, proc, Reply::NoSpace, dropped, done),
+            _ => {
+                quiet(dropped, done);
+                Ok(())
+            }
         }
     }
 
@@ -128,21 +147,25 @@ impl<P: Program, G: Pages> Machine<P, G> {
         proc: ProcId,
         begun: Place,
         body: &Body,
-    ) -> Result<Done, NoMemory>
+        done: &mut Done,
+    ) -> Result<(), NoMemory>
         requires at { IsAtEvent P.spent P.wants self.old }
         requires program { IsSome (program_in self.old.programs.items proc.number) }
         requires wanted { is_list (want_at self.old.procs proc.number) ≡ true }
         requires range { IsBody proc.node body.now }
-        ensures { IfOk result (λ done. Hears P.spent P.wants P.becomes self.old self.new done proc.number begun body.now) }
+        ensures { OnOk result (Hears P.spent P.wants P.becomes self.old self.new done.new proc.number begun body.now) }
     {
         let dropped = Dropped::new(alloc);
         match body {
             Body::Listed { rows, more } => {
                 let rows = rows.copy(alloc)?;
                 let reply = Reply::Locks { rows, more: *more };
-                self.ends(alloc, proc, reply, dropped)
+                self.ends(alloc, proc, reply, dropped, done)
             }
-            _ => Ok(quiet(dropped)),
+            _ => {
+                quiet(dropped, done);
+                Ok(())
+            }
         }
     }
 
@@ -152,7 +175,8 @@ impl<P: Program, G: Pages> Machine<P, G> {
         proc: ProcId,
         begun: Place,
         body: &Body,
-    ) -> Result<Done, NoMemory>
+        done: &mut Done,
+    ) -> Result<(), NoMemory>
         requires own { proc.node ≡ self.old.desk.node }
         requires process { IsProc proc.number }
         requires at { IsAtEvent P.spent P.wants self.old }
@@ -163,10 +187,11 @@ impl<P: Program, G: Pages> Machine<P, G> {
         requires call { (op : Op) → want_at self.old.procs proc.number ≡ Do op → IsInCall self.old.desk proc.number op }
         requires range { IsBody proc.node body.now }
         requires named { IsNamedBody body.now }
-        ensures { IfOk result (λ done. Hears P.spent P.wants P.becomes self.old self.new done proc.number begun body.now) }
+        ensures { OnOk result (Hears P.spent P.wants P.becomes self.old self.new done.new proc.number begun body.now) }
     {
         if !self.desk.answers(proc, body) {
-            return Ok(quiet(Dropped::new(alloc)));
+            quiet(Dropped::new(alloc), done);
+            return Ok(());
         }
         let Some(call) = self.desk.open_call(proc) else {
             unreachable!()
@@ -174,11 +199,11 @@ impl<P: Program, G: Pages> Machine<P, G> {
         match call {
             OpenCall::Access => {
                 let access = self.desk.page_came(alloc, proc, body)?;
-                self.accessed(alloc, proc, begun, access)
+                self.accessed(alloc, proc, begun, access, done)
             }
             _ => {
                 let step = answer_came(alloc, &mut self.desk, proc, body)?;
-                self.stepped(alloc, proc, begun, step)
+                self.stepped(alloc, proc, begun, step, done)
             }
         }
     }

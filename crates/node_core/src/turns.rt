@@ -1,5 +1,5 @@
 //! What the outcome of a desk's call makes of an operation and its node.
-ghost use Rattle.std.specs.Prelude.{◌≡◌, ◌-◌, ◌+◌, ◌<◌, ◌^◌, ℕ, [], Some, None, IsSome, IfSome, IfOk, slice_set};
+ghost use Rattle.std.specs.Prelude.{◌≡◌, ◌-◌, ◌+◌, ◌<◌, ◌^◌, ℕ, [], Some, None, IsSome, IfSome, slice_set, OnOk};
 ghost use Rattle.std.specs.Option.{ForSome};
 ghost use Rattle.uid_names.specs.declared.ids.Place.{Place};
 ghost use Rattle.dom_history.specs.declared.op.Op.{Op};
@@ -31,19 +31,31 @@ pub(crate) struct Done {
     pub(crate) effects: Effects,
 }
 
-/// Nothing is sent, and no operation ends; these pages were dropped.
-pub(crate) fn quiet(dropped: Dropped) -> Done
-    ensures { result ≡ record { frame = None; effects = record { dropped = dropped; sent = None; ended = None } } }
-{
-    let effects = Effects {
-        dropped,
-        sent: None,
-        ended: None,
-    };
-    Done {
-        frame: None,
-        effects,
+impl Done {
+    /// Nothing yet. Takes no memory.
+    pub(crate) fn new(alloc: Global) -> Done
+        ensures { result ≡ record { frame = None; effects = record { dropped = []; sent = None; ended = None } } }
+    {
+        let effects = Effects {
+            dropped: Dropped::new(alloc),
+            sent: None,
+            ended: None,
+        };
+        Done {
+            frame: None,
+            effects,
+        }
     }
+}
+
+/// Nothing is sent, and no operation ends; these pages were dropped.
+pub(crate) fn quiet(dropped: Dropped, done: &mut Done)
+    ensures { done.new ≡ record { frame = None; effects = record { dropped = dropped; sent = None; ended = None } } }
+{
+    done.frame = None;
+    done.effects.dropped = dropped;
+    done.effects.sent = None;
+    done.effects.ended = None;
 }
 
 /// Counts one frame more to a node; how many there are then.
@@ -57,18 +69,22 @@ fn count(emitted: &mut [u64; MAX_NODES as usize], to: NodeId) -> u64
     emitted[at]
 }
 
+// Those of an outcome are inlined, so that its parts are moved from where a call left them: to copy a value of many small
+// parts as a whole, right after they were written, takes longer than to write them.
 impl<P: Program, G: Pages> Machine<P, G> {
     ghost use Rattle.node_core.specs.Machines.{state_of, IsAtEvent};
     ghost use Rattle.node_core.specs.Outcomes.{Sent as IsSent, Turns};
 
     /// What comes of an operation that began at this place, where the desk says this to it.
+    #[inline(always)]
     pub(crate) fn accessed(
         &mut self,
         alloc: Global,
         proc: ProcId,
         begun: Place,
         access: Access,
-    ) -> Result<Done, NoMemory>
+        done: &mut Done,
+    ) -> Result<(), NoMemory>
         requires own { proc.node ≡ self.old.desk.node }
         requires at { IsAtEvent P.spent P.wants self.old }
         requires program { IsSome (program_in self.old.programs.items proc.number) }
@@ -76,24 +92,32 @@ impl<P: Program, G: Pages> Machine<P, G> {
         requires there { IsSome (seen_access access) }
         requires fits { (op : Op) → want_at self.old.procs proc.number ≡ Do op → ForSome (seen_access access) (λ o. FitsTurn op o.turn) }
         requires asks { ForSome (seen_access access) (λ o. IsAsked self.old.desk.nodes o.turn) }
-        ensures { IfOk result (λ done. IfSome (seen_access access) (λ o. Turns P.spent P.wants P.becomes self.old self.new done proc.number begun o.turn o.dropped)) }
+        ensures { OnOk result (IfSome (seen_access access) (λ o. Turns P.spent P.wants P.becomes self.old self.new done.new proc.number begun o.turn o.dropped)) }
     {
         match access {
-            Access::Hit(reply, dropped) => self.ends(alloc, proc, reply, dropped),
-            Access::Refuse(reply, dropped) => self.ends(alloc, proc, reply, dropped),
-            Access::Need(home, body, dropped) => Ok(self.asks(proc, begun, home, body, dropped)),
-            Access::Wait(uid, page, dropped) => Ok(self.waits(proc, begun, uid, page, dropped)),
+            Access::Hit(reply, dropped) => self.ends(alloc, proc, reply, dropped, done),
+            Access::Refuse(reply, dropped) => self.ends(alloc, proc, reply, dropped, done),
+            Access::Need(home, body, dropped) => {
+                self.asks(proc, begun, home, body, dropped, done);
+                Ok(())
+            }
+            Access::Wait(uid, page, dropped) => {
+                self.waits(proc, begun, uid, page, dropped, done);
+                Ok(())
+            }
         }
     }
 
     /// The same of what locking, unlocking and removal say.
+    #[inline(always)]
     pub(crate) fn stepped(
         &mut self,
         alloc: Global,
         proc: ProcId,
         begun: Place,
         step: Step,
-    ) -> Result<Done, NoMemory>
+        done: &mut Done,
+    ) -> Result<(), NoMemory>
         requires own { proc.node ≡ self.old.desk.node }
         requires at { IsAtEvent P.spent P.wants self.old }
         requires program { IsSome (program_in self.old.programs.items proc.number) }
@@ -101,43 +125,48 @@ impl<P: Program, G: Pages> Machine<P, G> {
         requires there { IsSome (seen_step step) }
         requires fits { (op : Op) → want_at self.old.procs proc.number ≡ Do op → Tells (FitsTurn op) step }
         requires asks { Tells (IsAsked self.old.desk.nodes) step }
-        ensures { IfOk result (λ done. IfSome (seen_step step) (λ o. Turns P.spent P.wants P.becomes self.old self.new done proc.number begun o.turn o.dropped)) }
+        ensures { OnOk result (IfSome (seen_step step) (λ o. Turns P.spent P.wants P.becomes self.old self.new done.new proc.number begun o.turn o.dropped)) }
     {
         match step {
-            Step::End(reply, dropped) => self.ends(alloc, proc, reply, dropped),
-            Step::Send(home, body, dropped) => Ok(self.asks(proc, begun, home, body, dropped)),
-            Step::Wait(uid, page, dropped) => Ok(self.waits(proc, begun, uid, page, dropped)),
+            Step::End(reply, dropped) => self.ends(alloc, proc, reply, dropped, done),
+            Step::Send(home, body, dropped) => {
+                self.asks(proc, begun, home, body, dropped, done);
+                Ok(())
+            }
+            Step::Wait(uid, page, dropped) => {
+                self.waits(proc, begun, uid, page, dropped, done);
+                Ok(())
+            }
         }
     }
 
     /// The operation of a process ends, and its program is told the reply.
+    #[inline(always)]
     pub(crate) fn ends(
         &mut self,
         alloc: Global,
         proc: ProcId,
         reply: Reply,
         dropped: Dropped,
-    ) -> Result<Done, NoMemory>
+        done: &mut Done,
+    ) -> Result<(), NoMemory>
         requires at { IsAtEvent P.spent P.wants self.old }
         requires program { IsSome (program_in self.old.programs.items proc.number) }
         requires fits { FitsWant (want_at self.old.procs proc.number) (Some reply) }
-        ensures { IfOk result (λ done. (begun : Place) → Turns P.spent P.wants P.becomes self.old self.new done proc.number begun (Turn.Ends reply) dropped) }
+        ensures { OnOk result ((begun : Place) → Turns P.spent P.wants P.becomes self.old self.new done.new proc.number begun (Turn.Ends reply) dropped) }
     {
         let word = EndWord::of(&reply);
         let phase = self.procs[index_of(proc)].phase;
         self.tell(alloc, proc, Some(&reply), phase)?;
-        let effects = Effects {
-            dropped,
-            sent: None,
-            ended: Some((proc.number(), word)),
-        };
-        Ok(Done {
-            frame: None,
-            effects,
-        })
+        done.frame = None;
+        done.effects.dropped = dropped;
+        done.effects.sent = None;
+        done.effects.ended = Some((proc.number(), word));
+        Ok(())
     }
 
     /// The operation of a process makes a call.
+    #[inline(always)]
     pub(crate) fn asks(
         &mut self,
         proc: ProcId,
@@ -145,22 +174,24 @@ impl<P: Program, G: Pages> Machine<P, G> {
         home: NodeId,
         body: Body,
         dropped: Dropped,
-    ) -> Done
+        done: &mut Done,
+    )
         requires own { proc.node ≡ self.old.desk.node }
         requires at { IsAtEvent P.spent P.wants self.old }
         requires asks { IsSome (ask_of body) }
         requires range { IsBody home body }
-        ensures { IfSome (ask_of body) (λ ask. Turns P.spent P.wants P.becomes self.old self.new result proc.number begun (Turn.Asks home ask) dropped) }
+        ensures { IfSome (ask_of body) (λ ask. Turns P.spent P.wants P.becomes self.old self.new done.new proc.number begun (Turn.Asks home ask) dropped) }
     {
         let number = self.procs[index_of(proc)].call(begun, home, &body);
         let frame = Frame::new(self.node(), home, proc.number(), number, self.tick, body);
-        self.sends(frame, dropped)
+        self.sends(frame, dropped, done)
     }
 
     /// A frame is sent: the next one on its link.
-    pub(crate) fn sends(&mut self, frame: Frame, dropped: Dropped) -> Done
+    #[inline(always)]
+    pub(crate) fn sends(&mut self, frame: Frame, dropped: Dropped, done: &mut Done)
         requires { (to : ℕ) → at self.old.emitted to 0 < 2 ^ 40 }
-        ensures { IsSent self.old self.new result frame dropped }
+        ensures { IsSent self.old self.new done.new frame dropped }
     {
         let to = frame.to();
         let index = count(&mut self.emitted, to);
@@ -170,23 +201,26 @@ impl<P: Program, G: Pages> Machine<P, G> {
             kind: frame.body().kind().number(),
             number: frame.number(),
         };
-        let effects = Effects {
-            dropped,
-            sent: Some(sent),
-            ended: None,
-        };
-        Done {
-            frame: Some(frame),
-            effects,
-        }
+        done.frame = Some(frame);
+        done.effects.dropped = dropped;
+        done.effects.sent = Some(sent);
+        done.effects.ended = None;
     }
 
     /// The operation of a process waits for a page.
-    fn waits(&mut self, proc: ProcId, begun: Place, uid: Uid, page: u32, dropped: Dropped) -> Done
+    fn waits(
+        &mut self,
+        proc: ProcId,
+        begun: Place,
+        uid: Uid,
+        page: u32,
+        dropped: Dropped,
+        done: &mut Done,
+    )
         requires at { IsAtEvent P.spent P.wants self.old }
-        ensures { Turns P.spent P.wants P.becomes self.old self.new result proc.number begun (Turn.Waits uid page) dropped }
+        ensures { Turns P.spent P.wants P.becomes self.old self.new done.new proc.number begun (Turn.Waits uid page) dropped }
     {
         self.procs[index_of(proc)].wait(begun, uid, page);
-        quiet(dropped)
+        quiet(dropped, done)
     }
 }

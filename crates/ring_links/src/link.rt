@@ -120,6 +120,7 @@ impl<T: Drop> Link<T> {
     }
 
     /// A copy of the frame of this number waits.
+    #[inline(always)]
     fn put_copy(&mut self, index: u64, received: T) -> Result<(), NoMemory>
         ensures { OnOk result (self.new ≡ record self.old { queue = self.old.queue ++ copy_of received index ∷ [] }) }
     {

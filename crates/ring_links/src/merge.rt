@@ -29,19 +29,13 @@ fn next_event<'a>(logs: &'a [NodeLog], came: &[usize], i: usize) -> Option<&'a E
     event_at(logs[i].events.items(), came[i])
 }
 
-/// Whether the event comes before the next one of the first log so far.
-fn is_first(logs: &[NodeLog], came: &[usize], first: Option<usize>, event: &Event) -> bool
-    requires same { length came.now ≡ length logs.now }
-    requires within { IfSome first (λ k. k < length logs.now) }
-    ensures { MatchOption first (result ≡ true)
-        (λ k. MatchOption (next_at logs.now came.now k) (result ≡ true) (λ other. result ≡ place_lt event.now.place other.place)) }
+/// Whether an event at this place comes before the next one of the first log so far, which stands with its place.
+fn is_first(first: &Option<(usize, Place)>, place: &Place) -> bool
+    ensures { MatchOption first.now (result ≡ true) (λ f. result ≡ place_lt place.now f.1) }
 {
     match first {
         None => true,
-        Some(k) => match next_event(logs, came, k) {
-            None => true,
-            Some(other) => is_before(event.place(), other.place()),
-        },
+        Some((_, other)) => is_before(*place, *other),
     }
 }
 
@@ -51,18 +45,22 @@ fn first_log(logs: &[NodeLog], came: &[usize]) -> Option<usize>
     ensures within { IfSome result (λ i. i < length logs.now) }
     ensures first { MatchOption result ((j : ℕ) → next_at logs.now came.now j ≡ None) (IsFirst logs.now came.now) }
 {
-    let mut first = None;
+    let mut first: Option<(usize, Place)> = None;
     for i in 0..logs.len() {
         match next_event(logs, came, i) {
             Some(event) => {
-                if is_first(logs, came, first, event) {
-                    first = Some(i);
+                let place = event.place();
+                if is_first(&first, &place) {
+                    first = Some((i, place));
                 }
             }
             None => {}
         }
     }
-    first
+    match first {
+        Some((i, _)) => Some(i),
+        None => None,
+    }
 }
 
 /// How many events the logs have.

@@ -16,7 +16,7 @@ ends-requires-in-Refuse-clause-fits g c =
     (λ op is. c.requires.fits op is (record { turn = Turn.Ends c.in-Refuse.reply; dropped = c.in-Refuse.dropped }) (rw c.in-Refuse.is refl))
 
 pub returns-in-Hit : goal.returns-in-Hit
-returns-in-Hit g c = rw c.in-Hit.is (IfOk-weaker c.ends.result _ _ (λ done h. h c.args.begun) c.ends.ensures)
+returns-in-Hit g c = rw c.in-Hit.is (IfOk-weaker c.ends.result _ _ (λ ok h. h c.args.begun) c.ends.ensures)
 
 pub returns-in-Refuse : goal.returns-in-Refuse
-returns-in-Refuse g c = rw c.in-Refuse.is (IfOk-weaker c.ends-in-Refuse.result _ _ (λ done h. h c.args.begun) c.ends-in-Refuse.ensures)
+returns-in-Refuse g c = rw c.in-Refuse.is (IfOk-weaker c.ends-in-Refuse.result _ _ (λ ok h. h c.args.begun) c.ends-in-Refuse.ensures)

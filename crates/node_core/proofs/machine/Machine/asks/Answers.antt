@@ -1,4 +1,4 @@
-use Rattle.std.proofs.Common.{◌≡◌, ◌+◌, ◌-◌, ◌<◌, Some, IfSome, length, get_or, set, map, sym, ap, subst, ◌∙◌}
+use Rattle.std.proofs.Common.{◌≡◌, ◌+◌, ◌<◌, Some, IfSome, length, get_or, set, map, sym, ap, subst, ◌∙◌}
 use Rattle.dom_history.specs.declared.op.Op.{Op}
 use Rattle.dom_history.specs.declared.op.Want.TheVariants.{Do}
 use Rattle.ring_messages.specs.Bodies.{ask_of, body_of_ask}
@@ -31,6 +31,6 @@ returns g c = if-some (ask_of c.args.body) _ (λ ask is given op stage number wa
     c.new-frame.ensures
     ∙ same-frame c.node.result given.number c.args.home c.number.result p c.call-number.result call.waiting.number m.tick c.args.body (body_of_ask ask) (c.node.ensures ∙ sym number) c.number.ensures.value
     (c.call-number.ensures.number ∙ ap (λ (r : ProcState). r.last + 1) (sym here)) (asked-body c.args.body ask is) in
-    led-sent g.P.Program.spent g.P.Program.wants g.P.Program.becomes m c.sends.new.self (set m.procs i c.call-number.new.self) c.sends.result c.new-frame.result (request given (state_of m) p call)
+    led-sent g.P.Program.spent g.P.Program.wants g.P.Program.becomes m c.sends.new.self (set m.procs i c.call-number.new.self) c.sends.new.done c.new-frame.result (request given (state_of m) p call)
     (with_proc (state_of m) p (record (proc_of (state_of m) p) { doing = Some (record { began = record { op = op; begun = c.args.begun }; awaits = Await.Answer call }); last = call.waiting.number }))
     c.args.dropped (Some (p, call)) _ c.requires.at kept (ap (λ ps. record (state_of m) { procs = ps }) put) frame c.sends.ensures)

@@ -42,10 +42,10 @@ returns-in-Do g c =
     let op = c.in-Do.field-0 in
     let own : want_at m.procs p ≡ Do op = want-is m.procs i p d c.index_of.ensures.value inside ∙ c.in-Do.is in
     IfOk-weaker c.begins.result _ _
-    (λ done moves.
-    subst (λ (w : Want). ForSome (stepped_as_named (given_of m) (state_of m) (begins (given_of m) (state_of m) p w)) (λ s. Led g.P.Program.spent g.P.Program.wants g.P.Program.becomes m c.begins.new.self done s)) (sym own)
-    (does-moves g.P.Program.spent g.P.Program.wants g.P.Program.becomes m c.begins.new.self done p (record { tick = m.tick; node = m.desk.node }) op Stage.Starts (begun (given_of m).opening m.desk p op) own
-    (subst (λ (x : Place). Moves g.P.Program.spent g.P.Program.wants g.P.Program.becomes m c.begins.new.self done p x (begun (given_of m).opening m.desk p op)) c.place.ensures (moves op own))))
+    (λ ok moves.
+    subst (λ (w : Want). ForSome (stepped_as_named (given_of m) (state_of m) (begins (given_of m) (state_of m) p w)) (λ s. Led g.P.Program.spent g.P.Program.wants g.P.Program.becomes m c.begins.new.self c.begins.new.done s)) (sym own)
+    (does-moves g.P.Program.spent g.P.Program.wants g.P.Program.becomes m c.begins.new.self c.begins.new.done p (record { tick = m.tick; node = m.desk.node }) op Stage.Starts (begun (given_of m).opening m.desk p op) own
+    (subst (λ (x : Place). Moves g.P.Program.spent g.P.Program.wants g.P.Program.becomes m c.begins.new.self c.begins.new.done p x (begun (given_of m).opening m.desk p op)) c.place.ensures (moves op own))))
     c.begins.ensures
 
 pub returns-in-Phase : goal.returns-in-Phase
@@ -57,7 +57,7 @@ returns-in-Phase g c =
     let inside : i < length m.procs = subst (λ n. i < n) (sym c.requires.before.within.four) c.index_of.ensures.bound in
     let own : want_at m.procs p ≡ Phase = want-is m.procs i p d c.index_of.ensures.value inside ∙ c.in-Phase.is in
     IfOk-weaker c.pauses.result _ _
-    (λ done does. subst (λ (w : Want). ForSome (stepped_as_named (given_of m) (state_of m) (begins (given_of m) (state_of m) p w)) (λ s. Led g.P.Program.spent g.P.Program.wants g.P.Program.becomes m c.pauses.new.self done s)) (sym own) does)
+    (λ ok does. subst (λ (w : Want). ForSome (stepped_as_named (given_of m) (state_of m) (begins (given_of m) (state_of m) p w)) (λ s. Led g.P.Program.spent g.P.Program.wants g.P.Program.becomes m c.pauses.new.self c.pauses.new.done s)) (sym own) does)
     c.pauses.ensures
 
 pub returns-in-Done : goal.returns-in-Done
@@ -68,4 +68,4 @@ returns-in-Done g c =
     let d = c.index-self-index_of.result in
     let inside : i < length m.procs = subst (λ n. i < n) (sym c.requires.before.within.four) c.index_of.ensures.bound in
     let own : want_at m.procs p ≡ Done = want-is m.procs i p d c.index_of.ensures.value inside ∙ c.in-Done.is in
-    subst (λ (w : Want). ForSome (stepped_as_named (given_of m) (state_of m) (begins (given_of m) (state_of m) p w)) (λ s. Led g.P.Program.spent g.P.Program.wants g.P.Program.becomes m c.finishes.new.self c.finishes.result s)) (sym own) c.finishes.ensures
+    subst (λ (w : Want). ForSome (stepped_as_named (given_of m) (state_of m) (begins (given_of m) (state_of m) p w)) (λ s. Led g.P.Program.spent g.P.Program.wants g.P.Program.becomes m c.finishes.new.self c.finishes.new.done s)) (sym own) c.finishes.ensures

@@ -28,9 +28,9 @@ returns g c =
     let p = c.args.proc.number in
     let opening : Start = record { nodes = m.desk.nodes; greatest = m.greatest; objects = [] } in
     IfOk-weaker c.accessed.result _ _
-    (λ done turns op wanted.
+    (λ ok turns op wanted.
     let some = some-there (desk_op op) (c.requires.access op wanted) in
-    subst (λ (a : Accessed). Moves g.P.Program.spent g.P.Program.wants g.P.Program.becomes m c.accessed.new.self done p c.args.begun a) (sym (begun-desk opening m.desk p op some.0 some.1))
-    (moves-accessed g.P.Program.spent g.P.Program.wants g.P.Program.becomes m c.accessed.new.self done p c.args.begun
+    subst (λ (a : Accessed). Moves g.P.Program.spent g.P.Program.wants g.P.Program.becomes m c.accessed.new.self c.accessed.new.done p c.args.begun a) (sym (begun-desk opening m.desk p op some.0 some.1))
+    (moves-accessed g.P.Program.spent g.P.Program.wants g.P.Program.becomes m c.accessed.new.self c.accessed.new.done p c.args.begun
     c.access_wanted.new.desk (access_of m.desk p some.0) c.in_ok-access.access (c.in_ok-access.ensures.outcome op wanted some.0 some.1) c.in_ok-access.ensures.node turns))
     c.accessed.ensures

@@ -20,12 +20,12 @@ pub returns-then-is_node : goal.returns-then-is_node
 returns-then-is_node g c =
     let m = c.args.self.now in
     let p = c.args.proc.number in
-    let asks = subst (λ (ds : List (ObjectName × ℕ)). Turns g.P.Program.spent g.P.Program.wants g.P.Program.becomes m c.asks.new.self c.asks.result p c.args.begun (Turn.Asks c.args.home (Ask.ListLocks c.args.after)) ds) c.new.ensures c.asks.ensures in
+    let asks = subst (λ (ds : List (ObjectName × ℕ)). Turns g.P.Program.spent g.P.Program.wants g.P.Program.becomes m c.asks.new.self c.asks.new.done p c.args.begun (Turn.Asks c.args.home (Ask.ListLocks c.args.after)) ds) c.new.ensures c.asks.ensures in
     let opening : Start = record { nodes = m.desk.nodes; greatest = m.greatest; objects = [] } in
-    λ op wanted. subst (λ (o : Op). Moves g.P.Program.spent g.P.Program.wants g.P.Program.becomes m c.asks.new.self c.asks.result p c.args.begun (begun_as opening m.desk p o)) (do-same (want_at m.procs p) (ops.List c.args.home c.args.after) op c.requires.wanted wanted)
-    (subst (λ b. Moves g.P.Program.spent g.P.Program.wants g.P.Program.becomes m c.asks.new.self c.asks.result p c.args.begun (Accessed.Settled (list_by m.desk c.args.home c.args.after b)))
+    λ op wanted. subst (λ (o : Op). Moves g.P.Program.spent g.P.Program.wants g.P.Program.becomes m c.asks.new.self c.asks.new.done p c.args.begun (begun_as opening m.desk p o)) (do-same (want_at m.procs p) (ops.List c.args.home c.args.after) op c.requires.wanted wanted)
+    (subst (λ b. Moves g.P.Program.spent g.P.Program.wants g.P.Program.becomes m c.asks.new.self c.asks.new.done p c.args.begun (Accessed.Settled (list_by m.desk c.args.home c.args.after b)))
     (sym c.if-is_node.true ∙ c.is_node.ensures)
-    (moves-settled g.P.Program.spent g.P.Program.wants g.P.Program.becomes m c.asks.new.self c.asks.result p c.args.begun m.desk (asking_home m.desk c.args.home (Ask.ListLocks c.args.after)) refl refl asks))
+    (moves-settled g.P.Program.spent g.P.Program.wants g.P.Program.becomes m c.asks.new.self c.asks.new.done p c.args.begun m.desk (asking_home m.desk c.args.home (Ask.ListLocks c.args.after)) refl refl asks))
 
 pub returns : goal.returns
 returns g c =
@@ -33,10 +33,10 @@ returns g c =
     let p = c.args.proc.number in
     let opening : Start = record { nodes = m.desk.nodes; greatest = m.greatest; objects = [] } in
     IfOk-weaker c.ends.result _ _
-    (λ done turns op wanted. subst (λ (o : Op). Moves g.P.Program.spent g.P.Program.wants g.P.Program.becomes m c.ends.new.self done p c.args.begun (begun_as opening m.desk p o)) (do-same (want_at m.procs p) (ops.List c.args.home c.args.after) op c.requires.wanted wanted)
-    (subst (λ b. Moves g.P.Program.spent g.P.Program.wants g.P.Program.becomes m c.ends.new.self done p c.args.begun (Accessed.Settled (list_by m.desk c.args.home c.args.after b)))
+    (λ ok turns op wanted. subst (λ (o : Op). Moves g.P.Program.spent g.P.Program.wants g.P.Program.becomes m c.ends.new.self c.ends.new.done p c.args.begun (begun_as opening m.desk p o)) (do-same (want_at m.procs p) (ops.List c.args.home c.args.after) op c.requires.wanted wanted)
+    (subst (λ b. Moves g.P.Program.spent g.P.Program.wants g.P.Program.becomes m c.ends.new.self c.ends.new.done p c.args.begun (Accessed.Settled (list_by m.desk c.args.home c.args.after b)))
     (sym c.if-is_node.false ∙ c.is_node.ensures)
-    (moves-settled g.P.Program.spent g.P.Program.wants g.P.Program.becomes m c.ends.new.self done p c.args.begun m.desk (ended m.desk (Locks [] false)) refl refl
-    (subst (λ (rows : List LockRow). Turns g.P.Program.spent g.P.Program.wants g.P.Program.becomes m c.ends.new.self done p c.args.begun (Turn.Ends (Locks rows false)) []) c.new-2.ensures
-    (subst (λ (ds : List (ObjectName × ℕ)). Turns g.P.Program.spent g.P.Program.wants g.P.Program.becomes m c.ends.new.self done p c.args.begun (Turn.Ends (Locks c.new-2.result false)) ds) c.new-3.ensures (turns c.args.begun))))))
+    (moves-settled g.P.Program.spent g.P.Program.wants g.P.Program.becomes m c.ends.new.self c.ends.new.done p c.args.begun m.desk (ended m.desk (Locks [] false)) refl refl
+    (subst (λ (rows : List LockRow). Turns g.P.Program.spent g.P.Program.wants g.P.Program.becomes m c.ends.new.self c.ends.new.done p c.args.begun (Turn.Ends (Locks rows false)) []) c.new-2.ensures
+    (subst (λ (ds : List (ObjectName × ℕ)). Turns g.P.Program.spent g.P.Program.wants g.P.Program.becomes m c.ends.new.self c.ends.new.done p c.args.begun (Turn.Ends (Locks c.new-2.result false)) ds) c.new-3.ensures (turns c.args.begun))))))
     c.ends.ensures

@@ -20,7 +20,7 @@ returns g c =
     let p = c.args.proc.number in
     let opening : Start = record { nodes = m.desk.nodes; greatest = m.greatest; objects = [] } in
     IfOk-weaker c.stepped.result _ _
-    (λ done turns op wanted. subst (λ (o : Op). Moves g.P.Program.spent g.P.Program.wants g.P.Program.becomes m c.stepped.new.self done p c.args.begun (begun_as opening m.desk p o)) (do-same (want_at m.procs p) (ops.Lock c.args.uid c.args.mode) op c.requires.wanted wanted)
-    (moves-stepped g.P.Program.spent g.P.Program.wants g.P.Program.becomes c.args.self.now c.stepped.new.self done c.args.proc.number c.args.begun
+    (λ ok turns op wanted. subst (λ (o : Op). Moves g.P.Program.spent g.P.Program.wants g.P.Program.becomes m c.stepped.new.self c.stepped.new.done p c.args.begun (begun_as opening m.desk p o)) (do-same (want_at m.procs p) (ops.Lock c.args.uid c.args.mode) op c.requires.wanted wanted)
+    (moves-stepped g.P.Program.spent g.P.Program.wants g.P.Program.becomes c.args.self.now c.stepped.new.self c.stepped.new.done c.args.proc.number c.args.begun
     c.begin_lock.new.desk (begin_lock_of c.args.self.now.desk c.args.proc.number c.args.uid c.args.mode) c.in_ok-step.step c.in_ok-step.ensures.outcome c.in_ok-step.ensures.node turns))
     c.stepped.ensures

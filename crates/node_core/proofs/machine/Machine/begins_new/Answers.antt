@@ -19,12 +19,12 @@ pub returns-then-may_make : goal.returns-then-may_make
 returns-then-may_make g c =
     let m = c.args.self.now in
     let p = c.args.proc.number in
-    let asks = subst (λ (ds : List (ObjectName × ℕ)). Turns g.P.Program.spent g.P.Program.wants g.P.Program.becomes m c.asks.new.self c.asks.result p c.args.begun (Turn.Asks c.args.home (Ask.Make c.args.kind c.args.room)) ds) c.new.ensures c.asks.ensures in
+    let asks = subst (λ (ds : List (ObjectName × ℕ)). Turns g.P.Program.spent g.P.Program.wants g.P.Program.becomes m c.asks.new.self c.asks.new.done p c.args.begun (Turn.Asks c.args.home (Ask.Make c.args.kind c.args.room)) ds) c.new.ensures c.asks.ensures in
     let opening : Start = record { nodes = m.desk.nodes; greatest = m.greatest; objects = [] } in
-    λ op wanted. subst (λ (o : Op). Moves g.P.Program.spent g.P.Program.wants g.P.Program.becomes m c.asks.new.self c.asks.result p c.args.begun (begun_as opening m.desk p o)) (do-same (want_at m.procs p) (ops.New c.args.home c.args.kind c.args.room) op c.requires.wanted wanted)
-    (subst (λ b. Moves g.P.Program.spent g.P.Program.wants g.P.Program.becomes m c.asks.new.self c.asks.result p c.args.begun (Accessed.Settled (new_by m.desk c.args.home c.args.kind c.args.room b)))
+    λ op wanted. subst (λ (o : Op). Moves g.P.Program.spent g.P.Program.wants g.P.Program.becomes m c.asks.new.self c.asks.new.done p c.args.begun (begun_as opening m.desk p o)) (do-same (want_at m.procs p) (ops.New c.args.home c.args.kind c.args.room) op c.requires.wanted wanted)
+    (subst (λ b. Moves g.P.Program.spent g.P.Program.wants g.P.Program.becomes m c.asks.new.self c.asks.new.done p c.args.begun (Accessed.Settled (new_by m.desk c.args.home c.args.kind c.args.room b)))
     (sym c.if-may_make.true ∙ c.may_make.ensures)
-    (moves-settled g.P.Program.spent g.P.Program.wants g.P.Program.becomes m c.asks.new.self c.asks.result p c.args.begun m.desk (asking_home m.desk c.args.home (Ask.Make c.args.kind c.args.room)) refl refl asks))
+    (moves-settled g.P.Program.spent g.P.Program.wants g.P.Program.becomes m c.asks.new.self c.asks.new.done p c.args.begun m.desk (asking_home m.desk c.args.home (Ask.Make c.args.kind c.args.room)) refl refl asks))
 
 pub returns : goal.returns
 returns g c =
@@ -32,9 +32,9 @@ returns g c =
     let p = c.args.proc.number in
     let opening : Start = record { nodes = m.desk.nodes; greatest = m.greatest; objects = [] } in
     IfOk-weaker c.ends.result _ _
-    (λ done turns op wanted. subst (λ (o : Op). Moves g.P.Program.spent g.P.Program.wants g.P.Program.becomes m c.ends.new.self done p c.args.begun (begun_as opening m.desk p o)) (do-same (want_at m.procs p) (ops.New c.args.home c.args.kind c.args.room) op c.requires.wanted wanted)
-    (subst (λ b. Moves g.P.Program.spent g.P.Program.wants g.P.Program.becomes m c.ends.new.self done p c.args.begun (Accessed.Settled (new_by m.desk c.args.home c.args.kind c.args.room b)))
+    (λ ok turns op wanted. subst (λ (o : Op). Moves g.P.Program.spent g.P.Program.wants g.P.Program.becomes m c.ends.new.self c.ends.new.done p c.args.begun (begun_as opening m.desk p o)) (do-same (want_at m.procs p) (ops.New c.args.home c.args.kind c.args.room) op c.requires.wanted wanted)
+    (subst (λ b. Moves g.P.Program.spent g.P.Program.wants g.P.Program.becomes m c.ends.new.self c.ends.new.done p c.args.begun (Accessed.Settled (new_by m.desk c.args.home c.args.kind c.args.room b)))
     (sym c.if-may_make.false ∙ c.may_make.ensures)
-    (moves-settled g.P.Program.spent g.P.Program.wants g.P.Program.becomes m c.ends.new.self done p c.args.begun m.desk (ended m.desk NoSpace) refl refl
-    (subst (λ (ds : List (ObjectName × ℕ)). Turns g.P.Program.spent g.P.Program.wants g.P.Program.becomes m c.ends.new.self done p c.args.begun (Turn.Ends NoSpace) ds) c.new-2.ensures (turns c.args.begun)))))
+    (moves-settled g.P.Program.spent g.P.Program.wants g.P.Program.becomes m c.ends.new.self c.ends.new.done p c.args.begun m.desk (ended m.desk NoSpace) refl refl
+    (subst (λ (ds : List (ObjectName × ℕ)). Turns g.P.Program.spent g.P.Program.wants g.P.Program.becomes m c.ends.new.self c.ends.new.done p c.args.begun (Turn.Ends NoSpace) ds) c.new-2.ensures (turns c.args.begun)))))
     c.ends.ensures

@@ -36,8 +36,8 @@ returns-in-Begin-clause-does g c =
     let inc = seen c.args.incoming.now in
     let is = begin-at (given_of m) (state_of m) p c.args.what.now inc c.in-Begin.is c.requires.enabled in
     let event = ap (λ w. event_of (given_of m) (state_of m) w inc) c.in-Begin.is ∙ ap (event_of (given_of m) (state_of m) (Begin p)) is.0 in
-    IfOk-weaker c.begin.result _ _ (λ done does. subst (λ e. Does g.P.Program.spent g.P.Program.wants g.P.Program.becomes m c.begin.new.self done e) (sym event)
-    (subst (λ k. Does g.P.Program.spent g.P.Program.wants g.P.Program.becomes m c.begin.new.self done (Some (begins (given_of m) (state_of m) k (want_at m.procs k)))) (ap (λ q. q.number) c.proc.ensures) does)) c.begin.ensures
+    IfOk-weaker c.begin.result _ _ (λ ok does. subst (λ e. Does g.P.Program.spent g.P.Program.wants g.P.Program.becomes m c.begin.new.self c.begin.new.done e) (sym event)
+    (subst (λ k. Does g.P.Program.spent g.P.Program.wants g.P.Program.becomes m c.begin.new.self c.begin.new.done (Some (begins (given_of m) (state_of m) k (want_at m.procs k)))) (ap (λ q. q.number) c.proc.ensures) does)) c.begin.ensures
 
 pub returns-in-Go-clause-does : goal.returns-in-Go-clause-does
 returns-in-Go-clause-does g c =
@@ -46,15 +46,15 @@ returns-in-Go-clause-does g c =
     let inc = seen c.args.incoming.now in
     let is = go-at (given_of m) (state_of m) p c.args.what.now inc c.in-Go.is c.requires.enabled in
     let event = ap (λ w. event_of (given_of m) (state_of m) w inc) c.in-Go.is ∙ ap (event_of (given_of m) (state_of m) (Go p)) is.0 in
-    IfOk-weaker c.go.result _ _ (λ done does. subst (λ e. Does g.P.Program.spent g.P.Program.wants g.P.Program.becomes m c.go.new.self done e) (sym event)
-    (subst (λ k. Does g.P.Program.spent g.P.Program.wants g.P.Program.becomes m c.go.new.self done (goes_on (state_of m) k (proc_of (state_of m) k).doing)) (ap (λ q. q.number) c.proc-in-Go.ensures) does)) c.go.ensures
+    IfOk-weaker c.go.result _ _ (λ ok does. subst (λ e. Does g.P.Program.spent g.P.Program.wants g.P.Program.becomes m c.go.new.self c.go.new.done e) (sym event)
+    (subst (λ k. Does g.P.Program.spent g.P.Program.wants g.P.Program.becomes m c.go.new.self c.go.new.done (goes_on (state_of m) k (proc_of (state_of m) k).doing)) (ap (λ q. q.number) c.proc-in-Go.ensures) does)) c.go.ensures
 
 pub returns-in-Frame-clause-does : goal.returns-in-Frame-clause-does
 returns-in-Frame-clause-does g c =
     let m = c.args.self.now in
     let inc = seen c.args.incoming.now in
     let event = ap (λ w. event_of (given_of m) (state_of m) w inc) c.in-Take.is ∙ ap (λ i. event_of (given_of m) (state_of m) (Take c.in-Take.field-0 c.in-Take.field-1) (seen i)) c.in-Frame.is in
-    IfOk-weaker c.take.result _ _ (λ done does. subst (λ e. Does g.P.Program.spent g.P.Program.wants g.P.Program.becomes m c.take.new.self done e) (sym event) does) c.take.ensures
+    IfOk-weaker c.take.result _ _ (λ ok does. subst (λ e. Does g.P.Program.spent g.P.Program.wants g.P.Program.becomes m c.take.new.self c.take.new.done e) (sym event) does) c.take.ensures
 
 pub returns-in-Notice-clause-does : goal.returns-in-Notice-clause-does
 returns-in-Notice-clause-does g c =
@@ -63,8 +63,8 @@ returns-in-Notice-clause-does g c =
     let inc = seen c.args.incoming.now in
     let is = notice-at (given_of m) (state_of m) p c.in-Notice.field-1 c.in-Notice.field-2 c.in-Notice.field-3 c.args.what.now inc c.in-Notice.is c.requires.enabled in
     let event = ap (λ w. event_of (given_of m) (state_of m) w inc) c.in-Notice.is ∙ ap (event_of (given_of m) (state_of m) (Notice p c.in-Notice.field-1 c.in-Notice.field-2 c.in-Notice.field-3)) is.2 in
-    IfOk-weaker c.notice.result _ _ (λ done does. subst (λ e. Does g.P.Program.spent g.P.Program.wants g.P.Program.becomes m c.notice.new.self done e) (sym event)
-    (subst (λ k. Does g.P.Program.spent g.P.Program.wants g.P.Program.becomes m c.notice.new.self done (notices (given_of m) (state_of m) k (proc_of (state_of m) k).doing)) (ap (λ q. q.number) c.proc-in-Notice.ensures) does)) c.notice.ensures
+    IfOk-weaker c.notice.result _ _ (λ ok does. subst (λ e. Does g.P.Program.spent g.P.Program.wants g.P.Program.becomes m c.notice.new.self c.notice.new.done e) (sym event)
+    (subst (λ k. Does g.P.Program.spent g.P.Program.wants g.P.Program.becomes m c.notice.new.self c.notice.new.done (notices (given_of m) (state_of m) k (proc_of (state_of m) k).doing)) (ap (λ q. q.number) c.proc-in-Notice.ensures) does)) c.notice.ensures
 
 pub returns-in-Ready-clause-does : goal.returns-in-Ready-clause-does
 returns-in-Ready-clause-does g c s comes =
@@ -80,4 +80,4 @@ returns-in-Mark-clause-does g c =
     let inc = seen c.args.incoming.now in
     let is = mark-at (given_of m) (state_of m) c.in-Mark.from c.in-Mark.phase c.args.what.now inc c.in-Mark.is c.requires.enabled in
     let event = ap (λ w. event_of (given_of m) (state_of m) w inc) c.in-Mark.is ∙ ap (event_of (given_of m) (state_of m) (Mark c.in-Mark.from c.in-Mark.phase)) is.1 in
-    IfOk-weaker c.mark.result _ _ (λ done does. subst (λ e. Does g.P.Program.spent g.P.Program.wants g.P.Program.becomes m c.mark.new.self done e) (sym event) does) c.mark.ensures
+    IfOk-weaker c.mark.result _ _ (λ ok does. subst (λ e. Does g.P.Program.spent g.P.Program.wants g.P.Program.becomes m c.mark.new.self c.mark.new.done e) (sym event) does) c.mark.ensures

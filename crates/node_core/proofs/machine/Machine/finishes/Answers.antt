@@ -16,7 +16,7 @@ returns g c =
     let inside : i < length m.procs = subst (λ n. i < n) (sym c.requires.before.within.four) c.index_of.ensures.bound in
     let put = put-seen m.procs i p d (record (get_or m.procs i d) { phase = m.phases + 1 }) (λ (r : ProcState). record r { phase = m.phases + 1 }) c.index_of.ensures.value inside refl in
     let kept = wants-kept m.procs i d (record (get_or m.procs i d) { phase = m.phases + 1 }) refl in
-    led-some g.P.Program.spent g.P.Program.wants g.P.Program.becomes m _ c.quiet.result (finishes (given_of m) (state_of m) p)
-    (led-still g.P.Program.spent g.P.Program.wants g.P.Program.becomes m _ c.quiet.result (finishes (given_of m) (state_of m) p) c.requires.before.within refl (λ r. ap (λ ws. get_or ws (r - 1) Phase) kept)
+    led-some g.P.Program.spent g.P.Program.wants g.P.Program.becomes m _ c.quiet.new.done (finishes (given_of m) (state_of m) p)
+    (led-still g.P.Program.spent g.P.Program.wants g.P.Program.becomes m _ c.quiet.new.done (finishes (given_of m) (state_of m) p) c.requires.before.within refl (λ r. ap (λ ws. get_or ws (r - 1) Phase) kept)
     (ap (λ ps. record (state_of m) { procs = ps }) (sym put)) (ap (λ d. d.frame) c.quiet.ensures) (ap (λ d. d.effects) c.quiet.ensures ∙ ap (λ ds. record { dropped = ds; sent = None; ended = None }) c.new.ensures)
     refl refl c.requires.before.within.earlier)

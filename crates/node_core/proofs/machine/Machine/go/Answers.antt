@@ -27,7 +27,7 @@ returns g c =
     let doing : (proc_of (state_of m) p).doing ≡ Some (open_seen op c.in-Some.open q.page.value) =
     ap (λ (r : ProcState). r.doing) (proc-is m.procs i p d c.index_of.ensures.value inside) ∙ doing-open q.want q.opened q.page.value op c.in-Some.open found.1 found.2 in
     IfOk-weaker c.begins.result _ _
-    (λ done moves.
-    subst (λ (o : Option OpenOp). ForSome (goes_on (state_of m) p o >>= stepped_as_named (given_of m) (state_of m)) (λ s. Led g.P.Program.spent g.P.Program.wants g.P.Program.becomes m c.begins.new.self done s)) (sym doing)
-    (does-goes_on g.P.Program.spent g.P.Program.wants g.P.Program.becomes m c.begins.new.self done p c.in-Some.open.begun op (open_seen op c.in-Some.open q.page.value) refl own (moves op own)))
+    (λ ok moves.
+    subst (λ (o : Option OpenOp). ForSome (goes_on (state_of m) p o >>= stepped_as_named (given_of m) (state_of m)) (λ s. Led g.P.Program.spent g.P.Program.wants g.P.Program.becomes m c.begins.new.self c.begins.new.done s)) (sym doing)
+    (does-goes_on g.P.Program.spent g.P.Program.wants g.P.Program.becomes m c.begins.new.self c.begins.new.done p c.in-Some.open.begun op (open_seen op c.in-Some.open q.page.value) refl own (moves op own)))
     c.begins.ensures

@@ -22,7 +22,7 @@ returns-clause-happens g c =
     let m = c.args.self.now in
     let inc = seen c.args.incoming.now in
     let at : c.max.result + 1 ≡ max m.tick (tick_of inc) + 1 = omega arith in
-    IfOk-weaker c.does.result _ _ (λ done does. subst (λ t. ForSome (event_of (given_of m) (record (state_of m) { tick = t }) c.args.what.now inc >>= stepped_as_named (given_of m) (record (state_of m) { tick = t })) (λ s. Led g.P.Program.spent g.P.Program.wants g.P.Program.becomes m c.does.new.self done s)) at does) c.does.ensures.does
+    IfOk-weaker c.does.result _ _ (λ ok does. subst (λ t. ForSome (event_of (given_of m) (record (state_of m) { tick = t }) c.args.what.now inc >>= stepped_as_named (given_of m) (record (state_of m) { tick = t })) (λ s. Led g.P.Program.spent g.P.Program.wants g.P.Program.becomes m c.does.new.self c.does.new.done s)) at does) c.does.ensures.does
 
 pub returns-clause-kept : goal.returns-clause-kept
 returns-clause-kept g c =
@@ -30,7 +30,7 @@ returns-clause-kept g c =
     let inc = seen c.args.incoming.now in
     let found = enabled-happens (given_of m) (state_of m) c.args.what.now inc c.requires.kept.given c.requires.kept.node c.requires.frame c.requires.enabled in
     on-ok c.does.result (IsKept g.P.Program.spent g.P.Program.wants c.does.new.self)
-    (IfOk-weaker c.does.result _ _ (λ done happens. kept-after g.P.Program.spent g.P.Program.wants m c.requires.kept g.P.Program.becomes c.does.new.self done found.0 c.args.what.now inc c.requires.frame (happens found.0 found.1) found.2)
+    (IfOk-weaker c.does.result _ _ (λ ok happens. kept-after g.P.Program.spent g.P.Program.wants m c.requires.kept g.P.Program.becomes c.does.new.self c.does.new.done found.0 c.args.what.now inc c.requires.frame (happens found.0 found.1) found.2)
     (returns-clause-happens g c))
 
 pub returns-clause-effects : goal.returns-clause-effects
@@ -38,5 +38,5 @@ returns-clause-effects g c =
     let m = c.args.self.now in
     let inc = seen c.args.incoming.now in
     let found = enabled-happens (given_of m) (state_of m) c.args.what.now inc c.requires.kept.given c.requires.kept.node c.requires.frame c.requires.enabled in
-    IfOk-weaker c.does.result _ _ (λ done happens. effects-after g.P.Program.spent g.P.Program.wants m c.requires.kept g.P.Program.becomes c.does.new.self done found.0 c.args.what.now inc c.requires.frame (happens found.0 found.1) found.2)
+    IfOk-weaker c.does.result _ _ (λ ok happens. effects-after g.P.Program.spent g.P.Program.wants m c.requires.kept g.P.Program.becomes c.does.new.self c.does.new.done found.0 c.args.what.now inc c.requires.frame (happens found.0 found.1) found.2)
     (returns-clause-happens g c)

@@ -31,14 +31,14 @@ pub returns-in_default : goal.returns-in_default
 returns-in_default g c =
     none-led g.P.Program.spent g.P.Program.wants g.P.Program.becomes c.args.self.now c.requires.before c.index_of.result c.caller-proc.result.number (get_or c.args.self.now.procs c.index_of.result c.index-self-index_of.result) c.index-self-index_of.result
     c.index_of.ensures.process c.index_of.ensures.bound c.index_of.ensures.value refl c.args.frame.now (ap (λ q. q.number) c.caller-proc.ensures)
-    c.quiet.result c.new.result c.quiet.ensures c.new.ensures (sym c.doing.ensures ∙ c.in_default.is)
+    c.quiet.new.done c.new.result c.quiet.ensures c.new.ensures (sym c.doing.ensures ∙ c.in_default.is)
 
 pub returns-in_default-awaits : goal.returns-in_default-awaits
 returns-in_default-awaits g c =
     page-led g.P.Program.spent g.P.Program.wants g.P.Program.becomes c.args.self.now c.requires.before c.index_of.result c.caller-proc.result.number (get_or c.args.self.now.procs c.index_of.result c.index-self-index_of.result) c.index-self-index_of.result
     c.index_of.ensures.process c.index_of.ensures.bound c.index_of.ensures.value refl c.args.frame.now (ap (λ q. q.number) c.caller-proc.ensures)
     c.in-Some.field-0 (sym c.doing.ensures ∙ c.in-Some.is)
-    c.quiet-in_default-awaits.result c.new-in_default-awaits.result c.quiet-in_default-awaits.ensures c.new-in_default-awaits.ensures
+    c.quiet-in_default-awaits.new.done c.new-in_default-awaits.result c.quiet-in_default-awaits.ensures c.new-in_default-awaits.ensures
     c.in_default-awaits.field-0 c.in_default-awaits.field-1 c.in_default-awaits.is
 
 pub returns-then-not-fits : goal.returns-then-not-fits
@@ -46,15 +46,15 @@ returns-then-not-fits g c =
     other-led g.P.Program.spent g.P.Program.wants g.P.Program.becomes c.args.self.now c.requires.before c.index_of.result c.caller-proc.result.number (get_or c.args.self.now.procs c.index_of.result c.index-self-index_of.result) c.index-self-index_of.result
     c.index_of.ensures.process c.index_of.ensures.bound c.index_of.ensures.value refl c.args.frame.now (ap (λ q. q.number) c.caller-proc.ensures)
     c.in-Some.field-0 (sym c.doing.ensures ∙ c.in-Some.is) c.in-Answer.call c.in-Answer.is
-    c.quiet-then-not-fits.result c.new-then-not-fits.result c.quiet-then-not-fits.ensures c.new-then-not-fits.ensures
+    c.quiet-then-not-fits.new.done c.new-then-not-fits.result c.quiet-then-not-fits.ensures c.new-then-not-fits.ensures
     (fits-other c.number.result c.args.frame.now.number c.in-Answer.call.asking.number c.number.ensures.value (λ same. let e : false ≡ true = sym c.if-not-fits.true ∙ c.fits.ensures.1 same in absurd (cc)))
 
 pub returns : goal.returns
 returns g c =
-    IfOk-weaker c.hears_body.result _ _ (λ done heard.
+    IfOk-weaker c.hears_body.result _ _ (λ ok heard.
     heard-led g.P.Program.spent g.P.Program.wants g.P.Program.becomes c.args.self.now c.requires.before c.index_of.result c.caller-proc.result.number (get_or c.args.self.now.procs c.index_of.result c.index-self-index_of.result) c.index-self-index_of.result
     c.index_of.ensures.process c.index_of.ensures.bound c.index_of.ensures.value refl c.args.frame.now (ap (λ q. q.number) c.caller-proc.ensures)
     c.in-Some.field-0 (sym c.doing.ensures ∙ c.in-Some.is) c.in-Answer.call c.in-Answer.is
-    c.hears_body.new.self done c.body.result.now c.body.ensures.value
+    c.hears_body.new.self c.hears_body.new.done c.body.result.now c.body.ensures.value
     (fits-same c.number.result c.args.frame.now.number c.in-Answer.call.asking.number c.number.ensures.value (c.fits.ensures.0 c.if-not-fits.false)) heard)
     c.hears_body.ensures

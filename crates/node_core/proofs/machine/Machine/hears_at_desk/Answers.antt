@@ -17,7 +17,7 @@ returns-then-not-answers g c =
     let old = c.args.self.now in
     let p = c.args.proc.number in
     let body = c.args.body.now in
-    heard-nothing g.P.Program.spent g.P.Program.wants g.P.Program.becomes old p body c.quiet.result c.new.result c.requires.at c.quiet.ensures c.new.ensures
+    heard-nothing g.P.Program.spent g.P.Program.wants g.P.Program.becomes old p body c.quiet.new.done c.new.result c.requires.at c.quiet.ensures c.new.ensures
     (λ op want. unsaid old.desk p op (desk-op (want_at old.procs p) op c.requires.not_new c.requires.not_list want) body (sym c.answers.ensures ∙ c.if-not-answers.true)) c.args.begun
 
 pub accessed-requires-clause-there : goal.accessed-requires-clause-there
@@ -76,9 +76,9 @@ returns-in_ok-access-in-Access g c =
     let opened = sym c.open_call.ensures.value ∙ (c.in-Some.is ∙ ap Some c.in-Access.is) in
     let says = said-access old.desk p op.0 desk body (sym c.answers.ensures ∙ c.if-not-answers.false) opened in
     let said = Said.ToAccess says.1 in
-    IfOk-weaker c.accessed.result _ _ (λ done turns.
-    heard-moves g.P.Program.spent g.P.Program.wants g.P.Program.becomes old p body c.accessed.new.self done said c.args.begun
-    (moves-accessed g.P.Program.spent g.P.Program.wants g.P.Program.becomes old c.accessed.new.self done p c.args.begun c.page_came.new.self (page_came_of old.desk p says.1) c.in_ok-access-in-Access.access
+    IfOk-weaker c.accessed.result _ _ (λ ok turns.
+    heard-moves g.P.Program.spent g.P.Program.wants g.P.Program.becomes old p body c.accessed.new.self c.accessed.new.done said c.args.begun
+    (moves-accessed g.P.Program.spent g.P.Program.wants g.P.Program.becomes old c.accessed.new.self c.accessed.new.done p c.args.begun c.page_came.new.self (page_came_of old.desk p says.1) c.in_ok-access-in-Access.access
     (c.in_ok-access-in-Access.ensures.outcome says.0 says.2 says.1 says.3) c.in_ok-access-in-Access.ensures.node turns)
     (λ op2 want. subst (λ x. said_of old.desk p x body ≡ Some said) (one-op w op.0 op2 op.1 want) says.4)) c.accessed.ensures
 
@@ -93,8 +93,8 @@ returns-in_ok-step-in_default-call g c =
     let opened = sym c.open_call.ensures.value ∙ c.in-Some.is in
     let says = said-lock old.desk p op.0 desk body c.in-Some.call (sym c.answers.ensures ∙ c.if-not-answers.false) opened c.in_default-call.not-Access in
     let said = Said.ToLock says.0 in
-    IfOk-weaker c.stepped.result _ _ (λ done turns.
-    heard-moves g.P.Program.spent g.P.Program.wants g.P.Program.becomes old p body c.stepped.new.self done said c.args.begun
-    (moves-stepped g.P.Program.spent g.P.Program.wants g.P.Program.becomes old c.stepped.new.self done p c.args.begun c.answer_came.new.desk (answer_came_of old.desk p says.0) c.in_ok-step-in_default-call.step
+    IfOk-weaker c.stepped.result _ _ (λ ok turns.
+    heard-moves g.P.Program.spent g.P.Program.wants g.P.Program.becomes old p body c.stepped.new.self c.stepped.new.done said c.args.begun
+    (moves-stepped g.P.Program.spent g.P.Program.wants g.P.Program.becomes old c.stepped.new.self c.stepped.new.done p c.args.begun c.answer_came.new.desk (answer_came_of old.desk p says.0) c.in_ok-step-in_default-call.step
     (c.in_ok-step-in_default-call.ensures.outcome says.0 says.1) c.in_ok-step-in_default-call.ensures.node turns)
     (λ op2 want. subst (λ x. said_of old.desk p x body ≡ Some said) (one-op w op.0 op2 op.1 want) says.2)) c.stepped.ensures

@@ -12,19 +12,19 @@ pub returns-in-Made : goal.returns-in-Made
 returns-in-Made g c =
     let old = c.args.self.now in
     let p = c.args.proc.number in
-    IfOk-weaker c.ends.result _ _ (λ done turns. heard-replied g.P.Program.spent g.P.Program.wants g.P.Program.becomes old p c.args.body.now c.ends.new.self done (Made c.in-Made.uid) c.new-dropped.result turns c.new-dropped.ensures
+    IfOk-weaker c.ends.result _ _ (λ ok turns. heard-replied g.P.Program.spent g.P.Program.wants g.P.Program.becomes old p c.args.body.now c.ends.new.self c.ends.new.done (Made c.in-Made.uid) c.new-dropped.result turns c.new-dropped.ensures
     (λ op want. new-said old.desk p op c.args.body.now (want_at old.procs p) c.requires.wanted want ∙ ap (λ b. answer_of b >>= said_to_new) c.in-Made.is) c.args.begun) c.ends.ensures
 
 pub returns-in-NoSpace : goal.returns-in-NoSpace
 returns-in-NoSpace g c =
     let old = c.args.self.now in
     let p = c.args.proc.number in
-    IfOk-weaker c.ends-in-NoSpace.result _ _ (λ done turns. heard-replied g.P.Program.spent g.P.Program.wants g.P.Program.becomes old p c.args.body.now c.ends-in-NoSpace.new.self done NoSpace c.new-dropped.result turns c.new-dropped.ensures
+    IfOk-weaker c.ends-in-NoSpace.result _ _ (λ ok turns. heard-replied g.P.Program.spent g.P.Program.wants g.P.Program.becomes old p c.args.body.now c.ends-in-NoSpace.new.self c.ends-in-NoSpace.new.done NoSpace c.new-dropped.result turns c.new-dropped.ensures
     (λ op want. new-said old.desk p op c.args.body.now (want_at old.procs p) c.requires.wanted want ∙ ap (λ b. answer_of b >>= said_to_new) c.in-NoSpace.is) c.args.begun) c.ends-in-NoSpace.ensures
 
 pub returns-in_default : goal.returns-in_default
 returns-in_default g c =
     let old = c.args.self.now in
     let p = c.args.proc.number in
-    heard-nothing g.P.Program.spent g.P.Program.wants g.P.Program.becomes old p c.args.body.now c.quiet.result c.new-dropped.result c.requires.at c.quiet.ensures c.new-dropped.ensures
+    heard-nothing g.P.Program.spent g.P.Program.wants g.P.Program.becomes old p c.args.body.now c.quiet.new.done c.new-dropped.result c.requires.at c.quiet.ensures c.new-dropped.ensures
     (λ op want. new-said old.desk p op c.args.body.now (want_at old.procs p) c.requires.wanted want ∙ new-told c.args.body.now c.in_default.not-Made c.in_default.not-NoSpace) c.args.begun

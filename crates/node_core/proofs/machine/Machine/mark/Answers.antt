@@ -21,8 +21,8 @@ returns g c s is =
     let n = record (state_of old) { marks = marks } in
     let node = after_marks (given_of old) n in
     let effects = λ (x : List (ObjectName × ℕ)). let e : Effects = record { dropped = x; sent = None; ended = None } in e in
-    subst (λ x. Led g.P.Program.spent g.P.Program.wants g.P.Program.becomes old new c.quiet.result x) (some-is _ s is)
-    (led-untold g.P.Program.spent g.P.Program.wants g.P.Program.becomes old new c.quiet.result _ c.requires.before.within
+    subst (λ x. Led g.P.Program.spent g.P.Program.wants g.P.Program.becomes old new c.quiet.new.done x) (some-is _ s is)
+    (led-untold g.P.Program.spent g.P.Program.wants g.P.Program.becomes old new c.quiet.new.done _ c.requires.before.within
     (ap (λ m. m.programs) c.pass_phase.ensures.same) (ap (λ m. m.procs) c.pass_phase.ensures.same) (ap (λ m. m.greatest) c.pass_phase.ensures.same) (ap (λ m. m.phases) c.pass_phase.ensures.same)
     (subst (λ m. m.server.tick ≤ m.tick) (sym c.pass_phase.ensures.same) c.requires.before.within.earlier)
     (subst (λ x. AreAlike x node) (sym c.pass_phase.ensures.state) (after-alike (given_of old) (state_of old) c.add.new.self marks c.in_ok-add.ensures.taken))

@@ -46,7 +46,7 @@ returns-in-Some g c s comes =
     let found = calling-there (proc_of (state_of old) p).doing c.requires.called in
     let here = ap (λ (x : ProcState). x.doing) (seen-here old.procs i p (get_or old.procs i d) d c.requires.before.within.four c.index_of.ensures.bound c.index_of.ensures.value refl) in
     let again = (rw c.in-Some.is at c.in_ok-again.ensures.again) found.0 found.1 (sym here ∙ found.2) in
-    resent-led g.P.Program.spent g.P.Program.wants g.P.Program.becomes old c.requires.before p c.index_of.ensures.process found.0 found.1 found.2 i d c.notice.new.self c.resends.new.self c.resends.result c.in-Some.again []
+    resent-led g.P.Program.spent g.P.Program.wants g.P.Program.becomes old c.requires.before p c.index_of.ensures.process found.0 found.1 found.2 i d c.notice.new.self c.resends.new.self c.resends.new.done c.in-Some.again []
     c.index_of.ensures.value c.index_of.ensures.bound c.notice.ensures.want again.2 again.0 again.1 c.resends.ensures s comes
 
 pub gives_up-requires-clause-at : goal.gives_up-requires-clause-at
@@ -95,7 +95,7 @@ returns-in-None g c =
     let here = ap (λ (x : ProcState). x.doing) (seen-here old.procs i p (get_or old.procs i d) d c.requires.before.within.four c.index_of.ensures.bound c.index_of.ensures.value refl) in
     let none = (rw c.in-None.is at c.in_ok-again.ensures.none) found.0 found.1 (sym here ∙ found.2) in
     let e : set old.procs i c.notice.new.self ≡ old.procs = ap (set old.procs i) none.1 ∙ set-same old.procs i d in
-    IfOk-weaker c.gives_up.result _ _ (λ done moves.
-    gave_up-led g.P.Program.spent g.P.Program.wants g.P.Program.becomes old c.requires.before p c.index_of.ensures.process found.0 found.1 found.2 c.gives_up.new.self done none.0
-    (subst (λ ps. (begun : Place) (op : Op) → want_at ps p ≡ Do op → ForSome (failed old.desk p op) (λ m. Moves g.P.Program.spent g.P.Program.wants g.P.Program.becomes (record old { procs = ps }) c.gives_up.new.self done p begun (Accessed.Settled m))) e moves))
+    IfOk-weaker c.gives_up.result _ _ (λ ok moves.
+    gave_up-led g.P.Program.spent g.P.Program.wants g.P.Program.becomes old c.requires.before p c.index_of.ensures.process found.0 found.1 found.2 c.gives_up.new.self c.gives_up.new.done none.0
+    (subst (λ ps. (begun : Place) (op : Op) → want_at ps p ≡ Do op → ForSome (failed old.desk p op) (λ m. Moves g.P.Program.spent g.P.Program.wants g.P.Program.becomes (record old { procs = ps }) c.gives_up.new.self c.gives_up.new.done p begun (Accessed.Settled m))) e moves))
     c.gives_up.ensures

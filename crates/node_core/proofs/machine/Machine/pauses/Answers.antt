@@ -39,8 +39,8 @@ returns g c =
     let inside : i < length m.procs = subst (λ n. i < n) (sym c.requires.before.within.four) c.index_of.ensures.bound in
     let here : q ≡ proc_seen (get_or m.procs i d) = ap (λ k. get_or (map proc_seen m.procs) k first_proc) (sym c.index_of.ensures.value) ∙ seen-at m.procs i d inside in
     let phase = (get_or m.procs i d).phase + 1 in
-    led-some g.P.Program.spent g.P.Program.wants g.P.Program.becomes m c.tell.new.self c.quiet.result (pauses (state_of m) p)
-    (led-told g.P.Program.spent g.P.Program.wants g.P.Program.becomes m c.tell.new.self c.quiet.result (pauses (state_of m) p) p None
+    led-some g.P.Program.spent g.P.Program.wants g.P.Program.becomes m c.tell.new.self c.quiet.new.done (pauses (state_of m) p)
+    (led-told g.P.Program.spent g.P.Program.wants g.P.Program.becomes m c.tell.new.self c.quiet.new.done (pauses (state_of m) p) p None
     (record q { doing = None; phase = phase }) (record q { heard = None ∷ q.heard; phase = q.phase + 1 })
     c.requires.before.within proc told.state refl
     (record { doing = sym (nothing-open (given_of m) (state_of m) p c.requires.enabled); last = refl; phase = sym (ap (λ (r : ProcState). r.phase + 1) here) })

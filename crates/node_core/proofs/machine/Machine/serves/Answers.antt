@@ -9,11 +9,11 @@ pub returns-in-Some : goal.returns-in-Some
 returns-in-Some g c s comes =
     let ask = there _ (asked-of c.args.frame.now.body c.requires.request) in
     serves-sent g.P.Program.spent g.P.Program.wants g.P.Program.becomes c.args.self.now c.serve.new.self c.args.frame.now ask.0 c.requires.before.within ask.1 c.in_ok-reply.ensures.side c.in_ok-reply.ensures.tick
-    c.sends.new.self c.sends.result c.in-Some.reply c.new.result s c.sends.ensures c.new.ensures (sym c.in-Some.is ∙ c.in_ok-reply.ensures.reply) comes
+    c.sends.new.self c.sends.new.done c.in-Some.reply c.new.result s c.sends.ensures c.new.ensures (sym c.in-Some.is ∙ c.in_ok-reply.ensures.reply) comes
 
 pub returns-in-None : goal.returns-in-None
 returns-in-None g c s comes =
     let ask = there _ (asked-of c.args.frame.now.body c.requires.request) in
     let quietly = λ (x : List (ObjectName × ℕ)). let e : Done = record { frame = None; effects = record { dropped = x; sent = None; ended = None } } in e in
     serves-none g.P.Program.spent g.P.Program.wants g.P.Program.becomes c.args.self.now c.serve.new.self c.args.frame.now ask.0 c.requires.before.within ask.1 c.in_ok-reply.ensures.side c.in_ok-reply.ensures.tick
-    c.quiet.result s (c.quiet.ensures ∙ ap quietly c.new-in-None.ensures) (sym c.in-None.is ∙ c.in_ok-reply.ensures.reply) comes
+    c.quiet.new.done s (c.quiet.ensures ∙ ap quietly c.new-in-None.ensures) (sym c.in-None.is ∙ c.in_ok-reply.ensures.reply) comes

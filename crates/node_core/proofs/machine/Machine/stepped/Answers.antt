@@ -11,4 +11,4 @@ ends-requires-clause-fits g c =
     (λ op is. c.requires.fits op is (record { turn = Turn.Ends c.in-End.reply; dropped = c.in-End.dropped }) (rw c.in-End.is refl))
 
 pub returns-in-End : goal.returns-in-End
-returns-in-End g c = rw c.in-End.is (IfOk-weaker c.ends.result _ _ (λ done h. h c.args.begun) c.ends.ensures)
+returns-in-End g c = rw c.in-End.is (IfOk-weaker c.ends.result _ _ (λ ok h. h c.args.begun) c.ends.ensures)

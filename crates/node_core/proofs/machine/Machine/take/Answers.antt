@@ -14,4 +14,4 @@ returns-else-is_request g c =
     let old = c.args.self.now in
     let m = c.args.frame.now in
     let none = not-asked m.body (ap is_request (sym c.body.ensures.value) ∙ (sym c.is_request.ensures ∙ c.if-is_request.false)) in
-    IfOk-weaker c.hears.result _ _ (λ done heard. subst (λ a. ForSome (stepped_as_named (given_of old) (state_of old) (takes (state_of old) m a)) (λ s. Led g.P.Program.spent g.P.Program.wants g.P.Program.becomes old c.hears.new.self done s)) (sym none) heard) c.hears.ensures
+    IfOk-weaker c.hears.result _ _ (λ ok heard. subst (λ a. ForSome (stepped_as_named (given_of old) (state_of old) (takes (state_of old) m a)) (λ s. Led g.P.Program.spent g.P.Program.wants g.P.Program.becomes old c.hears.new.self c.hears.new.done s)) (sym none) heard) c.hears.ensures

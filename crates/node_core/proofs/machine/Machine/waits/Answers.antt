@@ -17,5 +17,5 @@ returns g c given op stage number wanted =
     let seen = c.wait.ensures.state op own in
     let put = put-seen m.procs i p d c.wait.new.self (λ r. record r { doing = Some (record { began = record { op = op; begun = c.args.begun }; awaits = Await.Page c.args.uid c.args.page }) }) c.index_of.ensures.value inside seen in
     let kept = wants-kept m.procs i d c.wait.new.self c.wait.ensures.want in
-    led-still g.P.Program.spent g.P.Program.wants g.P.Program.becomes m _ c.quiet.result _ c.requires.at refl (λ r. ap (λ ws. get_or ws (r - 1) Phase) kept)
+    led-still g.P.Program.spent g.P.Program.wants g.P.Program.becomes m _ c.quiet.new.done _ c.requires.at refl (λ r. ap (λ ws. get_or ws (r - 1) Phase) kept)
     (ap (λ ps. record (state_of m) { procs = ps }) (sym put)) (ap (λ d. d.frame) c.quiet.ensures) (ap (λ d. d.effects) c.quiet.ensures) refl refl c.requires.at.earlier

@@ -1,0 +1,14 @@
+pub mod Machines
+pub mod Works
+pub mod Stages
+pub mod Turning
+pub mod Beginnings
+pub mod Sound
+pub mod Serving
+pub mod Contents
+pub mod Reaching
+pub mod ReadsServed
+pub mod Storing
+pub mod AppendsServed
+pub mod CopiesServed
+pub mod StoresSound

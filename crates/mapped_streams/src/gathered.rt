@@ -1,0 +1,51 @@
+//! What is made of the bytes that are loaded.
+ghost use Rattle.std.specs.Prelude.{◌≡◌, ◌+◌, ◌≤◌, ◌<◌, ◌*◌, ◌^◌, length, OnOk};
+ghost use Rattle.mapped_streams.specs.Gathering.{lines as lines_of, gathered_with, come_to, IsGathered};
+
+use crate::step::StreamResult;
+use std::alloc::Global;
+use std::mem;
+use uid_names::{ByteList, NoMemory};
+
+/// All bytes, or how many lines end in them.
+#[derive(Drop)]
+pub enum Gathered {
+    All(ByteList),
+    Lines(u64),
+}
+
+/// How many lines end in a text.
+fn lines(bytes: &[u8]) -> u64
+    ensures value { result ≡ lines_of bytes.now }
+    ensures few { result ≤ length bytes.now }
+{
+    bytes.iter().filter(|byte| **byte == b'\n').count() as u64
+}
+
+impl Gathered {
+    /// Takes in the bytes of a page, behind so many pages.
+    pub fn add(&mut self, page: u32, bytes: &[u8]) -> Result<(), NoMemory>
+        requires lines { IsGathered page self.old }
+        requires few { length bytes.now ≤ 1024 }
+        ensures value { OnOk result (self.new ≡ gathered_with self.old bytes.now) }
+        ensures lines { OnOk result (IsGathered (page + 1) self.new) }
+    {
+        match self {
+            Gathered::All(all) => all.extend(bytes),
+            Gathered::Lines(count) => {
+                *count += lines(bytes);
+                Ok(())
+            }
+        }
+    }
+
+    /// What it comes to; the bytes are handed out.
+    pub fn take(&mut self, alloc: Global) -> StreamResult
+        ensures { result ≡ come_to self.old }
+    {
+        match self {
+            Gathered::All(all) => StreamResult::Bytes(mem::replace(all, ByteList::new(alloc))),
+            Gathered::Lines(count) => StreamResult::Count(*count),
+        }
+    }
+}
