@@ -1,46 +1,70 @@
 -- What the code knows of how commands begin, and of machines that are told something.
-use Rattle.std.proofs.Common.{◌≡◌, ℕ, Bool, true, false, cond, Option, Some, None, List, [], ◌∷◌, ◌++◌, lit≤, refl, ap, ◌∙◌, sym, subst}
-use Rattle.std.specs.Prelude.{◌≢◌, IfSome, codes, unwrap_or}
+use Rattle.std.proofs.Common.{◌≡◌, ℕ, true, false, cond, Option, Some, None, List, [], ◌∷◌, ◌++◌, length, lit≤, refl, ap, ◌∙◌, sym, subst}
+use Rattle.std.specs.Prelude.{◌≢◌, IfSome, MatchOption, codes, unwrap_or}
 use Rattle.uid_names.specs.Names.{ObjectName}
 use Rattle.uid_names.specs.Rooms.{IsRoom}
-use Rattle.uid_names.specs.declared.limits.TheConstants.{MAX_ROOM}
-use Rattle.dom_history.specs.Ranges.{IsOp}
+use Rattle.uid_names.specs.declared.limits.TheConstants.{MAX_ROOM, PAGE_BYTES}
 use Rattle.dom_history.specs.declared.op.Op.{Op}
 use Rattle.dom_history.specs.declared.op.Reply.{Reply}
 use Rattle.dom_history.specs.declared.op.Reply.TheVariants.{Fine}
 use Rattle.script_reader.specs.declared.command.Command.{Command}
-use Rattle.script_reader.specs.declared.command.Command.TheVariants.{New, Lock, Unlock, Delete, Load, Store, Length, Map, Unmap, Loadat, Storeat, Bind, Crf, Crd, Crl, Dlf, Ld, Wd, Llkob}
-use Rattle.naming_tree.specs.declared.step.NameResult.{NameResult}
-use Rattle.naming_tree.specs.declared.step.NameStep.{NameStep}
+use Rattle.script_reader.specs.declared.command.Command.TheVariants.{New, Lock, Unlock, Delete, Load, Store, Length, Map, Unmap, Loadat, Storeat, Bind, Crf, Crd, Crl, Dlf, Catf, Lnf, Apf, Cpf, Ld, Wd, Llkob}
 use Rattle.naming_tree.specs.declared.step.NameStep.TheVariants.{Do, Over}
+use Rattle.naming_tree.specs.declared.step.NameResult.{NameResult}
+use Rattle.naming_tree.specs.ByPaths.{by_path_after, by_path_asks}
+use Rattle.naming_tree.specs.Walking.{walking_after, walking_asks}
 use Rattle.naming_tree.specs.Turns.{FitsAsked}
 use Rattle.aegis_shell.specs.AnswerTexts.{not_bound, path_too_long}
 use Rattle.aegis_shell.specs.Operations.{ops_of, first_of}
-use Rattle.aegis_shell.specs.Plans.{Plan, Makes, Talks, Lists, Writes, makes, talks, is_long, is_path, is_room, is_sound, talk_plan, plan_of, talk_of}
+use Rattle.aegis_shell.specs.Plans.{Talks, Writes, makes, talks, is_long, is_path, is_room, is_text, is_sound, name_talk_of, talk_plan, plan_of, talk_of}
 use Rattle.aegis_shell.specs.Ranges.{IsRanged}
-use Rattle.aegis_shell.specs.States.{Going, Goes, Comes, on_step, talk_goes, may_be, on_talk, begins, begins_by}
-use Rattle.aegis_shell.specs.Talks.{talk_asks, talk_after, talk_says, MayBeTold}
+use Rattle.aegis_shell.specs.States.{Goes, Comes, on_turn, talk_goes, may_be, on_talk, begins, begins_by}
+use Rattle.aegis_shell.specs.NameTalks.{name_asks, name_after, name_says}
+use Rattle.aegis_shell.specs.FileTurns.{Asks as FileAsks}
+use Rattle.aegis_shell.specs.Talks.{talk_asks, name_turn, as_turn, talk_turn, MayBeTold}
+use Rattle.aegis_shell.specs.Turns.{going, AsksIn}
 use Rattle.aegis_shell.specs.Work.{Part}
 use Rattle.aegis_shell.specs.declared.outcome.Outcome.TheVariants.{Came, Replied, Written}
 use Rattle.aegis_shell.specs.declared.stage.Stage.TheVariants.{First, Talks as Talking}
+use Rattle.aegis_shell.specs.declared.file_talk.FileTurn.{FileTurn}
+use Rattle.aegis_shell.specs.declared.file_talk.FileTurn.TheVariants as files
+use Rattle.aegis_shell.specs.declared.name_talk.NameTalk.{NameTalk}
+use Rattle.aegis_shell.specs.declared.name_talk.NameTalk.TheVariants.{Walk, List as ListRows, Add, Drop}
+use Rattle.aegis_shell.specs.declared.stage.Turn.{Turn}
+use Rattle.aegis_shell.specs.declared.stage.Turn.TheVariants as turns
 use Rattle.aegis_shell.specs.declared.talk.Talk.{Talk}
+use Rattle.aegis_shell.specs.declared.talk.Talk.TheVariants.{Name}
 use Rattle.aegis_shell.specs.declared.working.Working.{Working}
-use Rattle.aegis_shell.proofs.Counts.{IsShort, AreShort, ops_short}
+use Rattle.aegis_shell.proofs.Counts.{AreShort, ops_short}
 use Rattle.aegis_shell.proofs.Fittings.{and_both, between_yes, op_yes, then_fits}
 use Rattle.aegis_shell.proofs.Readies.{talk_begun}
-use Rattle.aegis_shell.proofs.Talking.{talk_asked}
+use Rattle.aegis_shell.proofs.Machines.{asked_stood}
 
--- a machine that says an operation goes on with it
-pub talk_going : (talk : Talk) (last : Option Reply) (op : Op) → Some (Do op) ≡ talk_says talk last → IsOp op → Goes (Talking (talk_after talk last)) ≡ talk_goes talk last
-talk_going talk last op says is =
-    sym (ap (λ step. on_step step (talk_after talk last)) (sym says) ∙ ap (λ b. cond b (Goes (Talking (talk_after talk last))) (Comes (Replied Fine))) (op_yes op is))
+-- a machine of a name asks, where it stands, what it said
+pub name_asking : (talk : NameTalk) (last : Option Reply) (op : Op) → Some (Do op) ≡ name_says talk last → name_asks (name_after talk last) ≡ Some op
+name_asking (Walk m) last op says = asked_stood walking_asks walking_after m last op (sym says)
+name_asking (ListRows m) last op says = asked_stood by_path_asks by_path_after m last op (sym says)
+name_asking (Add m) last op says = asked_stood by_path_asks by_path_after m last op (sym says)
+name_asking (Drop m) last op says = asked_stood by_path_asks by_path_after m last op (sym says)
 
-pub talk_going_asks : (talk : Talk) (last : Option Reply) (op : Op) → Some (Do op) ≡ talk_says talk last → talk_asks (talk_after talk last) ≡ Some op
-talk_going_asks talk last op says = talk_asked talk last op (sym says)
+-- it goes on with that, or has come to a result
+pub name_goes : (talk : NameTalk) (last : Option Reply) (op : Op) → Some (Do op) ≡ name_says talk last → Some (turns.Goes (Talking (Name (name_after talk last))) op) ≡ talk_turn (Name talk) last
+name_goes talk last op says = ap (λ step. name_turn step (name_after talk last)) says
 
--- one that says a result has come to it
-pub talk_coming : (talk : Talk) (last : Option Reply) (result : NameResult) → Some (Over result) ≡ talk_says talk last → Comes (Came result) ≡ talk_goes talk last
-talk_coming talk last result says = sym (ap (λ step. on_step step (talk_after talk last)) (sym says))
+pub name_comes : (talk : NameTalk) (last : Option Reply) (result : NameResult) → Some (Over result) ≡ name_says talk last → Some (turns.Comes (Came result)) ≡ talk_turn (Name talk) last
+name_comes talk last result says = ap (λ step. name_turn step (name_after talk last)) says
+
+-- so does one of a file
+pub file_asking : (turn : FileTurn) (list : Option (List Op)) → FileAsks turn → AsksIn list (as_turn turn)
+file_asking (files.Goes talk op) list asks = asks
+file_asking (files.Comes outcome) list asks = tt
+
+-- a turn leads where it goes, if what it asks is in its ranges
+pub turn_leads : (turn : Turn) (found : Option Turn) (list : Option (List Op)) → Some turn ≡ found → AsksIn list turn → going turn ≡ on_turn found
+turn_leads turn found list is asks = leads turn asks ∙ ap on_turn is where
+  leads : (turn : Turn) → AsksIn list turn → going turn ≡ on_turn (Some turn)
+  leads (turns.Goes stage op) asks = sym (ap (λ b. cond b (Goes stage) (Comes (Replied Fine))) (op_yes op asks.1))
+  leads (turns.Comes outcome) asks = refl
 
 -- one that is told what fits goes on
 pub talk_hears : (talk : Talk) (reply : Reply) → FitsAsked (talk_asks talk) (Some reply) → talk_goes talk (Some reply) ≡ on_talk (may_be (talk_asks talk) (Some reply)) talk (Some reply)
@@ -64,6 +88,10 @@ ranged_sound (Crf path room) h = and_both (is_path path) (is_room (unwrap_or roo
 ranged_sound (Crd path) h = h.0
 ranged_sound (Crl path target) h = and_both (is_path path) (is_path target) h.0 h.1.0
 ranged_sound (Dlf path) h = h.0
+ranged_sound (Catf path) h = h.0
+ranged_sound (Lnf path) h = h.0
+ranged_sound (Apf path text) h = and_both (is_path path) (is_text text) h.0 (between_yes 1 (length text) PAGE_BYTES h.1.0.0 h.1.0.1)
+ranged_sound (Cpf path target) h = and_both (is_path path) (is_path target) h.0 h.1.0
 ranged_sound (Ld path) h = h.0
 ranged_sound (Wd (Some path)) h = h.0
 ranged_sound (Wd None) h = refl
@@ -128,3 +156,38 @@ lacks_first part working command (Some (first ∷ rest)) short e = cc
 
 pub lacks_object : (part : Part) (working : Working) (command : Command) (uid : Option ObjectName) → None ≡ first_of (ops_of part.node command uid) → Comes (Written not_bound) ≡ begins_by part working command (makes (ops_of part.node command uid))
 lacks_object part working command uid e = lacks_first part working command (ops_of part.node command uid) (ops_short part.node command uid) e
+
+-- the machine of a command on names, or none of one that has no dialogue
+abbrev IsFound : Part → Working → Command → Option NameTalk → Type 0
+IsFound part working command found = MatchOption found (talks command ≡ false) (λ talk. (talks command ≡ true) × (Name talk ≡ talk_of part working command))
+
+pub named_found : (part : Part) (working : Working) (command : Command) (found : Option NameTalk) → found ≡ name_talk_of part working.dir command
+    → ((path : List ℕ) → command ≢ Catf path) → ((path : List ℕ) → command ≢ Lnf path) → ((path text : List ℕ) → command ≢ Apf path text) → ((path target : List ℕ) → command ≢ Cpf path target)
+    → MatchOption found (talks command ≡ false) (λ talk. (talks command ≡ true) × (Name talk ≡ talk_of part working command))
+named_found part working command found is reads counts appends copies = subst (λ (f : Option NameTalk). IsFound part working command f) (sym is) (by_command command reads counts appends copies) where
+  by_command : (command : Command) → ((path : List ℕ) → command ≢ Catf path) → ((path : List ℕ) → command ≢ Lnf path) → ((path text : List ℕ) → command ≢ Apf path text) → ((path target : List ℕ) → command ≢ Cpf path target)
+      → IsFound part working command (name_talk_of part working.dir command)
+  by_command (Catf path) reads counts appends copies = absurd (reads path refl)
+  by_command (Lnf path) reads counts appends copies = absurd (counts path refl)
+  by_command (Apf path text) reads counts appends copies = absurd (appends path text refl)
+  by_command (Cpf path target) reads counts appends copies = absurd (copies path target refl)
+  by_command (Bind var path) reads counts appends copies = (refl, refl)
+  by_command (Crf path room) reads counts appends copies = (refl, refl)
+  by_command (Crd path) reads counts appends copies = (refl, refl)
+  by_command (Crl path target) reads counts appends copies = (refl, refl)
+  by_command (Dlf path) reads counts appends copies = (refl, refl)
+  by_command (Ld path) reads counts appends copies = (refl, refl)
+  by_command (Wd (Some path)) reads counts appends copies = (refl, refl)
+  by_command (Wd None) reads counts appends copies = refl
+  by_command (Llkob node) reads counts appends copies = refl
+  by_command (New var room home) reads counts appends copies = refl
+  by_command (Lock var mode) reads counts appends copies = refl
+  by_command (Unlock var) reads counts appends copies = refl
+  by_command (Delete var) reads counts appends copies = refl
+  by_command (Load var offset count) reads counts appends copies = refl
+  by_command (Store var offset text) reads counts appends copies = refl
+  by_command (Length var) reads counts appends copies = refl
+  by_command (Map var) reads counts appends copies = refl
+  by_command (Unmap var) reads counts appends copies = refl
+  by_command (Loadat address count) reads counts appends copies = refl
+  by_command (Storeat address text) reads counts appends copies = refl

@@ -1,5 +1,5 @@
 -- What is known of a command's turn behind the calls that make it.
-use Rattle.std.proofs.Common.{◌≡◌, ℕ, Bool, true, false, Option, Some, None, List, refl, ap, ◌∙◌, sym, subst}
+use Rattle.std.proofs.Common.{◌≡◌, ℕ, Bool, Option, Some, None, List, refl, ap, ◌∙◌, sym, subst}
 use Rattle.std.specs.Prelude.{◌≢◌, Result, Ok, Err, IfOk, codes}
 use Rattle.std.proofs.lemmas.Result.{IfOk-weaker}
 use Rattle.uid_names.specs.Names.{ObjectName}
@@ -10,20 +10,15 @@ use Rattle.dom_history.specs.declared.op.Op.TheVariants as ops
 use Rattle.dom_history.specs.declared.op.Reply.{Reply}
 use Rattle.dom_history.specs.declared.op.Reply.TheVariants.{Locks}
 use Rattle.script_reader.specs.declared.command.Command.{Command}
-use Rattle.script_reader.specs.declared.command.Command.TheVariants.{Wd, Llkob}
-use Rattle.aegis_shell.specs.AnswerTexts.{path_too_long}
-use Rattle.aegis_shell.specs.Operations.{ops_of}
-use Rattle.aegis_shell.specs.Plans.{talks, is_long, makes}
-use Rattle.aegis_shell.specs.States.{Going, Comes, begins, begins_by, on_list, goes_on}
+use Rattle.script_reader.specs.declared.command.Command.TheVariants.{Llkob}
+use Rattle.aegis_shell.specs.States.{Going, Comes, begins, on_list}
 use Rattle.aegis_shell.specs.Turns.{going, AsksIn}
 use Rattle.aegis_shell.specs.Work.{Part}
 use Rattle.aegis_shell.specs.declared.outcome.Outcome.TheVariants.{Replied, Written}
-use Rattle.aegis_shell.specs.declared.stage.Stage.{Stage}
 use Rattle.aegis_shell.specs.declared.stage.Stage.TheVariants.{Lists}
 use Rattle.aegis_shell.specs.declared.stage.Turn.{Turn}
 use Rattle.aegis_shell.specs.declared.stage.Turn.TheVariants as turns
 use Rattle.aegis_shell.specs.declared.working.Working.{Working}
-use Rattle.aegis_shell.proofs.Beginnings.{plain_begins, long_begins}
 
 -- a turn that leads there leads to what is the same
 pub leads_same : {E : Type 0} (result : Result Turn E) (there same : Going) → IfOk result (λ turn. going turn ≡ there) → there ≡ same → IfOk result (λ turn. going turn ≡ same)

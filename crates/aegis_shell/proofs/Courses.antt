@@ -12,10 +12,10 @@ use Rattle.dom_history.specs.declared.op.Reply.TheVariants.{Fine, Locks}
 use Rattle.dom_history.specs.declared.op.Want.TheVariants.{Done}
 use Rattle.dom_history.specs.Follows.{Heard}
 use Rattle.script_reader.specs.declared.command.Command.{Command}
-use Rattle.script_reader.specs.declared.command.Command.TheVariants.{Bind, Crf, Crd, Crl, Dlf, Ld, Wd, Llkob}
+use Rattle.script_reader.specs.declared.command.Command.TheVariants.{Bind, Crf, Crd, Crl, Dlf, Catf, Lnf, Apf, Cpf, Ld, Wd, Llkob}
 use Rattle.script_reader.specs.Scripts.{Content, IsContent}
 use Rattle.script_reader.specs.Variables.{declared_object}
-use Rattle.naming_tree.specs.Dialogues.{Dialogue, Ends as Finished, Asks as Asking}
+use Rattle.aegis_shell.specs.Dialogues.{Dialogue, Ends as Finished, Asks as Asking}
 use Rattle.aegis_shell.specs.declared.work.Job.{Job}
 use Rattle.aegis_shell.specs.declared.outcome.Outcome.{Outcome}
 use Rattle.aegis_shell.specs.declared.outcome.Outcome.TheVariants.{Replied, Written}
@@ -185,6 +185,10 @@ plain_plan part working uid (Crf path room) plain = cc
 plain_plan part working uid (Crd path) plain = cc
 plain_plan part working uid (Crl path target) plain = cc
 plain_plan part working uid (Dlf path) plain = cc
+plain_plan part working uid (Catf path) plain = cc
+plain_plan part working uid (Lnf path) plain = cc
+plain_plan part working uid (Apf path text) plain = cc
+plain_plan part working uid (Cpf path target) plain = cc
 plain_plan part working uid (Ld path) plain = cc
 plain_plan part working uid (Wd path) plain = cc
 plain_plan part working uid (Llkob node) plain = cc

@@ -1,11 +1,11 @@
 -- The tests of replies and of operations tell what fits and what is in its ranges.
-use Rattle.std.proofs.Common.{◌≡◌, ◌≤◌, ◌<◌, ◌+◌, ◌*◌, ◌%◌, ◌^◌, ℕ, Bool, true, false, Option, Some, None, List, length, refl, ap, cond, rules, arith}
+use Rattle.std.proofs.Common.{◌≡◌, ◌≤◌, ◌<◌, ◌+◌, ◌*◌, ◌%◌, ◌^◌, ℕ, Bool, true, Option, Some, None, List, length, refl, ap, cond, rules, arith}
 use Rattle.std.specs.Prelude.{◌&&◌, ◌==◌, IfSome, nat_le, nat_lt}
 use Rattle.std.proofs.lemmas.Bool.{eqb-true}
 use Rattle.std.proofs.lemmas.Bool.Decides.{nat_tests}
 use Rattle.uid_names.specs.Names.{ObjectName, ProcName, IsName}
 use Rattle.uid_names.specs.declared.lock_row.LockRow.{LockRow}
-use Rattle.uid_names.specs.declared.limits.TheConstants.{LISTED_ROWS, MAX_LENGTH, MAX_NODES, MAX_ROOM, NODE_PROCESSES, PAGE_BYTES}
+use Rattle.uid_names.specs.declared.limits.TheConstants.{MAX_NODES, MAX_ROOM, NODE_PROCESSES, PAGE_BYTES}
 use Rattle.uid_names.specs.declared.segment.TheConstants.{SEGMENT_SIZE, SEGMENTS}
 use Rattle.dom_history.specs.declared.op.Spot.{Spot}
 use Rattle.dom_history.specs.declared.op.Spot.TheVariants.{Of, Addr}

@@ -1,5 +1,5 @@
 -- What the code knows where a process is told a reply: of the job that it reads, the object and the stage that it takes.
-use Rattle.std.proofs.Common.{◌≡◌, ℕ, ◌+◌, Option, Some, List, ◌∷◌, length, drop, refl, ap, ◌∙◌, sym, subst, slice_index_or}
+use Rattle.std.proofs.Common.{◌≡◌, ◌+◌, Option, Some, List, ◌∷◌, length, drop, ap, ◌∙◌, sym, subst, slice_index_or}
 use Rattle.std.specs.Prelude.{All}
 use Rattle.std.proofs.lemmas.List.Elements.{All-head, All-drop}
 use Rattle.uid_names.specs.Names.{ObjectName}

@@ -1,5 +1,5 @@
 -- The last of the rows of a list of locks.
-use Rattle.std.proofs.Common.{◌≡◌, ◌-◌, ℕ, suc, true, cond, Option, Some, None, List, [], ◌∷◌, length, refl, ap, ◌∙◌, sym, arith}
+use Rattle.std.proofs.Common.{◌≡◌, ◌-◌, suc, cond, Some, None, List, [], ◌∷◌, length, refl, ap, ◌∙◌, sym, arith}
 use Rattle.std.specs.List.{slice_get}
 use Rattle.uid_names.specs.Names.{IsName}
 use Rattle.uid_names.specs.declared.lock_row.LockRow.{LockRow}

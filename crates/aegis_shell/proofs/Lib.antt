@@ -1,5 +1,9 @@
 pub mod Variables
 pub mod Counts
+pub mod Machines
+pub mod Streams
+pub mod Copies
+pub mod Sims
 pub mod Talking
 pub mod Fittings
 pub mod Lasts

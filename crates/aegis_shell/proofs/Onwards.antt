@@ -1,28 +1,26 @@
 -- A process goes on from where it stands as it would from its beginning.
-use Rattle.std.proofs.Common.{◌≡◌, ℕ, suc, ◌+◌, ◌-◌, ◌≤◌, ◌<◌, Bool, true, false, Option, Some, None, List, [], ◌∷◌, ◌++◌, length, drop, refl, ap, ◌∙◌, sym, subst, arith, append_assoc, append-nil, length-append, cond}
+use Rattle.std.proofs.Common.{◌≡◌, ℕ, suc, ◌+◌, ◌-◌, ◌≤◌, ◌<◌, Bool, true, false, Option, List, [], ◌∷◌, ◌++◌, length, drop, refl, ap, ◌∙◌, sym, subst, arith, append_assoc, append-nil, length-append, cond}
 use Rattle.std.specs.Prelude.{max, nat_lt}
 use Rattle.std.proofs.Math.Nat.{max-eq_left, max-eq_right}
 use Rattle.std.proofs.lemmas.List.{drop-drop}
 use Rattle.std.proofs.lemmas.Bool.Decides.{nat_tests}
-use Rattle.uid_names.specs.Names.{ObjectName}
 use Rattle.dom_history.specs.declared.op.Op.{Op}
 use Rattle.dom_history.specs.declared.op.Reply.{Reply}
 use Rattle.dom_history.specs.declared.op.Want.{Want}
-use Rattle.dom_history.specs.declared.op.Want.TheVariants.{Do, Phase, Done}
+use Rattle.dom_history.specs.declared.op.Want.TheVariants.{Phase, Done}
 use Rattle.script_reader.specs.declared.command.Command.{Command}
 use Rattle.aegis_shell.specs.declared.work.Job.{Job}
 use Rattle.aegis_shell.specs.declared.outcome.Outcome.{Outcome}
 use Rattle.aegis_shell.specs.declared.stage.Stage.{Stage}
 use Rattle.aegis_shell.specs.declared.stage.Stage.TheVariants.{Between, First, Second, Talks as Talking, Lists as Listing}
-use Rattle.aegis_shell.specs.Bindings.{Rows, object_at}
 use Rattle.aegis_shell.specs.Bound.{Bound}
 use Rattle.aegis_shell.specs.declared.working.Working.{Working}
-use Rattle.aegis_shell.specs.Work.{Part, object_of}
+use Rattle.aegis_shell.specs.Work.{Part}
 use Rattle.aegis_shell.specs.Standing.{Standing}
 use Rattle.aegis_shell.specs.Outcomes.{outcome_text, bound_by, working_after, standing_after}
-use Rattle.aegis_shell.specs.Asking.{Told, Reached, waits, answered, behind_phases, Course, Asks, Ends, course_of, on_course, on_phases, reach}
+use Rattle.aegis_shell.specs.Asking.{Told, Reached, waits, behind_phases, Course, Ends, course_of, on_course, on_phases, reach}
 use Rattle.aegis_shell.specs.States.{State, left, standing, object_at_job, ops_at, Going, Goes, Comes, begins, goes_on, op_in, want_by, want_in, want_left, want_of, finished, at_stage, on_going, settle, settled, settled_at, next_phase, heard_at, hear, step}
-use Rattle.aegis_shell.proofs.Stages.{OnCourse, Leads, AsksNow, asks_now, goes_with}
+use Rattle.aegis_shell.proofs.Stages.{OnCourse, Leads, asks_now, goes_with}
 use Rattle.aegis_shell.proofs.Planned.{begin_leads}
 use Rattle.aegis_shell.proofs.Variables.{object_after}
 

@@ -1,11 +1,11 @@
 -- A command begins as its course does.
-use Rattle.std.proofs.Common.{◌≡◌, ℕ, Bool, true, false, cond, Option, Some, None, List, [], ◌∷◌, refl, ap, ◌∙◌, sym, subst}
+use Rattle.std.proofs.Common.{◌≡◌, Bool, true, false, cond, Option, Some, None, List, [], ◌∷◌, refl}
 use Rattle.uid_names.specs.Names.{ObjectName}
 use Rattle.dom_history.specs.declared.op.Op.{Op}
 use Rattle.script_reader.specs.declared.command.Command.{Command}
 use Rattle.script_reader.specs.declared.command.Command.TheVariants.{Wd, Llkob}
 use Rattle.aegis_shell.specs.AnswerTexts.{path_too_long}
-use Rattle.aegis_shell.specs.Asking.{Told, carry}
+use Rattle.aegis_shell.specs.Asking.{carry}
 use Rattle.aegis_shell.specs.Operations.{ops_of}
 use Rattle.aegis_shell.specs.Plans.{Plan, Makes, Talks, Lists, Writes, makes, talks, is_long, is_sound, talk_plan, plan_of, dialogue_of, talk_of}
 use Rattle.aegis_shell.specs.Standing.{Standing}
@@ -14,7 +14,8 @@ use Rattle.aegis_shell.specs.Work.{Part}
 use Rattle.aegis_shell.specs.declared.working.Working.{Working}
 use Rattle.aegis_shell.proofs.Counts.{IsShort, AreShort, ops_short}
 use Rattle.aegis_shell.proofs.Stages.{Leads, stepped}
-use Rattle.aegis_shell.proofs.Talking.{talk_tells}
+use Rattle.aegis_shell.specs.Talks.{talk_turn}
+use Rattle.aegis_shell.proofs.Talking.{talk_starts}
 
 -- a plan is one of a command that has such operations, or such a dialogue
 abbrev pub IsPlanned : Option (List Op) → Command → Plan → Type 0
@@ -47,7 +48,7 @@ plan_leads : (part : Part) (at : Standing) (list : Option (List Op)) (command : 
 plan_leads part at list command (Makes []) h = elim h.1 [ ]
 plan_leads part at list command (Makes (op ∷ rest)) h = record { ops = op ∷ rest; are = h.0; short = h.1; course = λ told. refl }
 plan_leads part at list command Talks h =
-    stepped part.names list (carry part at command Talks) (talk_of part at.working command) (dialogue_of part at.working command) [] (talk_tells part at.working command h.0 h.1) tt (λ told. refl)
+    stepped part.names list (carry part at command Talks) (talk_turn (talk_of part at.working command) None) (dialogue_of part at.working command) (talk_starts part at.working command h.0 h.1) (λ told. refl)
 plan_leads part at list command (Lists home) h = λ told. refl
 plan_leads part at list command (Writes text) h = λ told. refl
 

@@ -1,11 +1,9 @@
 -- What a process asks is in the ranges of operations.
-use Rattle.std.proofs.Common.{◌≡◌, ℕ, suc, ◌-◌, ◌≤◌, ◌<◌, Bool, true, false, Option, Some, None, List, [], ◌∷◌, ◌++◌, length, take, drop, map, reverse, refl, sym, subst, arith, length-take, length-drop}
-use Prim.Native.Nat.{zero}
+use Rattle.std.proofs.Common.{◌≡◌, ℕ, ◌-◌, ◌≤◌, ◌<◌, Bool, true, false, Option, Some, None, List, [], ◌∷◌, ◌++◌, length, take, drop, map, reverse, refl, subst, arith, length-take, length-drop}
 use Rattle.std.specs.Prelude.{max, nat_le, All, IfSome, filter, unwrap_or, cond}
 use Rattle.std.specs.Str.{bytes_eq}
 use Rattle.std.proofs.lemmas.Bool.Decides.{nat_tests}
-use Rattle.std.proofs.lemmas.List.Elements.{All-head, All-tail, All-map, All-filter, All-weaker, All-cons, All-nil, All-append}
-use Rattle.std.proofs.lemmas.Grind.{reverse_onto}
+use Rattle.std.proofs.lemmas.List.Elements.{All-head, All-tail, All-map, All-filter, All-weaker}
 use Rattle.std.proofs.lemmas.List.{length-map, get_or-map}
 use Rattle.uid_names.specs.Names.{ProcName, ObjectName, IsName, same_proc}
 use Rattle.uid_names.specs.declared.limits.TheConstants.{PAGE_BYTES, MAX_NODES}
@@ -16,8 +14,8 @@ use Rattle.dom_history.specs.declared.op.Spot.TheVariants.{Of, Addr}
 use Rattle.dom_history.specs.declared.op.Op.{Op}
 use Rattle.dom_history.specs.declared.op.Op.TheVariants as ops
 use Rattle.dom_history.specs.declared.op.Reply.{Reply}
-use Rattle.dom_history.specs.declared.op.Reply.TheVariants.{Made, Fine, Bytes, Locks}
-use Rattle.dom_history.specs.Ranges.{IsOp, IsWant, IsSpot, IsNodeNumber, IsRowName, IsNamedReply, AreNamedReplies, offset_in_page}
+use Rattle.dom_history.specs.declared.op.Reply.TheVariants.{Made, Fine, Locks}
+use Rattle.dom_history.specs.Ranges.{IsOp, IsWant, IsSpot, IsNodeNumber, IsRowName, AreNamedReplies, offset_in_page}
 use Rattle.dom_history.specs.Follows.{Heard}
 use Rattle.script_reader.specs.declared.command.Command.{Command}
 use Rattle.script_reader.specs.declared.command.Command.TheVariants.{New, Lock, Unlock, Delete, Load, Store, Length, Map, Unmap, Loadat, Storeat, Bind, Wd, Llkob}
@@ -26,7 +24,7 @@ use Rattle.script_reader.specs.declared.script.CommandRow.{CommandRow}
 use Rattle.script_reader.specs.Scripts.{Content, IsContent, IsObject}
 use Rattle.script_reader.specs.Variables.{declared_object}
 use Rattle.script_reader.specs.Commands.{IsHome, IsCommandRow}
-use Rattle.naming_tree.specs.Dialogues.{Dialogue, Ends as Finished, Asks as Asking}
+use Rattle.aegis_shell.specs.Dialogues.{Dialogue, Ends as Finished, Asks as Asking}
 use Rattle.naming_tree.specs.declared.step.Walked.TheVariants.{At}
 use Rattle.naming_tree.specs.declared.step.NameResult.TheVariants as results
 use Rattle.aegis_shell.specs.declared.outcome.Outcome.{Outcome}
@@ -37,7 +35,7 @@ use Rattle.aegis_shell.specs.Bound.{Bound, bind}
 use Rattle.aegis_shell.specs.Work.{Part, part_of, variable, object_in, or_else, object_of, job_of}
 use Rattle.aegis_shell.specs.Ranges.{IsRanged, IsJob, AreJobs}
 use Rattle.aegis_shell.specs.Operations.{page_rest, behind, loads, loads_if, stores, stores_if, on_object, ops_of}
-use Rattle.aegis_shell.specs.AnswerTexts.{is_done, together, so_far, path_too_long}
+use Rattle.aegis_shell.specs.AnswerTexts.{is_done, together, path_too_long}
 use Rattle.aegis_shell.specs.Outcomes.{bound_by, bind_if, lock_texts, standing_after}
 use Rattle.aegis_shell.specs.Plans.{Plan, Makes, Talks, Lists, Writes, makes, talks, is_long, is_sound, plan_of, dialogue_of}
 use Rattle.aegis_shell.specs.Replies.{can_be, is_op, is_row, is_uid}
@@ -121,64 +119,38 @@ ops_ranged node (Loadat address count) uid own named h = loads_ranged _ (Addr ad
 ops_ranged node (Storeat address text) uid own named h = stores_ranged _ (Addr address) text refl tt h.1.0.0 h.1.0.1
 ops_ranged node _ uid own named h = tt
 
--- replies that count together name what the later one names
-together-named : (earlier later : Reply) → IsNamedReply later → IsNamedReply (together earlier later)
-together-named (Bytes first) (Bytes second) named = tt
-together-named earlier later named = named
-
-so_far-named : (last : Option Reply) → IfSome last IsNamedReply → IsNamedReply (so_far last)
-so_far-named None named = tt
-so_far-named (Some reply) named = named
-
--- what a command comes to names an object, where it is a reply that does
-abbrev IsNamedOutcome : Outcome → Type 0
-IsNamedOutcome (Replied reply) = IsNamedReply reply
-IsNamedOutcome (Came result) = Unit {0}
-IsNamedOutcome (Written text) = Unit {0}
-
--- an operation that a command asks for is in its ranges, and its reply names an object
+-- an operation that a command asks for is in its ranges
 abbrev IsRangedCourse : Course → Type 0
 IsRangedCourse (Asks op) = IsOp op
-IsRangedCourse (Ends outcome told) = IsNamedOutcome outcome × AreNamedReplies told
+IsRangedCourse (Ends outcome told) = Unit {0}
 
-first-named : (last : Option Reply) (told : Told) → AreNamedReplies (last ∷ told) → IfSome last IsNamedReply
-first-named last told named = All-head (λ t. IfSome t IsNamedReply) last told named
+replied_ranged : (done : Bool) (reply : Reply) (told : Told) (course : Course) → IsRangedCourse course → IsRangedCourse (on_reply done reply told course)
+replied_ranged true reply told course ranged = ranged
+replied_ranged false reply told course ranged = tt
 
-others-named : (last : Option Reply) (told : Told) → AreNamedReplies (last ∷ told) → AreNamedReplies told
-others-named last told named = All-tail (λ t. IfSome t IsNamedReply) last told named
-
-replied_ranged : (done : Bool) (reply : Reply) (told : Told) (course : Course) → IsNamedReply reply → AreNamedReplies told → IsRangedCourse course → IsRangedCourse (on_reply done reply told course)
-replied_ranged true reply told course named others ranged = ranged
-replied_ranged false reply told course named others ranged = (named, others)
-
-carried_ranged : (earlier : Reply) (list : List Op) (told : Told) → IsNamedReply earlier → AreNamedReplies told → AreOps list → IsRangedCourse (carry_out earlier list told)
-carried_ranged earlier [] told named others ranged = (named, others)
-carried_ranged earlier (op ∷ rest) [] named others ranged = ranged.0
-carried_ranged earlier (op ∷ rest) (None ∷ told) named others ranged = carried_ranged earlier rest told named (others-named None told others) ranged.1
-carried_ranged earlier (op ∷ rest) (Some reply ∷ told) named others ranged =
-    let first : IsNamedReply reply = first-named (Some reply) told others in
-    let later = others-named (Some reply) told others in
-    replied_ranged (is_done reply) reply told (carry_out (together earlier reply) rest told) first later
-    (carried_ranged (together earlier reply) rest told (together-named earlier reply first) later ranged.1)
+carried_ranged : (earlier : Reply) (list : List Op) (told : Told) → AreOps list → IsRangedCourse (carry_out earlier list told)
+carried_ranged earlier [] told ranged = tt
+carried_ranged earlier (op ∷ rest) [] ranged = ranged.0
+carried_ranged earlier (op ∷ rest) (None ∷ told) ranged = carried_ranged earlier rest told ranged.1
+carried_ranged earlier (op ∷ rest) (Some reply ∷ told) ranged =
+    replied_ranged (is_done reply) reply told (carry_out (together earlier reply) rest told) (carried_ranged (together earlier reply) rest told ranged.1)
 
 -- a dialogue asks in its ranges, since it would end otherwise
-said_ranged : (fits : Bool) (reply : Reply) (told : Told) (course : Course) → IsNamedReply reply → AreNamedReplies told → IsRangedCourse course → IsRangedCourse (on_said fits (Some reply) told course)
-said_ranged true reply told course named others ranged = ranged
-said_ranged false reply told course named others ranged = (named, others)
+said_ranged : (fits : Bool) (reply : Reply) (told : Told) (course : Course) → IsRangedCourse course → IsRangedCourse (on_said fits (Some reply) told course)
+said_ranged true reply told course ranged = ranged
+said_ranged false reply told course ranged = tt
 
 chosen_ranged : (on : Bool) (further ended : Course) → (on ≡ true → IsRangedCourse further) → IsRangedCourse ended → IsRangedCourse (cond on further ended)
 chosen_ranged true further ended h k = h refl
 chosen_ranged false further ended h k = k
 
-talked_ranged : (d : Dialogue) (told : Told) → AreNamedReplies told → IsRangedCourse (converse d told)
-talked_ranged (Finished result) told named = (tt, named)
-talked_ranged (Asking op further) [] named = chosen_ranged (is_op op) (Asks op) (Ends (Replied Fine) []) (λ r. op_is op r) (tt, named)
-talked_ranged (Asking op further) (None ∷ told) named =
-    chosen_ranged (is_op op) (Ends (Replied Fine) told) (Ends (Replied Fine) (None ∷ told)) (λ r. (tt, others-named None told named)) (tt, named)
-talked_ranged (Asking op further) (Some reply ∷ told) named =
-    let later = others-named (Some reply) told named in
+talked_ranged : (d : Dialogue) (told : Told) → IsRangedCourse (converse d told)
+talked_ranged (Finished outcome) told = tt
+talked_ranged (Asking op further) [] = chosen_ranged (is_op op) (Asks op) (Ends (Replied Fine) []) (λ r. op_is op r) tt
+talked_ranged (Asking op further) (None ∷ told) = chosen_ranged (is_op op) (Ends (Replied Fine) told) (Ends (Replied Fine) (None ∷ told)) (λ r. tt) tt
+talked_ranged (Asking op further) (Some reply ∷ told) =
     chosen_ranged (is_op op) (on_said (can_be op reply) (Some reply) told (converse (further reply) told)) (Ends (Replied Fine) (Some reply ∷ told))
-    (λ r. said_ranged (can_be op reply) reply told (converse (further reply) told) (first-named (Some reply) told named) later (talked_ranged (further reply) told later)) (tt, named)
+    (λ r. said_ranged (can_be op reply) reply told (converse (further reply) told) (talked_ranged (further reply) told)) tt
 
 -- so does a list of locks, behind a row that is named
 row_named : (row : LockRow) (named : Bool) → is_row row ≡ named → IfSome (cond named (Some (row.uid, row.proc)) None) IsRowName
@@ -191,15 +163,14 @@ last_named (row ∷ []) = row_named row (is_row row) refl
 last_named (row ∷ (next ∷ rows)) = last_named (next ∷ rows)
 
 listed_ranged : (names : List (List ℕ)) (home : ℕ) (last : Option (ObjectName × ProcName)) (text : List ℕ) (told : Told)
-    → IsNodeNumber home → IfSome last IsRowName → AreNamedReplies told → IsRangedCourse (list_locks names home last text told)
-listed_ranged names home last text [] at row named = (at, row)
-listed_ranged names home last text (None ∷ told) at row named = (tt, others-named None told named)
-listed_ranged names home last text (Some (Locks rows more) ∷ told) at row named =
-    let later = others-named (Some (Locks rows more)) told named in
+    → IsNodeNumber home → IfSome last IsRowName → IsRangedCourse (list_locks names home last text told)
+listed_ranged names home last text [] at row = (at, row)
+listed_ranged names home last text (None ∷ told) at row = tt
+listed_ranged names home last text (Some (Locks rows more) ∷ told) at row =
     let grown = text ++ lock_texts names rows in
     chosen_ranged (is_more rows more) (list_locks names home (last_row rows) grown told) (Ends (Written grown) told)
-    (λ r. listed_ranged names home (last_row rows) grown told at (last_named rows) later) (tt, later)
-listed_ranged names home last text (Some reply ∷ told) at row named = (first-named (Some reply) told named, others-named (Some reply) told named)
+    (λ r. listed_ranged names home (last_row rows) grown told at (last_named rows)) tt
+listed_ranged names home last text (Some reply ∷ told) at row = tt
 
 -- a plan of a command in its ranges
 abbrev IsRangedPlan : Plan → Type 0
@@ -224,11 +195,11 @@ plan_ranged part working uid (Llkob node) own named h = h.0
 plan_ranged part working uid command own named h =
     chosen_plan (talks command) (is_long part working command) (is_sound command) (ops_of part.node command uid) path_too_long (ops_ranged part.node command uid own named h)
 
-course_in_range : (part : Part) (at : Standing) (command : Command) (plan : Plan) (told : Told) → AreNamedReplies told → IsRangedPlan plan → IsRangedCourse (carry part at command plan told)
-course_in_range part at command (Makes list) told named h = carried_ranged Fine list told tt named h
-course_in_range part at command Talks told named h = talked_ranged (dialogue_of part at.working command) told named
-course_in_range part at command (Lists home) told named h = listed_ranged part.names home None _ told h tt named
-course_in_range part at command (Writes text) told named h = (tt, named)
+course_in_range : (part : Part) (at : Standing) (command : Command) (plan : Plan) (told : Told) → IsRangedPlan plan → IsRangedCourse (carry part at command plan told)
+course_in_range part at command (Makes list) told h = carried_ranged Fine list told h
+course_in_range part at command Talks told h = talked_ranged (dialogue_of part at.working command) told
+course_in_range part at command (Lists home) told h = listed_ranged part.names home None _ told h tt
+course_in_range part at command (Writes text) told h = tt
 
 -- a variable that is bound to a name leaves names
 bind-named : (var : List ℕ) (u : ObjectName) (bound : Bound) → IsName u → AreNames bound → AreNames (bind var u bound)
@@ -241,27 +212,21 @@ found-named : (var : List ℕ) (u : ObjectName) (bound : Bound) (named : Bool) �
 found-named var u bound true h others = bind-named var u bound (uid_is u h) others
 found-named var u bound false h others = others
 
-bound_after-named : (c : Command) (outcome : Outcome) (bound : Bound) → IsNamedOutcome outcome → AreNames bound → AreNames (bind_if (bound_by c outcome) bound)
-bound_after-named (New var room home) (Replied (Made u)) bound named others = bind-named var u bound named others
-bound_after-named (Bind var path) (Came (results.Found (At u kind within))) bound named others = found-named var u bound (is_uid u) refl others
-bound_after-named _ _ bound named others = others
+bound_after-named : (c : Command) (outcome : Outcome) (bound : Bound) → AreNames bound → AreNames (bind_if (bound_by c outcome) bound)
+bound_after-named (New var room home) (Replied (Made u)) bound others = found-named var u bound (is_uid u) refl others
+bound_after-named (Bind var path) (Came (results.Found (At u kind within))) bound others = found-named var u bound (is_uid u) refl others
+bound_after-named _ _ bound others = others
 
 -- what a process wants at a job, if what it wants behind the job is in its ranges
 module _ (part : Part) (command : Command) (at : Standing) (named : AreNames at.bound) (further : Standing → Told → Reached)
-    (behind_it : (st : Standing) (t : Told) → AreNames st.bound → AreNamedReplies t → IsWant (further st t).want) where
+    (behind_it : (st : Standing) (t : Told) → AreNames st.bound → IsWant (further st t).want) where
   course_ranged : (course : Course) → IsRangedCourse course → IsWant (on_course part command at further course).want
   course_ranged (Asks op) h = h
-  course_ranged (Ends outcome told) h = behind_it (standing_after part command outcome at) told (bound_after-named command outcome at.bound h.0 named) h.1
+  course_ranged (Ends outcome told) h = behind_it (standing_after part command outcome at) told (bound_after-named command outcome at.bound named)
 
--- what is told behind phases is among what is told
-passed-named : (n : ℕ) (told : Told) → AreNamedReplies told → IfSome (behind_phases n told) AreNamedReplies
-passed-named zero told named = named
-passed-named (suc n) [] named = tt
-passed-named (suc n) (t ∷ told) named = passed-named n told (All-tail (λ t. IfSome t IsNamedReply) t told named)
-
-phases_ranged : (further : Told → Reached) → ((t : Told) → AreNamedReplies t → IsWant (further t).want) → (told : Option Told) → IfSome told AreNamedReplies → IsWant (on_phases further told).want
-phases_ranged further behind_it None named = tt
-phases_ranged further behind_it (Some told) named = behind_it told named
+phases_ranged : (further : Told → Reached) → ((t : Told) → IsWant (further t).want) → (told : Option Told) → IsWant (on_phases further told).want
+phases_ranged further behind_it None = tt
+phases_ranged further behind_it (Some told) = behind_it told
 
 -- the object of a job
 object-named : (job : Job) (bound : Bound) → IfSome job.declared IsName → AreNames bound → IfSome (object_of job bound) IsName
@@ -279,17 +244,17 @@ abbrev pub IsNamedJob : Job → Type 0
 IsNamedJob job = IfSome job.declared IsName
 
 pub reach_ranged : (part : Part) (phase : ℕ) (at : Standing) (jobs : List Job) (told : Told)
-    → IsNodeNumber part.node → AreNames at.bound → All IsNamedJob jobs → AreNamedReplies told → AreJobs jobs → IsWant (reach part phase at jobs told).want
-reach_ranged part phase at [] told own named jobs_named others ranged = tt
-reach_ranged part phase at (job ∷ jobs) told own named jobs_named others ranged =
+    → IsNodeNumber part.node → AreNames at.bound → All IsNamedJob jobs → AreJobs jobs → IsWant (reach part phase at jobs told).want
+reach_ranged part phase at [] told own named jobs_named ranged = tt
+reach_ranged part phase at (job ∷ jobs) told own named jobs_named ranged =
     let further = λ (st : Standing) (t : Told). reach part (max phase job.phase) st jobs t in
     let here = All-head IsNamedJob job jobs jobs_named in
     let plan = plan_ranged part at.working (object_of job at.bound) job.command own (object-named job at.bound here named) (All-head IsJob job jobs ranged).command in
     phases_ranged (λ t. on_course part job.command at further (course_of part at job t))
-    (λ t t_named. course_ranged part job.command at named further
-    (λ st u b_named u_named. reach_ranged part (max phase job.phase) st jobs u own b_named (All-tail IsNamedJob job jobs jobs_named) u_named (All-tail IsJob job jobs ranged))
-    (course_of part at job t) (course_in_range part at job.command (plan_at part at job) t t_named plan))
-    (behind_phases (job.phase - phase) told) (passed-named (job.phase - phase) told others)
+    (λ t. course_ranged part job.command at named further
+    (λ st u b_named. reach_ranged part (max phase job.phase) st jobs u own b_named (All-tail IsNamedJob job jobs jobs_named) (All-tail IsJob job jobs ranged))
+    (course_of part at job t) (course_in_range part at job.command (plan_at part at job) t plan))
+    (behind_phases (job.phase - phase) told)
 
 -- declared objects have names
 declared-named : (rows : List VarRow) → All (λ row. IsName row.uid) rows → AreNames (declared_object rows)
@@ -325,16 +290,8 @@ jobs_named s p content =
     (All-weaker (IsCommandRow (length s.nodes) s.phases) (λ row. IsNamedJob (job_of declared row))
     (λ row h. variable-named declared (variable row.command) objects) s.commands content.draft.commands))
 
--- what names in one order names in the other
-reversed-named : (told : Told) → AreNamedReplies told → AreNamedReplies (reverse told)
-reversed-named [] named = named
-reversed-named (t ∷ told) named =
-    let P = λ (t : Option Reply). IfSome t IsNamedReply in
-    subst AreNamedReplies (sym (reverse_onto told t []))
-    (All-append P (reverse told) (t ∷ []) (reversed-named told (All-tail P t told named)) (All-cons P t [] (All-head P t told named) (All-nil P)))
-
 -- what a process of a script asks
 pub ask_ranged : (s : Content) (p : ProcName) (heard : Heard) → IsContent s → IsNodeNumber p.node → AreNamedReplies heard → IsWant (ask s p heard)
 ask_ranged s p heard content own named =
-    reach_ranged (part_of s p) 1 (first_standing (part_of s p)) (part_of s p).jobs (reverse heard) own (λ var. tt) (jobs_named s p content) (reversed-named heard named)
+    reach_ranged (part_of s p) 1 (first_standing (part_of s p)) (part_of s p).jobs (reverse heard) own (λ var. tt) (jobs_named s p content)
     (jobs_ranged s (declared_object s.objects) p content)

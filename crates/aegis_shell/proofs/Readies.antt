@@ -1,13 +1,12 @@
 -- Which machines may be told something.
-use Rattle.std.proofs.Common.{◌≡◌, ℕ, Bool, true, false, Option, Some, None, List, [], ◌∷◌, refl, sym, subst, ◌∙◌}
+use Rattle.std.proofs.Common.{◌≡◌, ℕ, true, Option, Some, None, List, refl}
 use Rattle.std.specs.Prelude.{IsSome, is_some, unwrap_or}
 use Rattle.uid_names.specs.Names.{ObjectName}
 use Rattle.uid_names.specs.declared.mode.ObjKind.{ObjKind}
 use Rattle.dom_history.specs.declared.op.Op.{Op}
 use Rattle.dom_history.specs.declared.op.Reply.{Reply}
 use Rattle.script_reader.specs.declared.command.Command.{Command}
-use Rattle.script_reader.specs.declared.command.Command.TheVariants.{New, Lock, Unlock, Delete, Load, Store, Length, Map, Unmap, Loadat, Storeat, Bind, Crf, Crd, Crl, Dlf, Ld, Wd, Llkob}
-use Rattle.naming_tree.specs.declared.by_path.ByPath.{ByPath}
+use Rattle.script_reader.specs.declared.command.Command.TheVariants.{New, Lock, Unlock, Delete, Load, Store, Length, Map, Unmap, Loadat, Storeat, Bind, Crf, Crd, Crl, Dlf, Catf, Lnf, Apf, Cpf, Ld, Wd, Llkob}
 use Rattle.naming_tree.specs.declared.path.Route.{Route}
 use Rattle.naming_tree.specs.declared.path.Start.{Start}
 use Rattle.naming_tree.specs.declared.site.Site.{Site}
@@ -15,20 +14,27 @@ use Rattle.naming_tree.specs.declared.step.Walked.{Walked}
 use Rattle.naming_tree.specs.declared.step.NameResult.{NameResult}
 use Rattle.naming_tree.specs.declared.task.Task.{Task}
 use Rattle.naming_tree.specs.declared.task.Task.TheVariants as tasks
-use Rattle.naming_tree.specs.declared.walking.Walking.{Walking}
 use Rattle.naming_tree.specs.Paths.{route_of}
 use Rattle.naming_tree.specs.Turns.{FitsAsked, FitsStood}
 use Rattle.naming_tree.specs.Walking.{walking_asks, walk_of}
 use Rattle.naming_tree.specs.NamePaths.{last_of, added_alone, removed_alone, addition}
 use Rattle.naming_tree.specs.Adding.{adding_of}
 use Rattle.naming_tree.specs.Removing.{removing_of}
+use Rattle.mapped_streams.specs.declared.streaming.Streaming.{Streaming}
+use Rattle.mapped_streams.specs.Dialogues.{MayHear, FitsSaid, says, Dialogue, Ends, Asks}
+use Rattle.mapped_streams.specs.States.{left, rest}
 use Rattle.naming_tree.specs.ByPaths.{by_path_asks, on_last, add_name_of, drop_name_of, list_dir_of}
-use Rattle.aegis_shell.specs.Plans.{talks, is_path, is_room, is_sound, talk_of}
+use Rattle.aegis_shell.specs.Plans.{talks, is_path, is_room, is_text, is_sound, talk_of}
 use Rattle.aegis_shell.specs.Standing.{site_of}
-use Rattle.aegis_shell.specs.Talks.{asked_at, talk_asks, MayBeTold}
+use Rattle.aegis_shell.specs.FileTalks.{file_asks, op_of, stream_asks, MayHearFile}
+use Rattle.aegis_shell.specs.NameTalks.{asked_at}
+use Rattle.aegis_shell.specs.Talks.{talk_asks, MayBeTold}
 use Rattle.aegis_shell.specs.Work.{Part}
 use Rattle.aegis_shell.specs.declared.talk.Talk.{Talk}
-use Rattle.aegis_shell.specs.declared.talk.Talk.TheVariants.{Walk, List as ListRows, Add, Drop}
+use Rattle.aegis_shell.specs.declared.file_talk.FileTalk.{FileTalk}
+use Rattle.aegis_shell.specs.declared.file_talk.FileTalk.TheVariants.{Seeks, Reads, Counts, Appends, Opens, Adds, Copies, Closes}
+use Rattle.aegis_shell.specs.declared.name_talk.NameTalk.TheVariants.{Walk, List as ListRows, Add, Drop}
+use Rattle.aegis_shell.specs.declared.talk.Talk.TheVariants.{Name, File}
 use Rattle.aegis_shell.specs.declared.working.Working.{Working}
 use Rattle.aegis_shell.proofs.Talking.{both_true}
 
@@ -37,11 +43,31 @@ stood_told : {S : Type 0} (asks : S → Option Op) (m : Option S) (reply : Reply
 stood_told asks None reply fits = absurd fits
 stood_told asks (Some state) reply fits = (refl, fits)
 
+said_told : (d : Dialogue) (reply : Reply) → FitsAsked (op_of d) (Some reply) → FitsSaid (says d) reply
+said_told (Ends result) reply fits = absurd fits
+said_told (Asks op further) reply fits = fits
+
+stream_told : (m : Option Streaming) (reply : Reply) → FitsAsked (stream_asks m) (Some reply) → MayHear (rest m) (Some reply)
+stream_told None reply fits = absurd fits
+stream_told (Some s) reply fits = said_told (left s) reply fits
+
+file_told : (talk : FileTalk) (reply : Reply) → FitsAsked (file_asks talk) (Some reply) → MayHearFile talk (Some reply)
+file_told (Seeks walk errand) reply fits = stood_told walking_asks walk reply fits
+file_told (Reads m) reply fits = stream_told m reply fits
+file_told (Counts m) reply fits = stream_told m reply fits
+file_told (Appends m) reply fits = stream_told m reply fits
+file_told (Opens s stage target) reply fits = fits
+file_told (Adds s m) reply fits = stood_told by_path_asks m reply fits
+file_told (Copies s m) reply fits = stream_told m reply fits
+file_told (Closes s outcome) reply fits = fits
+
 pub talk_told : (talk : Talk) (reply : Reply) → FitsAsked (talk_asks talk) (Some reply) → MayBeTold talk (Some reply)
-talk_told (Walk m) reply fits = stood_told walking_asks m reply fits
-talk_told (ListRows m) reply fits = stood_told by_path_asks m reply fits
-talk_told (Add m) reply fits = stood_told by_path_asks m reply fits
-talk_told (Drop m) reply fits = stood_told by_path_asks m reply fits
+talk_told (Name (Walk m)) reply fits = stood_told walking_asks m reply fits
+talk_told (Name (ListRows m)) reply fits = stood_told by_path_asks m reply fits
+talk_told (Name (Add m)) reply fits = stood_told by_path_asks m reply fits
+talk_told (Name (Drop m)) reply fits = stood_told by_path_asks m reply fits
+talk_told (File None) reply fits = absurd fits
+talk_told (File (Some talk)) reply fits = file_told talk reply fits
 
 -- one before its first turn may be told nothing
 walk_begun : (site : Site) (dir : ObjectName) (route : Option Route) → is_some route ≡ true → IsSome (walk_of site true route dir) × FitsStood walking_asks (walk_of site true route dir) None
@@ -74,6 +100,10 @@ module _ (part : Part) (working : Working) where
   talk_begun (Crd path) t sound = add_begun _ 8 None (route_of path) sound
   talk_begun (Crl path target) t sound = add_begun _ 1 (Some target) (route_of path) (both_true (is_path path) (is_path target) sound).0
   talk_begun (Dlf path) t sound = drop_begun (route_of path) sound
+  talk_begun (Catf path) t sound = walk_begun (site_of part) working.dir (route_of path) sound
+  talk_begun (Lnf path) t sound = walk_begun (site_of part) working.dir (route_of path) sound
+  talk_begun (Apf path text) t sound = walk_begun (site_of part) working.dir (route_of path) (both_true (is_path path) (is_text text) sound).0
+  talk_begun (Cpf path target) t sound = walk_begun (site_of part) working.dir (route_of path) (both_true (is_path path) (is_path target) sound).0
   talk_begun (Ld path) t sound = list_begun (site_of part) working.dir (route_of path) sound
   talk_begun (Wd None) t sound = cc
   talk_begun (Llkob node) t sound = cc

@@ -1,32 +1,29 @@
 -- A command goes on from each of its stages as its course does.
 use Rattle.std.proofs.Common.{◌≡◌, ℕ, Bool, true, false, cond, Option, Some, None, List, [], ◌∷◌, ◌++◌, refl, ap, ◌∙◌, sym, subst}
-use Rattle.std.specs.Prelude.{codes}
 use Rattle.uid_names.specs.Names.{ObjectName, ProcName}
-use Rattle.uid_names.specs.declared.lock_row.LockRow.{LockRow}
-use Rattle.dom_history.specs.Fitting.{Fits}
 use Rattle.dom_history.specs.declared.op.Op.{Op}
 use Rattle.dom_history.specs.declared.op.Op.TheVariants as ops
 use Rattle.dom_history.specs.declared.op.Reply.{Reply}
 use Rattle.dom_history.specs.declared.op.Reply.TheVariants.{Fine, Bytes, Locks}
-use Rattle.naming_tree.specs.declared.step.NameResult.{NameResult}
-use Rattle.naming_tree.specs.declared.step.NameStep.{NameStep}
-use Rattle.naming_tree.specs.declared.step.NameStep.TheVariants.{Do, Over}
-use Rattle.naming_tree.specs.Dialogues.{Dialogue, Ends as Finished, Asks as Asking, says, told as told_to, after, FitsHeard, FitsSaid}
+use Rattle.naming_tree.specs.Turns.{FitsAsked}
 use Rattle.aegis_shell.specs.AnswerTexts.{is_done, together, so_far}
 use Rattle.aegis_shell.specs.Asking.{Told, Course, Asks, Ends, on_reply, carry_out, on_said, converse, is_more, last_row, list_locks}
+use Rattle.aegis_shell.specs.Dialogues.{Dialogue, Ends as Finished, Asks as Asking}
 use Rattle.aegis_shell.specs.Operations.{first_of, second_of}
 use Rattle.aegis_shell.specs.Outcomes.{lock_texts}
 use Rattle.aegis_shell.specs.Replies.{can_be, is_op}
-use Rattle.aegis_shell.specs.States.{Going, Goes, Comes, on_step, talk_goes, is_granted, on_first, on_second, may_be, on_talk, on_list, goes_on, op_in}
-use Rattle.aegis_shell.specs.Talks.{talk_asks, talk_after, talk_says}
-use Rattle.aegis_shell.specs.declared.outcome.Outcome.{Outcome}
-use Rattle.aegis_shell.specs.declared.outcome.Outcome.TheVariants.{Replied, Came, Written}
+use Rattle.aegis_shell.specs.States.{Going, Goes, Comes, on_turn, is_granted, on_first, on_second, may_be, on_talk, on_list, goes_on, op_in}
+use Rattle.aegis_shell.specs.Talks.{talk_asks, talk_turn}
+use Rattle.aegis_shell.specs.declared.outcome.Outcome.TheVariants.{Replied, Written}
 use Rattle.aegis_shell.specs.declared.stage.Stage.{Stage}
 use Rattle.aegis_shell.specs.declared.stage.Stage.TheVariants.{Between, First, Second, Talks as Talking, Lists as Listing}
+use Rattle.aegis_shell.specs.declared.stage.Turn.{Turn}
+use Rattle.aegis_shell.specs.declared.stage.Turn.TheVariants as turns
 use Rattle.aegis_shell.specs.declared.talk.Talk.{Talk}
-use Rattle.aegis_shell.proofs.Counts.{IsShort, AreShort}
+use Rattle.aegis_shell.proofs.Counts.{IsShort}
 use Rattle.aegis_shell.proofs.Fittings.{fits_then}
-use Rattle.aegis_shell.proofs.Talking.{Tells, talk_heard, talk_answer, talk_asked}
+use Rattle.aegis_shell.proofs.Sims.{asked, told as told_to}
+use Rattle.aegis_shell.proofs.Talking.{TalkSim, TalkOn, talk_next, talk_asked}
 
 -- a course that carries these operations out
 pub record OnFirst (list : Option (List Op)) (c : Told → Course) : Type 0 where
@@ -41,18 +38,14 @@ pub record OnSecond (list : Option (List Op)) (reply : Reply) (c : Told → Cour
   pub next : second_of list ≡ Some op
   pub course : (told : Told) → c told ≡ carry_out reply (op ∷ []) told
 
--- one of a machine that has heard what fitted
+-- one of a machine that stands where a dialogue does
 pub record OnTalk (talk : Talk) (c : Told → Course) : Type 0 where
-  pub made : Talk
   pub dialogue : Dialogue
-  pub heard : List Reply
-  pub tells : Tells made dialogue
-  pub fits : FitsHeard dialogue heard
-  pub there : talk ≡ talk_heard made heard
+  pub sim : TalkSim talk dialogue
   pub op : Op
-  pub said : says (after dialogue heard) ≡ Do op
+  pub said : asked dialogue ≡ Some op
   pub ranged : is_op op ≡ true
-  pub course : (told : Told) → c told ≡ converse (after dialogue heard) told
+  pub course : (told : Told) → c told ≡ converse dialogue told
 
 -- the course on which a command is at a stage; these are its operations, if it makes one or two
 abbrev pub OnCourse : List (List ℕ) → Option (List Op) → Stage → (Told → Course) → Type 0
@@ -77,15 +70,9 @@ first_asks : (ops : List Op) → IsShort ops → (op : Op) × ((first_of (Some o
 first_asks [] short = elim short [ ]
 first_asks (op ∷ rest) short = (op, (refl, refl))
 
-does : (d : Dialogue) (op : Op) → says d ≡ Do op → (further : Reply → Dialogue) × (d ≡ Asking op further)
-does (Finished result) op e = cc
-does (Asking asked further) op e = let same : asked ≡ op = cc in (further, ap (λ (o : Op). Asking o further) same)
-
-talk_op : (talk : Talk) (c : Told → Course) → (t : OnTalk talk c) → talk_asks talk ≡ Some t.op
-talk_op talk c t = ap talk_asks t.there ∙ by_heard t.made t.dialogue t.heard t.op t.tells t.fits t.said where
-  by_heard : (made : Talk) (d : Dialogue) (heard : List Reply) (op : Op) → Tells made d → FitsHeard d heard → says (after d heard) ≡ Do op → talk_asks (talk_heard made heard) ≡ Some op
-  by_heard made d [] op tells fits said = talk_asked made None op (tells [] fits ∙ ap Some said)
-  by_heard made d (reply ∷ heard) op tells fits said = talk_asked (talk_heard made heard) (Some reply) op (tells (reply ∷ heard) fits ∙ ap Some said)
+does : (d : Dialogue) (op : Op) → asked d ≡ Some op → (further : Reply → Dialogue) × (d ≡ Asking op further)
+does (Finished outcome) op e = cc
+does (Asking other further) op e = let same : other ≡ op = cc in (further, ap (λ (o : Op). Asking o further) same)
 
 pub asks_now : (names : List (List ℕ)) (list : Option (List Op)) (stage : Stage) (c : Told → Course) → OnCourse names list stage c → AsksNow list stage c
 asks_now names list Between c on = absurd on
@@ -94,10 +81,10 @@ asks_now names list First c on =
     record { op = asks.0; there = ap first_of on.are ∙ asks.1.0; asked = on.course [] ∙ asks.1.1 }
 asks_now names list (Second reply) c on = record { op = on.op; there = on.next; asked = on.course [] }
 asks_now names list (Talking talk) c on =
-    let asking = does (after on.dialogue on.heard) on.op on.said in
+    let asking = does on.dialogue on.op on.said in
     record {
       op = on.op;
-      there = talk_op talk c on;
+      there = talk_asked talk on.dialogue on.sim ∙ on.said;
       asked = on.course [] ∙ (ap (λ (d : Dialogue). converse d []) asking.1 ∙ ap (λ b. cond b (Asks on.op) (Ends (Replied Fine) [])) on.ranged);
     }
 asks_now names list (Listing home last text) c on = record { op = ops.List home last; there = refl; asked = on [] }
@@ -163,44 +150,47 @@ module _ (names : List (List ℕ)) (list : Option (List Op)) where
   second_goes c op first (Some reply) course = λ future. course (Some reply ∷ future) ∙ last_done first reply future
 
   -- a machine that was told this goes on as its dialogue
-  pub stepped : (c : Told → Course) (made : Talk) (d : Dialogue) (heard : List Reply) → Tells made d → FitsHeard d heard → ((future : Told) → c future ≡ converse (after d heard) future)
-      → Leads names list (on_step (talk_answer made heard) (talk_heard made heard)) c
-  stepped c made d heard tells fits course = by_left (after d heard) refl where
-    by_left : (left : Dialogue) → after d heard ≡ left → Leads names list (on_step (talk_answer made heard) (talk_heard made heard)) c
-    by_left (Finished result) is =
-        let answer : talk_answer made heard ≡ Some (Over result) = tells heard fits ∙ ap (λ (x : Dialogue). Some (says x)) is in
-        subst (λ (step : Option NameStep). Leads names list (on_step step (talk_heard made heard)) c) (sym answer) (λ future. course future ∙ ap (λ (x : Dialogue). converse x future) is)
-    by_left (Asking op further) is =
-        let answer : talk_answer made heard ≡ Some (Do op) = tells heard fits ∙ ap (λ (x : Dialogue). Some (says x)) is in
-        subst (λ (step : Option NameStep). Leads names list (on_step step (talk_heard made heard)) c) (sym answer) (by_range (is_op op) refl)
-      where
-        by_range : (b : Bool) → is_op op ≡ b → Leads names list (cond b (Goes (Talking (talk_heard made heard))) (Comes (Replied Fine))) c
-        by_range true r = record { made = made; dialogue = d; heard = heard; tells = tells; fits = fits; there = refl; op = op; said = ap says is; ranged = r; course = course }
-        by_range false r = λ future. course future ∙ (ap (λ (x : Dialogue). converse x future) is ∙ out_of_range op further future r)
+  asks_on : (c : Told → Course) (talk : Talk) (op : Op) (d : Dialogue) → asked d ≡ Some op → TalkSim talk d → ((future : Told) → c future ≡ converse d future)
+      → Leads names list (cond (is_op op) (Goes (Talking talk)) (Comes (Replied Fine))) c
+  asks_on c talk op d said sim course = by_range (is_op op) refl where
+    asking : (further : Reply → Dialogue) × (d ≡ Asking op further)
+    asking = does d op said
+
+    by_range : (b : Bool) → is_op op ≡ b → Leads names list (cond b (Goes (Talking talk)) (Comes (Replied Fine))) c
+    by_range true r = record { dialogue = d; sim = sim; op = op; said = said; ranged = r; course = course }
+    by_range false r = λ future. course future ∙ (ap (λ (x : Dialogue). converse x future) asking.1 ∙ out_of_range op asking.0 future r)
+
+  pub stepped : (c : Told → Course) (turn : Option Turn) (d : Dialogue) → TalkOn turn d → ((future : Told) → c future ≡ converse d future) → Leads names list (on_turn turn) c
+  stepped c None d on course = absurd on
+  stepped c (Some (turns.Comes outcome)) d on course = λ future. course future ∙ ap (λ (x : Dialogue). converse x future) on
+  stepped c (Some (turns.Goes (Talking talk) op)) d on course = asks_on c talk op d on.0 on.1 course
+  stepped c (Some (turns.Goes Between op)) d on course = absurd on.1
+  stepped c (Some (turns.Goes First op)) d on course = absurd on.1
+  stepped c (Some (turns.Goes (Second first) op)) d on course = absurd on.1
+  stepped c (Some (turns.Goes (Listing home last text) op)) d on course = absurd on.1
 
   talk_goes_on : (c : Told → Course) (talk : Talk) (told : Option Reply) → OnTalk talk c → Leads names list (on_talk (may_be (talk_asks talk) told) talk told) (λ future. c (told ∷ future))
   talk_goes_on c talk told on =
-      subst (λ (asked : Option Op). Leads names list (on_talk (may_be asked told) talk told) (λ future. c (told ∷ future))) (sym (talk_op talk c on)) (by_told told)
+      subst (λ (found : Option Op). Leads names list (on_talk (may_be found told) talk told) (λ future. c (told ∷ future))) (sym (talk_asked talk on.dialogue on.sim ∙ on.said)) (by_told told)
     where
       further : Reply → Dialogue
-      further = (does (after on.dialogue on.heard) on.op on.said).0
+      further = (does on.dialogue on.op on.said).0
 
-      left : after on.dialogue on.heard ≡ Asking on.op further
-      left = (does (after on.dialogue on.heard) on.op on.said).1
+      left : on.dialogue ≡ Asking on.op further
+      left = (does on.dialogue on.op on.said).1
 
       heard_so : (told : Option Reply) (future : Told) → c (told ∷ future) ≡ converse (Asking on.op further) (told ∷ future)
       heard_so told future = on.course (told ∷ future) ∙ ap (λ (x : Dialogue). converse x (told ∷ future)) left
 
       by_test : (reply : Reply) (fits : Bool) → can_be on.op reply ≡ fits → Leads names list (on_talk fits talk (Some reply)) (λ future. c (Some reply ∷ future))
       by_test reply true is =
-          let said : FitsSaid (says (after on.dialogue on.heard)) reply = subst (λ step. FitsSaid step reply) (sym on.said) (fits_then on.op reply is) in
-          subst (λ (t : Talk). Leads names list (on_step (talk_says t (Some reply)) (talk_after t (Some reply))) (λ future. c (Some reply ∷ future))) (sym on.there)
-          (stepped (λ future. c (Some reply ∷ future)) on.made on.dialogue (reply ∷ on.heard) on.tells (on.fits, said)
+          let fitting : FitsAsked (asked on.dialogue) (Some reply) = subst (λ (found : Option Op). FitsAsked found (Some reply)) (sym on.said) (fits_then on.op reply is) in
+          stepped (λ future. c (Some reply ∷ future)) (talk_turn talk (Some reply)) (told_to on.dialogue reply) (talk_next talk on.dialogue reply on.sim fitting)
           (λ future.
           heard_so (Some reply) future
           ∙ (in_range_some on.op further reply future on.ranged
           ∙ ap (λ fits. on_said fits (Some reply) future (converse (further reply) future)) is
-          ∙ ap (λ (x : Dialogue). converse (told_to x reply) future) (sym left))))
+          ∙ ap (λ (x : Dialogue). converse (told_to x reply) future) (sym left)))
       by_test reply false is = λ future. heard_so (Some reply) future ∙ in_range_some on.op further reply future on.ranged ∙ ap (λ fits. on_said fits (Some reply) future (converse (further reply) future)) is
 
       by_told : (told : Option Reply) → Leads names list (on_talk (may_be (Some on.op) told) talk told) (λ future. c (told ∷ future))

@@ -6,7 +6,6 @@ use Rattle.std.proofs.lemmas.List.Elements.{All-head, All-drop}
 use Rattle.std.proofs.lemmas.Bool.Decides.{nat_tests}
 use Rattle.dom_history.specs.declared.op.Op.{Op}
 use Rattle.dom_history.specs.declared.op.Reply.{Reply}
-use Rattle.dom_history.specs.declared.op.Want.{Want}
 use Rattle.dom_history.specs.declared.op.Want.TheVariants.{Do, Phase, Done}
 use Rattle.dom_history.specs.Programs.{FitsWant}
 use Rattle.naming_tree.specs.Turns.{FitsAsked}

@@ -1,5 +1,5 @@
 -- What the code knows where a process looks for what it wants: of the next job, and of the commands that it ends on the way.
-use Rattle.std.proofs.Common.{◌≡◌, ℕ, ◌+◌, ◌-◌, ◌<◌, ◌≤◌, Bool, true, false, Option, Some, List, [], ◌∷◌, length, drop, take, refl, ap, ◌∙◌, sym, subst, arith, length-append, length-drop, slice_index_or}
+use Rattle.std.proofs.Common.{◌≡◌, ℕ, ◌+◌, ◌-◌, ◌<◌, ◌≤◌, true, false, Option, List, [], ◌∷◌, length, drop, take, ap, ◌∙◌, sym, subst, arith, length-append, length-drop, slice_index_or}
 use Rattle.std.specs.Prelude.{nat_lt, All}
 use Rattle.std.proofs.lemmas.Bool.Decides.{nat_tests}
 use Rattle.std.proofs.lemmas.List.{drop-drop, take_all}
@@ -17,7 +17,7 @@ use Rattle.aegis_shell.specs.declared.stage.Turn.TheVariants as turns
 use Rattle.aegis_shell.specs.Operations.{ops_of}
 use Rattle.aegis_shell.specs.Outcomes.{outcome_text}
 use Rattle.aegis_shell.specs.Ranges.{IsRanged, IsJob, AreJobs}
-use Rattle.aegis_shell.specs.States.{State, left, ops_at, object_at_job, begins, want_of, finished, at_stage, settled}
+use Rattle.aegis_shell.specs.States.{State, left, object_at_job, begins, want_of, finished, at_stage, settled}
 use Rattle.aegis_shell.specs.Turns.{going, AsksIn}
 use Rattle.aegis_shell.specs.Work.{Part}
 use Rattle.aegis_shell.proofs.Turns.{left-cons, wants_there, waits_there, begins_there, ended_there}

@@ -12,10 +12,10 @@ use Rattle.dom_history.specs.declared.op.Want.TheVariants.{Do, Phase, Done}
 use Rattle.dom_history.specs.Follows.{Heard}
 use Rattle.script_reader.specs.declared.command.Command.{Command}
 use Rattle.script_reader.specs.Scripts.{Content}
-use Rattle.naming_tree.specs.Dialogues.{Dialogue, Ends as Over, Asks as Asking}
+use Rattle.aegis_shell.specs.Dialogues.{Dialogue, Ends as Over, Asks as Asking}
 use Rattle.aegis_shell.specs.declared.work.Job.{Job}
 use Rattle.aegis_shell.specs.declared.outcome.Outcome.{Outcome}
-use Rattle.aegis_shell.specs.declared.outcome.Outcome.TheVariants.{Replied, Came, Written}
+use Rattle.aegis_shell.specs.declared.outcome.Outcome.TheVariants.{Replied, Written}
 use Rattle.aegis_shell.specs.Work.{Part, part_of, object_of}
 use Rattle.aegis_shell.specs.Standing.{Standing, first_standing}
 use Rattle.aegis_shell.specs.Plans.{Plan, Makes, Talks, Lists, Writes, plan_of, dialogue_of}
@@ -64,14 +64,14 @@ carry_out earlier (op ∷ list) [] = Asks op
 carry_out earlier (op ∷ list) (None ∷ told) = carry_out earlier list told
 carry_out earlier (op ∷ list) (Some reply ∷ told) = on_reply (is_done reply) reply told (carry_out (together earlier reply) list told)
 
--- a dialogue of a name, to its result. What it asks for is always in its ranges, and is told a reply that it can have;
+-- a dialogue, to its outcome. What it asks for is always in its ranges, and is told a reply that it can have;
 -- were it not so, the command would end there
 abbrev pub on_said : Bool → Option Reply → Told → Course → Course
 on_said true last told further = further
 on_said false last told further = Ends (Replied (so_far last)) told
 
 abbrev pub converse : Dialogue → Told → Course
-converse (Over result) told = Ends (Came result) told
+converse (Over outcome) told = Ends outcome told
 converse (Asking op further) [] = cond (is_op op) (Asks op) (Ends (Replied Fine) [])
 converse (Asking op further) (None ∷ told) = cond (is_op op) (Ends (Replied Fine) told) (Ends (Replied Fine) (None ∷ told))
 converse (Asking op further) (Some reply ∷ told) =

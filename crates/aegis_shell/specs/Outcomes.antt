@@ -6,7 +6,6 @@ use Rattle.uid_names.specs.Texts.{text_of}
 use Rattle.uid_names.specs.declared.lock_row.LockRow.{LockRow}
 use Rattle.uid_names.specs.declared.mode.ObjKind.{ObjKind}
 use Rattle.uid_names.specs.declared.mode.ObjKind.TheVariants as kinds
-use Rattle.dom_history.specs.declared.op.Reply.{Reply}
 use Rattle.dom_history.specs.declared.op.Reply.TheVariants.{Made}
 use Rattle.script_reader.specs.declared.command.Command.{Command}
 use Rattle.script_reader.specs.declared.command.Command.TheVariants.{New, Bind, Wd}
@@ -15,13 +14,16 @@ use Rattle.naming_tree.specs.declared.step.Walked.{Walked}
 use Rattle.naming_tree.specs.declared.step.Walked.TheVariants.{Root, At}
 use Rattle.naming_tree.specs.declared.step.NameResult.{NameResult}
 use Rattle.naming_tree.specs.declared.step.NameResult.TheVariants as results
+use Rattle.dom_text.specs.Texts.{quoted_text}
+use Rattle.mapped_streams.specs.declared.step.StreamResult.{StreamResult}
+use Rattle.mapped_streams.specs.declared.step.StreamResult.TheVariants as streams
 use Rattle.aegis_shell.specs.AnswerTexts.{answer_text, node_name}
 use Rattle.aegis_shell.specs.Bound.{Bound, bind}
 use Rattle.aegis_shell.specs.Replies.{is_uid}
 use Rattle.aegis_shell.specs.Standing.{Standing, text_at}
 use Rattle.aegis_shell.specs.Work.{Part}
 use Rattle.aegis_shell.specs.declared.outcome.Outcome.{Outcome}
-use Rattle.aegis_shell.specs.declared.outcome.Outcome.TheVariants.{Replied, Came, Written}
+use Rattle.aegis_shell.specs.declared.outcome.Outcome.TheVariants.{Replied, Came, Streamed, Written}
 use Rattle.aegis_shell.specs.declared.working.Working.{Working}
 
 abbrev pub kind_text : ObjKind → List ℕ
@@ -81,14 +83,22 @@ came_text part working (Bind var path) (results.Found at) = found_text at
 came_text part working (Wd (Some path)) (results.Found at) = entered_text (text_at part working path) at
 came_text part working command result = result_text part.names result
 
+-- what a file came to
+abbrev pub stream_text : List (List ℕ) → StreamResult → List ℕ
+stream_text names (streams.Bytes bytes) = codes "ok " ++ quoted_text bytes
+stream_text names (streams.Count n) = codes "ok " ++ decimal n
+stream_text names streams.Fine = codes "ok"
+stream_text names (streams.Store reply) = answer_text names reply
+
 abbrev pub outcome_text : Part → Working → Command → Outcome → List ℕ
 outcome_text part working command (Replied reply) = answer_text part.names reply
 outcome_text part working command (Came result) = came_text part working command result
+outcome_text part working command (Streamed result) = stream_text part.names result
 outcome_text part working command (Written text) = text
 
--- the variable that a command binds, with its object: what a `new` made, or what a `bind` found, which is always named
+-- the variable that a command binds, with its object: what a `new` made, or what a `bind` found; both are always named
 abbrev pub bound_by : Command → Outcome → Option (List ℕ × ObjectName)
-bound_by (New var room home) (Replied (Made u)) = Some (var, u)
+bound_by (New var room home) (Replied (Made u)) = cond (is_uid u) (Some (var, u)) None
 bound_by (Bind var path) (Came (results.Found (At u kind within))) = cond (is_uid u) (Some (var, u)) None
 bound_by command outcome = None
 

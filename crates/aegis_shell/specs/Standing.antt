@@ -1,6 +1,5 @@
 -- Where a process stands: what its variables are bound to, and its working directory.
 use Rattle.std.specs.Prelude.{ℕ, ◌==◌, cond, List, [], ◌∷◌, ◌++◌, codes}
-use Rattle.uid_names.specs.Names.{ObjectName}
 use Rattle.naming_tree.specs.declared.site.Site.{Site}
 use Rattle.aegis_shell.specs.AnswerTexts.{node_name}
 use Rattle.aegis_shell.specs.Bound.{Bound, unbound}

@@ -1,5 +1,5 @@
 -- Where a process stands in its commands, what it wants there, and where it stands once it is told something.
-use Rattle.std.specs.Prelude.{ℕ, ◌+◌, nat_lt, Bool, true, false, ◌&&◌, cond, Option, Some, None, List, [], ◌∷◌, ◌++◌, length, drop, codes}
+use Rattle.std.specs.Prelude.{ℕ, ◌+◌, nat_lt, Bool, true, false, cond, Option, Some, None, List, [], ◌∷◌, ◌++◌, length, drop, codes}
 use Rattle.uid_names.specs.Names.{ObjectName}
 use Rattle.dom_history.specs.declared.op.Op.{Op}
 use Rattle.dom_history.specs.declared.op.Op.TheVariants as ops
@@ -8,13 +8,13 @@ use Rattle.dom_history.specs.declared.op.Reply.TheVariants.{Fine, Locks}
 use Rattle.dom_history.specs.declared.op.Want.{Want}
 use Rattle.dom_history.specs.declared.op.Want.TheVariants.{Do, Phase, Done}
 use Rattle.script_reader.specs.declared.command.Command.{Command}
-use Rattle.naming_tree.specs.declared.step.NameStep.{NameStep}
-use Rattle.naming_tree.specs.declared.step.NameStep.TheVariants.{Do as Says, Over}
 use Rattle.aegis_shell.specs.declared.work.Job.{Job}
 use Rattle.aegis_shell.specs.declared.outcome.Outcome.{Outcome}
-use Rattle.aegis_shell.specs.declared.outcome.Outcome.TheVariants.{Replied, Came, Written}
+use Rattle.aegis_shell.specs.declared.outcome.Outcome.TheVariants.{Replied, Written}
 use Rattle.aegis_shell.specs.declared.stage.Stage.{Stage}
 use Rattle.aegis_shell.specs.declared.stage.Stage.TheVariants.{Between, First, Second, Talks as Talking, Lists as Listing}
+use Rattle.aegis_shell.specs.declared.stage.Turn.{Turn}
+use Rattle.aegis_shell.specs.declared.stage.Turn.TheVariants as turns
 use Rattle.aegis_shell.specs.declared.talk.Talk.{Talk}
 use Rattle.aegis_shell.specs.declared.working.Working.{Working}
 use Rattle.aegis_shell.specs.Bindings.{Rows, object_at, rebound}
@@ -22,7 +22,7 @@ use Rattle.aegis_shell.specs.Work.{Part, object_of}
 use Rattle.aegis_shell.specs.Standing.{Standing, first_working}
 use Rattle.aegis_shell.specs.Operations.{ops_of, first_of, second_of}
 use Rattle.aegis_shell.specs.Plans.{Plan, Makes, Talks, Lists, Writes, plan_of, talk_of}
-use Rattle.aegis_shell.specs.Talks.{talk_asks, talk_after, talk_says}
+use Rattle.aegis_shell.specs.Talks.{talk_asks, talk_turn}
 use Rattle.aegis_shell.specs.Replies.{can_be, is_op}
 use Rattle.aegis_shell.specs.Asking.{is_more, last_row}
 use Rattle.aegis_shell.specs.Outcomes.{outcome_text, bound_by, working_after, lock_texts}
@@ -58,13 +58,13 @@ pub data Going : Type 0 where
   Comes : (outcome : Outcome) → Going
 
 -- a machine was told something
-abbrev pub on_step : Option NameStep → Talk → Going
-on_step (Some (Over result)) talk = Comes (Came result)
-on_step (Some (Says op)) talk = cond (is_op op) (Goes (Talking talk)) (Comes (Replied Fine))
-on_step None talk = Comes (Replied Fine)
+abbrev pub on_turn : Option Turn → Going
+on_turn (Some (turns.Comes outcome)) = Comes outcome
+on_turn (Some (turns.Goes stage op)) = cond (is_op op) (Goes stage) (Comes (Replied Fine))
+on_turn None = Comes (Replied Fine)
 
 abbrev pub talk_goes : Talk → Option Reply → Going
-talk_goes talk last = on_step (talk_says talk last) (talk_after talk last)
+talk_goes talk last = on_turn (talk_turn talk last)
 
 -- how a command of this plan begins
 abbrev pub begins_by : Part → Working → Command → Plan → Going

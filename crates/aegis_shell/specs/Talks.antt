@@ -1,43 +1,55 @@
--- The machines that have the dialogues of names, as a shell drives them.
-use Rattle.std.specs.Prelude.{Option, Some, None, IsSome}
+-- The machines that have the dialogues of commands, as a shell drives them.
+use Rattle.std.specs.Prelude.{Option, Some, None}
 use Rattle.dom_history.specs.declared.op.Op.{Op}
 use Rattle.dom_history.specs.declared.op.Reply.{Reply}
 use Rattle.naming_tree.specs.declared.step.NameStep.{NameStep}
-use Rattle.naming_tree.specs.declared.by_path.ByPath.{ByPath}
-use Rattle.naming_tree.specs.declared.walking.Walking.{Walking}
-use Rattle.naming_tree.specs.Turns.{FitsStood, stood_after, stood_says}
-use Rattle.naming_tree.specs.Walking.{walking_after, walking_asks}
-use Rattle.naming_tree.specs.ByPaths.{by_path_after, by_path_asks}
+use Rattle.naming_tree.specs.declared.step.NameStep.TheVariants.{Do, Over}
+use Rattle.aegis_shell.specs.declared.file_talk.FileTurn.{FileTurn}
+use Rattle.aegis_shell.specs.declared.file_talk.FileTurn.TheVariants as files
+use Rattle.aegis_shell.specs.declared.name_talk.NameTalk.{NameTalk}
+use Rattle.aegis_shell.specs.declared.outcome.Outcome.TheVariants.{Came}
+use Rattle.aegis_shell.specs.declared.stage.Stage.TheVariants.{Talks}
+use Rattle.aegis_shell.specs.declared.stage.Turn.{Turn}
+use Rattle.aegis_shell.specs.declared.stage.Turn.TheVariants.{Goes, Comes}
+use Rattle.aegis_shell.specs.declared.talk.Step.{Step}
+use Rattle.aegis_shell.specs.declared.talk.Step.TheVariants as steps
 use Rattle.aegis_shell.specs.declared.talk.Talk.{Talk}
-use Rattle.aegis_shell.specs.declared.talk.Talk.TheVariants.{Walk, List as ListRows, Add, Drop}
+use Rattle.aegis_shell.specs.declared.talk.Talk.TheVariants.{Name, File}
+use Rattle.aegis_shell.specs.FileTalks.{file_asks, file_turn, MayHearFile}
+use Rattle.aegis_shell.specs.NameTalks.{name_asks, name_after, name_says, MayHearName}
 
 -- what a machine asks where it stands
-abbrev pub asked_at : {S : Type 0} → (S → Option Op) → Option S → Option Op
-asked_at asks None = None
-asked_at asks (Some state) = asks state
-
 abbrev pub talk_asks : Talk → Option Op
-talk_asks (Walk m) = asked_at walking_asks m
-talk_asks (ListRows m) = asked_at by_path_asks m
-talk_asks (Add m) = asked_at by_path_asks m
-talk_asks (Drop m) = asked_at by_path_asks m
+talk_asks (Name talk) = name_asks talk
+talk_asks (File None) = None
+talk_asks (File (Some talk)) = file_asks talk
 
--- where it stands once it is told this, and what it says then
-abbrev pub talk_after : Talk → Option Reply → Talk
-talk_after (Walk m) last = Walk (stood_after walking_after m last)
-talk_after (ListRows m) last = ListRows (stood_after by_path_after m last)
-talk_after (Add m) last = Add (stood_after by_path_after m last)
-talk_after (Drop m) last = Drop (stood_after by_path_after m last)
+-- what it makes of what it is told: it goes on with an operation, or comes to an outcome. None of one that is over
+abbrev pub name_turn : Option NameStep → NameTalk → Option Turn
+name_turn None talk = None
+name_turn (Some (Do op)) talk = Some (Goes (Talks (Name talk)) op)
+name_turn (Some (Over result)) talk = Some (Comes (Came result))
 
-abbrev pub talk_says : Talk → Option Reply → Option NameStep
-talk_says (Walk m) last = stood_says walking_asks walking_after m last
-talk_says (ListRows m) last = stood_says by_path_asks by_path_after m last
-talk_says (Add m) last = stood_says by_path_asks by_path_after m last
-talk_says (Drop m) last = stood_says by_path_asks by_path_after m last
+abbrev pub as_turn : FileTurn → Turn
+as_turn (files.Goes talk op) = Goes (Talks (File (Some talk))) op
+as_turn (files.Comes outcome) = Comes outcome
+
+abbrev pub of_file : Option FileTurn → Option Turn
+of_file None = None
+of_file (Some turn) = Some (as_turn turn)
+
+abbrev pub talk_turn : Talk → Option Reply → Option Turn
+talk_turn (Name talk) last = name_turn (name_says talk last) (name_after talk last)
+talk_turn (File None) last = None
+talk_turn (File (Some talk)) last = of_file (file_turn talk last)
+
+-- the turn of a step and of where the machine stands behind it
+abbrev pub turn_by : Step → Talk → Turn
+turn_by (steps.Do op) talk = Goes (Talks talk) op
+turn_by (steps.Over outcome) talk = Comes outcome
 
 -- what may be told to it
 abbrev pub MayBeTold : Talk → Option Reply → Type 0
-MayBeTold (Walk m) last = IsSome m × FitsStood walking_asks m last
-MayBeTold (ListRows m) last = IsSome m × FitsStood by_path_asks m last
-MayBeTold (Add m) last = IsSome m × FitsStood by_path_asks m last
-MayBeTold (Drop m) last = IsSome m × FitsStood by_path_asks m last
+MayBeTold (Name talk) last = MayHearName talk last
+MayBeTold (File None) last = ⊥
+MayBeTold (File (Some talk)) last = MayHearFile talk last

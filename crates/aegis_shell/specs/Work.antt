@@ -2,7 +2,7 @@
 use Rattle.std.specs.Prelude.{ℕ, Bool, true, false, Option, Some, None, List, [], ◌∷◌, map, filter}
 use Rattle.uid_names.specs.Names.{ProcName, ObjectName, same_proc}
 use Rattle.script_reader.specs.declared.command.Command.{Command}
-use Rattle.script_reader.specs.declared.command.Command.TheVariants.{Bind, Crf, Crd, Crl, Dlf, Ld, Wd, Llkob}
+use Rattle.script_reader.specs.declared.command.Command.TheVariants.{Bind, Crf, Crd, Crl, Dlf, Catf, Lnf, Apf, Cpf, Ld, Wd, Llkob}
 use Rattle.script_reader.specs.Arguments.{Given, Var}
 use Rattle.script_reader.specs.Commands.{arguments_of}
 use Rattle.script_reader.specs.declared.script.CommandRow.{CommandRow}
@@ -20,13 +20,17 @@ var_of (_ ∷ rest) = var_of rest
 abbrev pub variable : Command → Option (List ℕ)
 variable command = var_of (arguments_of command)
 
--- a command is done by names, or by lists of locks
+-- a command is done by names, of files or others, or by lists of locks
 abbrev pub is_of_names : Command → Bool
 is_of_names (Bind var path) = true
 is_of_names (Crf path room) = true
 is_of_names (Crd path) = true
 is_of_names (Crl path target) = true
 is_of_names (Dlf path) = true
+is_of_names (Catf path) = true
+is_of_names (Lnf path) = true
+is_of_names (Apf path text) = true
+is_of_names (Cpf path target) = true
 is_of_names (Ld path) = true
 is_of_names (Wd path) = true
 is_of_names (Llkob node) = true

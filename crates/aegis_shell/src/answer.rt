@@ -33,7 +33,8 @@ fn made(alloc: Global, uid: Uid) -> Result<ByteList, NoMemory>
     Ok(text)
 }
 
-fn loaded(alloc: Global, bytes: &[u8]) -> Result<ByteList, NoMemory>
+/// `ok`, and bytes.
+pub fn loaded(alloc: Global, bytes: &[u8]) -> Result<ByteList, NoMemory>
     ensures { IfOk result (λ text. text ≡ codes "ok " ++ quoted_text bytes.now) }
 {
     let mut text = ByteList::from_slice(alloc, b"ok ")?;
@@ -41,11 +42,12 @@ fn loaded(alloc: Global, bytes: &[u8]) -> Result<ByteList, NoMemory>
     Ok(text)
 }
 
-fn sized(alloc: Global, n: u32) -> Result<ByteList, NoMemory>
+/// `ok`, and a number.
+pub fn counted(alloc: Global, n: u64) -> Result<ByteList, NoMemory>
     ensures { IfOk result (λ text. text ≡ codes "ok " ++ decimal n) }
 {
     let mut text = ByteList::from_slice(alloc, b"ok ")?;
-    put_decimal(&mut text, u64::from(n))?;
+    put_decimal(&mut text, n)?;
     Ok(text)
 }
 
@@ -103,7 +105,7 @@ pub fn answer_text(alloc: Global, names: &NodeNames, reply: &Reply) -> Result<By
     let text: &[u8] = match reply {
         Reply::Made(uid) => return made(alloc, *uid),
         Reply::Bytes(bytes) => return loaded(alloc, bytes.bytes()),
-        Reply::Size(n) => return sized(alloc, *n),
+        Reply::Size(n) => return counted(alloc, u64::from(*n)),
         Reply::At { address, fresh: _ } => return mapped(alloc, *address),
         Reply::Conflict(proc, mode) => return conflict(alloc, names, *proc, *mode),
         Reply::Fine | Reply::Locks { rows: _, more: _ } => b"ok",

@@ -1,14 +1,12 @@
 //! How commands begin.
-ghost use Rattle.std.specs.Prelude.{◌≡◌, false, codes, None, Option, List, IfOk};
-ghost use Rattle.std.specs.Option.{option_copied};
+ghost use Rattle.std.specs.Prelude.{◌≡◌, false, codes, None, IfOk};
 ghost use Rattle.dom_history.specs.declared.op.Op.{Op};
 ghost use Rattle.dom_history.specs.declared.op.Op.TheVariants.{List as ListOp};
 ghost use Rattle.dom_history.specs.Ranges.{IsNodeNumber};
 ghost use Rattle.aegis_shell.specs.Ranges.{IsRanged};
 ghost use Rattle.aegis_shell.specs.Operations.{ops_of};
 ghost use Rattle.aegis_shell.specs.Plans.{is_long, makes, talks};
-ghost use Rattle.aegis_shell.specs.States.{begins as begins_so, begins_by, talk_goes};
-ghost use Rattle.aegis_shell.specs.Talks.{MayBeTold};
+ghost use Rattle.aegis_shell.specs.States.{begins as begins_so, begins_by};
 ghost use Rattle.aegis_shell.specs.Turns.{going, AsksIn};
 ghost use Rattle.aegis_shell.specs.declared.outcome.Outcome.TheVariants.{Written};
 ghost use Rattle.aegis_shell.specs.declared.stage.Stage.TheVariants.{Lists};
@@ -19,29 +17,16 @@ use crate::naming::talk;
 use crate::operation::first_operation;
 use crate::outcome::Outcome;
 use crate::stage::{Stage, Turn};
-use crate::talk::Talk;
+use crate::turning::turn_of;
 use crate::work::{Job, Work};
 use crate::working::Working;
-use dom_history::{Op, Reply};
-use naming_tree::NameStep;
+use dom_history::Op;
 use script_reader::Command;
 use std::alloc::Global;
 use uid_names::{ByteList, NoMemory, NodeId, Uid};
 
 /// The most bytes of a working directory's text.
 const MAX_TEXT: usize = 256;
-
-/// A machine that is told this.
-pub fn turn_of(alloc: Global, mut talk: Talk, last: Option<&Reply>) -> Result<Turn, NoMemory>
-    requires { MayBeTold talk (option_copied last) }
-    ensures turn { IfOk result (λ turn. going turn ≡ talk_goes talk (option_copied last.entry)) }
-    ensures asks { IfOk result (λ turn. (list : Option (List Op)) → AsksIn list turn) }
-{
-    match talk.next(alloc, last)? {
-        NameStep::Do(op) => Ok(Turn::Goes(Stage::Talks(talk), op)),
-        NameStep::Over(come) => Ok(Turn::Comes(Outcome::Came(come))),
-    }
-}
 
 /// An answer that is written at once.
 fn written(alloc: Global, text: &[u8]) -> Result<Turn, NoMemory>

@@ -13,11 +13,11 @@ ghost use Rattle.aegis_shell.specs.declared.outcome.Outcome.TheVariants.{Replied
 ghost use Rattle.aegis_shell.specs.declared.stage.Turn.TheVariants.{Comes};
 
 use crate::answer::{is_done, together};
-use crate::begin::turn_of;
 use crate::names::put_locks;
 use crate::operation::second_operation;
 use crate::outcome::Outcome;
 use crate::stage::{Stage, Turn};
+use crate::turning::turn_of;
 use crate::work::{Job, Work};
 use dom_history::{Op, Reply};
 use std::alloc::Global;

@@ -4,18 +4,26 @@
 mod answer;
 mod begin;
 mod bindings;
+mod copying;
+mod errand;
+mod file_talk;
 mod go;
 pub mod laws;
+mod name_talk;
 mod names;
 mod naming;
 mod operation;
 mod outcome;
 mod progress;
+mod seeking;
 mod shell;
+mod source;
 mod stage;
+mod streaming;
 mod talk;
 #[cfg(test)]
 mod tests;
+mod turning;
 mod work;
 mod working;
 

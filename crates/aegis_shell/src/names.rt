@@ -3,13 +3,14 @@ ghost use Rattle.std.specs.Prelude.{◌≡◌, ◌++◌, ◌∷◌, [], codes, d
 ghost use Rattle.uid_names.specs.Modes.{mode_letter};
 ghost use Rattle.uid_names.specs.Texts.{text_of as uid_text};
 ghost use Rattle.aegis_shell.specs.AnswerTexts.{node_name};
-ghost use Rattle.aegis_shell.specs.Outcomes.{kind_text as text_of_kind, row_text, row_texts, node_texts, lock_text, lock_texts, result_text as text_of_result, found_text, entered_text, came_text as text_that_came, outcome_text as text_of_outcome};
+ghost use Rattle.aegis_shell.specs.Outcomes.{kind_text as text_of_kind, row_text, row_texts, node_texts, lock_text, lock_texts, stream_text as text_of_stream, result_text as text_of_result, found_text, entered_text, came_text as text_that_came, outcome_text as text_of_outcome};
 
-use crate::answer::{answer_text, put_process};
+use crate::answer::{answer_text, counted, loaded, put_process};
 use crate::outcome::Outcome;
 use crate::work::Work;
 use crate::working::Working;
 use dom_history::NodeNames;
+use mapped_streams::StreamResult;
 use naming_tree::{DirRow, NameResult, Walked};
 use script_reader::Command;
 use std::alloc::Global;
@@ -169,6 +170,18 @@ fn came_text(
     result_text(alloc, work.names(), come)
 }
 
+/// The answer of a command whose file came to this.
+fn stream_text(alloc: Global, names: &NodeNames, come: &StreamResult) -> Result<ByteList, NoMemory>
+    ensures { IfOk result (λ text. text ≡ text_of_stream names.now come.now) }
+{
+    match come {
+        StreamResult::Bytes(bytes) => loaded(alloc, bytes.bytes()),
+        StreamResult::Count(n) => counted(alloc, *n),
+        StreamResult::Fine => ByteList::from_slice(alloc, b"ok"),
+        StreamResult::Store(reply) => answer_text(alloc, names, reply),
+    }
+}
+
 /// The answer of a command that has come to this.
 pub fn outcome_text(
     alloc: Global,
@@ -182,6 +195,7 @@ pub fn outcome_text(
     match outcome {
         Outcome::Replied(reply) => answer_text(alloc, work.names(), reply),
         Outcome::Came(come) => came_text(alloc, work, working, command, come),
+        Outcome::Streamed(come) => stream_text(alloc, work.names(), come),
         Outcome::Written(text) => text.copy(alloc),
     }
 }

@@ -1,4 +1,4 @@
-//! How commands on names begin.
+//! How commands on names and files begin.
 ghost use Rattle.std.specs.Prelude.{◌≡◌, true, false, None, Some, MatchOption, IfOk, IfSome, IsSome, unwrap_or};
 ghost use Rattle.uid_names.specs.Rooms.{IsRoom};
 ghost use Rattle.uid_names.specs.declared.mode.ObjKind.TheVariants.{File, Link};
@@ -6,11 +6,16 @@ ghost use Rattle.naming_tree.specs.Additions.{IsText};
 ghost use Rattle.naming_tree.specs.Paths.{route_of};
 ghost use Rattle.naming_tree.specs.Walking.{walk_of};
 ghost use Rattle.naming_tree.specs.ByPaths.{add_name_of, drop_name_of, list_dir_of};
+ghost use Rattle.mapped_streams.specs.Works.{IsText as IsStreamText};
 ghost use Rattle.aegis_shell.specs.Ranges.{IsRanged};
+ghost use Rattle.aegis_shell.specs.declared.errand.Errand.TheVariants.{Append as AppendErrand, Copy as CopyErrand};
 ghost use Rattle.aegis_shell.specs.Standing.{site_of};
-ghost use Rattle.aegis_shell.specs.Plans.{talk_of, talks};
-ghost use Rattle.aegis_shell.specs.declared.talk.Talk.TheVariants.{Walk as WalkTalk, List as ListTalk, Add as AddTalk, Drop as DropTalk};
+ghost use Rattle.aegis_shell.specs.Plans.{name_talk_of, seeking, talk_of, talks};
+ghost use Rattle.aegis_shell.specs.declared.name_talk.NameTalk.TheVariants.{Walk as WalkTalk, List as ListTalk, Add as AddTalk, Drop as DropTalk};
 
+use crate::errand::{Errand, Target, Text};
+use crate::file_talk::FileTalk;
+use crate::name_talk::NameTalk;
 use crate::talk::Talk;
 use crate::work::Work;
 use crate::working::Working;
@@ -41,12 +46,12 @@ fn site(alloc: Global, work: &Work) -> Result<Site, NoMemory>
 }
 
 /// A walk along a path, at whose end a link is followed.
-fn walk(alloc: Global, work: &Work, dir: Uid, path: &[u8]) -> Result<Talk, NoMemory>
+fn walk(alloc: Global, work: &Work, dir: Uid, path: &[u8]) -> Result<NameTalk, NoMemory>
     requires { IsSome (route_of path.now) }
     ensures { IfOk result (λ talk. talk ≡ WalkTalk (walk_of (site_of work.now) true (route_of path.now) dir)) }
 {
     let site = site(alloc, work)?;
-    Ok(Talk::Walk(Walk::new(alloc, site, path, dir, true)?))
+    Ok(NameTalk::Walk(Walk::new(alloc, site, path, dir, true)?))
 }
 
 /// The addition of a name with an object.
@@ -58,7 +63,7 @@ fn add(
     kind: ObjKind,
     room: u32,
     text: Option<ByteList>,
-) -> Result<Talk, NoMemory>
+) -> Result<NameTalk, NoMemory>
     requires path { IsSome (route_of path.now) }
     requires room { IsRoom room }
     requires text { IsText kind text }
@@ -66,7 +71,7 @@ fn add(
 {
     let site = site(alloc, work)?;
     let machine = AddName::new(alloc, site, path, dir, kind, room, text)?;
-    Ok(Talk::Add(machine))
+    Ok(NameTalk::Add(machine))
 }
 
 /// The addition of a file; where no room is said it is that of a file.
@@ -77,7 +82,7 @@ fn add_file(
     dir: Uid,
     path: &[u8],
     room: Option<u32>,
-) -> Result<Talk, NoMemory>
+) -> Result<NameTalk, NoMemory>
     requires path { IsSome (route_of path.now) }
     requires room { IfSome room IsRoom }
     ensures { IfOk result (λ talk. talk ≡ AddTalk (add_name_of (site_of work.now) (route_of path.now) dir File (unwrap_or room 16) None)) }
@@ -93,7 +98,7 @@ fn add_link(
     dir: Uid,
     path: &[u8],
     target: &ByteList,
-) -> Result<Talk, NoMemory>
+) -> Result<NameTalk, NoMemory>
     requires path { IsSome (route_of path.now) }
     requires target { IsSome (route_of target.now) }
     ensures { IfOk result (λ talk. talk ≡ AddTalk (add_name_of (site_of work.now) (route_of path.now) dir Link 1 (Some target.now))) }
@@ -103,21 +108,82 @@ fn add_link(
 }
 
 /// The removal of a name.
-fn drop_name(alloc: Global, work: &Work, dir: Uid, path: &[u8]) -> Result<Talk, NoMemory>
+fn drop_name(alloc: Global, work: &Work, dir: Uid, path: &[u8]) -> Result<NameTalk, NoMemory>
     requires { IsSome (route_of path.now) }
     ensures { IfOk result (λ talk. talk ≡ DropTalk (drop_name_of (site_of work.now) (route_of path.now) dir)) }
 {
     let site = site(alloc, work)?;
-    Ok(Talk::Drop(DropName::new(alloc, site, path, dir)?))
+    Ok(NameTalk::Drop(DropName::new(alloc, site, path, dir)?))
 }
 
 /// The list of a directory.
-fn list_dir(alloc: Global, work: &Work, dir: Uid, path: &[u8]) -> Result<Talk, NoMemory>
+fn list_dir(alloc: Global, work: &Work, dir: Uid, path: &[u8]) -> Result<NameTalk, NoMemory>
     requires { IsSome (route_of path.now) }
     ensures { IfOk result (λ talk. talk ≡ ListTalk (list_dir_of (site_of work.now) (route_of path.now) dir)) }
 {
     let site = site(alloc, work)?;
-    Ok(Talk::List(ListDir::new(alloc, site, path, dir)?))
+    Ok(NameTalk::List(ListDir::new(alloc, site, path, dir)?))
+}
+
+/// The walk to the file of an errand.
+fn seek(alloc: Global, work: &Work, dir: Uid, path: &[u8], errand: Errand) -> Result<Talk, NoMemory>
+    requires { IsSome (route_of path.now) }
+    ensures { IfOk result (λ talk. talk ≡ seeking work.now dir path.now errand) }
+{
+    let site = site(alloc, work)?;
+    let walk = Walk::new(alloc, site, path, dir, true)?;
+    Ok(Talk::File(Some(FileTalk::Seeks(walk, errand))))
+}
+
+/// The errand of a text that is put behind the bytes of a file.
+fn append_errand(alloc: Global, text: &ByteList) -> Result<Errand, NoMemory>
+    requires { IsStreamText text.now }
+    ensures { IfOk result (λ errand. errand ≡ AppendErrand text.now) }
+{
+    Ok(Errand::Append(Text::new(text.copy(alloc)?)))
+}
+
+/// The errand of a copy to this path.
+fn copy_errand(alloc: Global, work: &Work, dir: Uid, target: &ByteList) -> Result<Errand, NoMemory>
+    requires { IsSome (route_of target.now) }
+    ensures { IfOk result (λ errand. errand ≡ CopyErrand (record { site = site_of work.now; dir = dir; path = target.now })) }
+{
+    let site = site(alloc, work)?;
+    Ok(Errand::Copy(Target::new(site, dir, target.copy(alloc)?)))
+}
+
+/// The machine of a command on names, before its first turn; None for another command.
+fn name_talk(
+    alloc: Global,
+    work: &Work,
+    dir: Uid,
+    command: &Command,
+) -> Result<Option<NameTalk>, NoMemory>
+    requires { IsRanged command.now }
+    ensures { IfOk result (λ found. found ≡ name_talk_of work.now dir command.now) }
+{
+    match command {
+        Command::Bind { var: _, path } => Ok(Some(walk(alloc, work, dir, path.bytes())?)),
+        Command::Crf { path, room } => Ok(Some(add_file(alloc, work, dir, path.bytes(), *room)?)),
+        Command::Crd { path } => {
+            let kind = ObjKind::Directory;
+            Ok(Some(add(alloc, work, dir, path.bytes(), kind, DIRECTORY_ROOM, None)?))
+        }
+        Command::Crl { path, target } => Ok(Some(add_link(
+            alloc,
+            work,
+            dir,
+            path.bytes(),
+            target,
+        )?)),
+        Command::Dlf { path } => Ok(Some(drop_name(alloc, work, dir, path.bytes())?)),
+        Command::Ld { path } => Ok(Some(list_dir(alloc, work, dir, path.bytes())?)),
+        Command::Wd { path } => match path {
+            Some(path) => Ok(Some(walk(alloc, work, dir, path.bytes())?)),
+            None => Ok(None),
+        },
+        _ => Ok(None),
+    }
 }
 
 /// The machine of a command, before its first turn; None for a command that has none.
@@ -132,23 +198,19 @@ pub fn talk(
 {
     let dir = working.dir;
     match command {
-        Command::Bind { var: _, path } => Ok(Some(walk(alloc, work, dir, path.bytes())?)),
-        Command::Crf { path, room } => {
-            Ok(Some(add_file(alloc, work, dir, path.bytes(), *room)?))
+        Command::Catf { path } => Ok(Some(seek(alloc, work, dir, path.bytes(), Errand::Read)?)),
+        Command::Lnf { path } => Ok(Some(seek(alloc, work, dir, path.bytes(), Errand::Count)?)),
+        Command::Apf { path, text } => {
+            let errand = append_errand(alloc, text)?;
+            Ok(Some(seek(alloc, work, dir, path.bytes(), errand)?))
         }
-        Command::Crd { path } => {
-            let kind = ObjKind::Directory;
-            Ok(Some(add(alloc, work, dir, path.bytes(), kind, DIRECTORY_ROOM, None)?))
+        Command::Cpf { path, target } => {
+            let errand = copy_errand(alloc, work, dir, target)?;
+            Ok(Some(seek(alloc, work, dir, path.bytes(), errand)?))
         }
-        Command::Crl { path, target } => {
-            Ok(Some(add_link(alloc, work, dir, path.bytes(), target)?))
-        }
-        Command::Dlf { path } => Ok(Some(drop_name(alloc, work, dir, path.bytes())?)),
-        Command::Ld { path } => Ok(Some(list_dir(alloc, work, dir, path.bytes())?)),
-        Command::Wd { path } => match path {
-            Some(path) => Ok(Some(walk(alloc, work, dir, path.bytes())?)),
+        _ => match name_talk(alloc, work, dir, command)? {
+            Some(talk) => Ok(Some(Talk::Name(talk))),
             None => Ok(None),
         },
-        _ => Ok(None),
     }
 }

@@ -1,5 +1,6 @@
 //! What commands come to.
 use dom_history::Reply;
+use mapped_streams::StreamResult;
 use naming_tree::NameResult;
 use uid_names::ByteList;
 
@@ -10,6 +11,8 @@ pub enum Outcome {
     Replied(Reply),
     /// What its name came to.
     Came(NameResult),
+    /// What its file came to.
+    Streamed(StreamResult),
     /// An answer that is written already.
     Written(ByteList),
 }

@@ -50,7 +50,11 @@ fn binding<'a>(command: &'a Command, outcome: &Outcome) -> Option<(&'a [u8], Uid
     ensures { MatchOption result (bound_by command.now outcome.now ≡ None) (λ b. bound_by command.now outcome.now ≡ Some (b.0.now, b.1)) }
 {
     match (command, outcome) {
-        (Command::New { var, .. }, Outcome::Replied(Reply::Made(uid))) => Some((var.bytes(), *uid)),
+        (Command::New { var, .. }, Outcome::Replied(Reply::Made(uid))) => {
+            // It names an object.
+            let _number = uid.number();
+            Some((var.bytes(), *uid))
+        }
         (Command::Bind { var, .. }, Outcome::Came(NameResult::Found(Walked::At { uid, .. }))) => {
             // It names an object.
             let _number = uid.number();

@@ -1,51 +1,28 @@
-//! The machines of names that commands drive.
-ghost use Rattle.std.specs.Prelude.{◌≡◌, Some, IfOk, OnOk};
-ghost use Rattle.std.specs.Option.{option_copied};
-ghost use Rattle.naming_tree.specs.Turns.{IsStep};
-ghost use Rattle.naming_tree.specs.declared.walking.Walking.{Walking};
-ghost use Rattle.naming_tree.specs.declared.by_path.ByPath.{ByPath};
+//! The machines of names and files that commands drive.
+use crate::file_talk::FileTalk;
+use crate::name_talk::NameTalk;
+use crate::outcome::Outcome;
+use dom_history::Op;
 
-use dom_history::Reply;
-use naming_tree::{AddName, DropName, ListDir, NameStep, Walk};
-use std::alloc::Global;
-use uid_names::NoMemory;
-
-/// A machine that walks along a path, lists a directory, adds a name or drops one.
+/// The machine of a command on names, or of one on the bytes of a file; None where that is over.
 pub enum Talk {
-    Walk(Walk),
-    List(ListDir),
-    Add(AddName),
-    Drop(DropName),
+    Name(NameTalk),
+    File(Option<FileTalk>),
 }
 
 impl Drop for Talk {
     /// Lets the machine go. It stands here once, so that whoever holds a machine lets it go by one call.
     fn drop(self) {
         match self {
-            Talk::Walk(_machine) => {}
-            Talk::List(_machine) => {}
-            Talk::Add(_machine) => {}
-            Talk::Drop(_machine) => {}
+            Talk::Name(_machine) => {}
+            Talk::File(_machine) => {}
         }
     }
 }
 
-impl Talk {
-    ghost use Rattle.aegis_shell.specs.Talks.{talk_after, talk_says, MayBeTold};
-
-    /// Tells it the reply to its operation; nothing at the first call.
-    #[tactic(none)]
-    pub fn next(&mut self, alloc: Global, last: Option<&Reply>) -> Result<NameStep, NoMemory>
-        requires { MayBeTold self.old (option_copied last) }
-        ensures after { OnOk result (self.new ≡ talk_after self.old (option_copied last.entry)) }
-        ensures step { IfOk result (λ step. Some step ≡ talk_says self.old (option_copied last.entry)) }
-        ensures range { IfOk result IsStep }
-    {
-        match self {
-            Talk::Walk(machine) => machine.next(alloc, last),
-            Talk::List(machine) => machine.next(alloc, last),
-            Talk::Add(machine) => machine.next(alloc, last),
-            Talk::Drop(machine) => machine.next(alloc, last),
-        }
-    }
+/// What a machine says: its next operation, or what the command has come to.
+#[derive(Drop)]
+pub enum Step {
+    Do(Op),
+    Over(Outcome),
 }

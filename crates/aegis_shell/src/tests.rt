@@ -245,6 +245,52 @@ fn names_are_answered(rt: HostRuntime) -> Result<(), Fail> {
     Ok(())
 }
 
+#[test]
+fn files_are_answered(rt: HostRuntime) -> Result<(), Fail> {
+    let rows: [(&[u8], &[u8]); 7] = [
+        // Texts are put one behind the other.
+        (
+            b"a.1 crf f 2\na.1 apf f \"one\\ntwo\\n\"\na.1 apf f \"end\"\na.1 catf f\na.1 lnf f\na.1 llkob a\n",
+            b"ok\nok\nok\nok \"one\\ntwo\\nend\"\nok 2\nok\n",
+        ),
+        // What is no file is not read.
+        (
+            b"a.1 crd d\na.1 catf d\na.1 lnf //\na.1 apf d \"x\"\na.1 cpf d e\na.1 catf n\na.1 ld /\n",
+            b"ok\nis a directory\nis a directory\nis a directory\nis a directory\nno name\nok d:dir\n",
+        ),
+        // A copy goes to a new name, and leaves nothing locked or mapped.
+        (
+            b"a.1 crf f\na.1 apf f \"abc\"\na.1 crl l f\na.1 cpf l g\na.1 catf g\na.1 cpf f g\na.1 cpf f n/h\na.1 llkob a\na.1 lock y w\na.1 map y\n",
+            b"ok\nok\nok\nok\nok \"abc\"\nname exists\nno name\nok\nok\nok 00000000\n",
+        ),
+        // An empty file has an empty copy.
+        (
+            b"a.1 crf f\na.1 cpf f g\na.1 catf g\na.1 lnf g\n",
+            b"ok\nok\nok \"\"\nok 0\n",
+        ),
+        // One that the process holds is not opened again.
+        (
+            b"a.1 crf f\na.1 bind v f\na.1 lock v r\na.1 catf f\na.1 apf f \"x\"\na.1 cpf f g\na.1 unlock v\na.1 catf f\n",
+            b"ok\nok 0000000000400001\nok\nalready held\nalready held\nalready held\nok\nok \"\"\n",
+        ),
+        // A text ends where the room does.
+        (
+            b"a.1 crf f 1\na.1 bind v f\na.1 lock v w\na.1 store v 1022 \"ab\"\na.1 unlock v\na.1 apf f \"c\"\na.1 llkob a\n",
+            b"ok\nok 0000000000400001\nok\nok\nok\npast room\nok\n",
+        ),
+        // It passes a page border, and a copy has the pages that it needs.
+        (
+            b"a.1 crf f 2\na.1 bind v f\na.1 lock v w\na.1 store v 1023 \"\\n\"\na.1 unlock v\na.1 apf f \"\\n\\n\"\na.1 cpf f g\na.1 lnf g\na.1 bind w g\na.1 lock w w\na.1 length w\na.1 store w 2047 \"\\n\"\na.1 store w 2048 \"x\"\n",
+            b"ok\nok 0000000000400001\nok\nok\nok\nok\nok\nok 3\nok 0000000000500001\nok\nok 1026\nok\npast room\n",
+        ),
+    ];
+    for (commands, expected) in rows {
+        let got = answers_at_a(rt.alloc(), commands)?;
+        assert_eq!(rt; got.bytes(), expected, "{commands:?}");
+    }
+    Ok(())
+}
+
 /// How a reply is written, with two nodes `a` and `bee`.
 fn text_of(alloc: Global, reply: &Reply) -> Result<ByteList, Fail> {
     let script = read_script(alloc, b"node a\nnode bee\n")?;

@@ -3,7 +3,7 @@ ghost use Rattle.std.specs.Prelude.{◌≡◌, ◌^◌, ◌<◌, length, map, tr
 ghost use Rattle.std.specs.Option.{option_copied};
 ghost use Rattle.dom_history.specs.NodeTexts.{AreNodeNames};
 ghost use Rattle.script_reader.specs.Variables.{declared_object};
-ghost use Rattle.script_reader.specs.declared.command.Command.TheVariants.{New, Load, Store, Bind, Crl};
+ghost use Rattle.script_reader.specs.declared.command.Command.TheVariants.{New, Load, Store, Bind, Crl, Apf, Cpf};
 ghost use Rattle.aegis_shell.specs.Bindings.{object_at};
 ghost use Rattle.aegis_shell.specs.Work.{variable as variable_of, object_in, object_of as object_of_job, job_of, jobs_of, part_of, is_of_names};
 ghost use Rattle.aegis_shell.specs.Ranges.{AreJobs};
@@ -127,6 +127,22 @@ fn copy_of_path(alloc: Global, path: &Option<ByteList>) -> Result<Option<ByteLis
     }
 }
 
+fn copy_of_append(alloc: Global, path: &ByteList, text: &ByteList) -> Result<Command, NoMemory>
+    ensures { IfOk result (λ copy. copy ≡ Apf path.now text.now) }
+{
+    let path = path.copy(alloc)?;
+    let text = text.copy(alloc)?;
+    Ok(Command::Apf { path, text })
+}
+
+fn copy_of_copy(alloc: Global, path: &ByteList, target: &ByteList) -> Result<Command, NoMemory>
+    ensures { IfOk result (λ copy. copy ≡ Cpf path.now target.now) }
+{
+    let path = path.copy(alloc)?;
+    let target = target.copy(alloc)?;
+    Ok(Command::Cpf { path, target })
+}
+
 /// A copy of a command on names or on locks of a home.
 fn copy_of_naming(alloc: Global, command: &Command) -> Result<Command, NoMemory>
     requires { is_of_names command.now ≡ true }
@@ -145,6 +161,14 @@ fn copy_of_naming(alloc: Global, command: &Command) -> Result<Command, NoMemory>
         Command::Dlf { path } => Command::Dlf {
             path: path.copy(alloc)?,
         },
+        Command::Catf { path } => Command::Catf {
+            path: path.copy(alloc)?,
+        },
+        Command::Lnf { path } => Command::Lnf {
+            path: path.copy(alloc)?,
+        },
+        Command::Apf { path, text } => copy_of_append(alloc, path, text)?,
+        Command::Cpf { path, target } => copy_of_copy(alloc, path, target)?,
         Command::Ld { path } => Command::Ld {
             path: path.copy(alloc)?,
         },

@@ -151,7 +151,7 @@ stands_turned : (t : Turn) (d : Dialogue) → Turns t d → IsOn (state_of t) d
 stands_turned (Goes s) d h = (h.keeps, h.leaves)
 stands_turned (Comes result) d h = (result, sym h.leaves)
 
-on_next : (m : Option Streaming) (d : Dialogue) (reply : Reply) → IsOn m d → FitsSaid (says d) reply → IsOn (stood_after m (Some reply)) (told d reply)
+pub on_next : (m : Option Streaming) (d : Dialogue) (reply : Reply) → IsOn m d → FitsSaid (says d) reply → IsOn (stood_after m (Some reply)) (told d reply)
 on_next None d reply on fits = absurd (subst (λ (x : Dialogue). FitsSaid (says x) reply) on.1 fits)
 on_next (Some s) d reply on fits =
     stands_turned (turn s reply) (told d reply)

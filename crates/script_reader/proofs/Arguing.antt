@@ -43,7 +43,7 @@ use Rattle.script_reader.specs.declared.words.Verb.TheVariants as verb
 use Rattle.script_reader.proofs.Decisions.{passes_all}
 use Rattle.script_reader.proofs.Kept.{name_text}
 
-and_true : (a b : Bool) → (a && b) ≡ true → (a ≡ true) × (b ≡ true)
+pub and_true : (a b : Bool) → (a && b) ≡ true → (a ≡ true) × (b ≡ true)
 and_true true b h = (refl, h)
 and_true false b h = absurd cc
 
@@ -230,6 +230,10 @@ command-given nodes verb.Crf arguments = refl
 command-given nodes verb.Crd arguments = refl
 command-given nodes verb.Crl arguments = refl
 command-given nodes verb.Dlf arguments = refl
+command-given nodes verb.Catf arguments = refl
+command-given nodes verb.Lnf arguments = refl
+command-given nodes verb.Apf arguments = refl
+command-given nodes verb.Cpf arguments = refl
 command-given nodes verb.Ld arguments = refl
 command-given nodes verb.Wd arguments = refl
 command-given nodes verb.Llkob arguments = refl
@@ -338,7 +342,7 @@ nodes_known s proc (a ∷ rest) known =
     let k = and_true (is_known s proc a) (list_all (is_known s proc) rest) known in
     rw (node_known s proc a k.0) (nodes_known s proc rest k.1)
 
-not_true : (b : Bool) → not b ≡ true → b ≡ false
+pub not_true : (b : Bool) → not b ≡ true → b ≡ false
 not_true true h = absurd cc
 not_true false h = refl
 

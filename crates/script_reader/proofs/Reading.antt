@@ -21,7 +21,7 @@ use Rattle.script_reader.specs.declared.script.CommandRow.{CommandRow}
 use Rattle.script_reader.specs.declared.words.LineWord.{LineWord}
 use Rattle.script_reader.specs.declared.words.LineWord.TheVariants.{Node as NodeWord, Object as ObjectWord, Fault as FaultWord, Phase as PhaseWord}
 use Rattle.script_reader.specs.declared.words.Verb.{Verb}
-use Rattle.script_reader.specs.declared.words.Verb.TheVariants.{New as NewVerb, Lock as LockVerb, Unlock as UnlockVerb, Delete as DeleteVerb, Load as LoadVerb, Store as StoreVerb, Length as LengthVerb, Map as MapVerb, Unmap as UnmapVerb, Loadat as LoadatVerb, Storeat as StoreatVerb, Bind as BindVerb, Crf as CrfVerb, Crd as CrdVerb, Crl as CrlVerb, Dlf as DlfVerb, Ld as LdVerb, Wd as WdVerb, Llkob as LlkobVerb}
+use Rattle.script_reader.specs.declared.words.Verb.TheVariants.{New as NewVerb, Lock as LockVerb, Unlock as UnlockVerb, Delete as DeleteVerb, Load as LoadVerb, Store as StoreVerb, Length as LengthVerb, Map as MapVerb, Unmap as UnmapVerb, Loadat as LoadatVerb, Storeat as StoreatVerb, Bind as BindVerb, Crf as CrfVerb, Crd as CrdVerb, Crl as CrlVerb, Dlf as DlfVerb, Catf as CatfVerb, Lnf as LnfVerb, Apf as ApfVerb, Cpf as CpfVerb, Ld as LdVerb, Wd as WdVerb, Llkob as LlkobVerb}
 use Rattle.uid_names.proofs.TextTables.{looked_up}
 
 -- a good line in front
@@ -104,6 +104,10 @@ verb-again CrfVerb = refl
 verb-again CrdVerb = refl
 verb-again CrlVerb = refl
 verb-again DlfVerb = refl
+verb-again CatfVerb = refl
+verb-again LnfVerb = refl
+verb-again ApfVerb = refl
+verb-again CpfVerb = refl
 verb-again LdVerb = refl
 verb-again WdVerb = refl
 verb-again LlkobVerb = refl

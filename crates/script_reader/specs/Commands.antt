@@ -8,7 +8,7 @@ use Rattle.dom_history.specs.Ranges.{IsProcName}
 use Rattle.naming_tree.specs.Paths.{route_of}
 use Rattle.script_reader.specs.Arguments.{Given, Var, NewVar, Room, Offset, Count, Address, Text, Mode, Home, HomeNode, OptionalRoom, Path, OptionalPath}
 use Rattle.script_reader.specs.declared.command.Command.{Command}
-use Rattle.script_reader.specs.declared.command.Command.TheVariants.{New, Lock, Unlock, Delete, Load, Store, Length, Map, Unmap, Loadat, Storeat, Bind, Crf, Crd, Crl, Dlf, Ld, Wd, Llkob}
+use Rattle.script_reader.specs.declared.command.Command.TheVariants.{New, Lock, Unlock, Delete, Load, Store, Length, Map, Unmap, Loadat, Storeat, Bind, Crf, Crd, Crl, Dlf, Catf, Lnf, Apf, Cpf, Ld, Wd, Llkob}
 use Rattle.script_reader.specs.declared.script.CommandRow.{CommandRow}
 
 -- an offset in an object, a count of bytes, and an address
@@ -47,6 +47,10 @@ arguments_of (Crf path room) = Path path ∷ OptionalRoom room ∷ []
 arguments_of (Crd path) = Path path ∷ []
 arguments_of (Crl path target) = Path path ∷ Path target ∷ []
 arguments_of (Dlf path) = Path path ∷ []
+arguments_of (Catf path) = Path path ∷ []
+arguments_of (Lnf path) = Path path ∷ []
+arguments_of (Apf path text) = Path path ∷ Text text ∷ []
+arguments_of (Cpf path target) = Path path ∷ Path target ∷ []
 arguments_of (Ld path) = Path path ∷ []
 arguments_of (Wd path) = OptionalPath path ∷ []
 arguments_of (Llkob node) = HomeNode node ∷ []

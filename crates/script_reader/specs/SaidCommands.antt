@@ -5,7 +5,7 @@ use Rattle.uid_names.specs.declared.mode.Mode.TheVariants.{Read}
 use Rattle.script_reader.specs.Arguments.{Said, Var, NewVar, Room, Offset, Count, Address, Text, Mode, Home, HomeNode, OptionalRoom, Path, OptionalPath, home_number, pages_said}
 use Rattle.script_reader.specs.NodeNames.{node_number}
 use Rattle.script_reader.specs.declared.command.Command.{Command}
-use Rattle.script_reader.specs.declared.command.Command.TheVariants.{New, Lock, Unlock, Delete, Load, Store, Length, Map, Unmap, Loadat, Storeat, Bind, Crf, Crd, Crl, Dlf, Ld, Wd, Llkob}
+use Rattle.script_reader.specs.declared.command.Command.TheVariants.{New, Lock, Unlock, Delete, Load, Store, Length, Map, Unmap, Loadat, Storeat, Bind, Crf, Crd, Crl, Dlf, Catf, Lnf, Apf, Cpf, Ld, Wd, Llkob}
 use Rattle.script_reader.specs.declared.script.NodeRow.{NodeRow}
 use Rattle.script_reader.specs.declared.words.Verb.{Verb}
 use Rattle.script_reader.specs.declared.words.Verb.TheVariants as verb
@@ -63,6 +63,10 @@ command_with nodes verb.Crf path room _ = Crf (bytes_of path) (pages_of room)
 command_with nodes verb.Crd path _ _ = Crd (bytes_of path)
 command_with nodes verb.Crl path target _ = Crl (bytes_of path) (bytes_of target)
 command_with nodes verb.Dlf path _ _ = Dlf (bytes_of path)
+command_with nodes verb.Catf path _ _ = Catf (bytes_of path)
+command_with nodes verb.Lnf path _ _ = Lnf (bytes_of path)
+command_with nodes verb.Apf path text _ = Apf (bytes_of path) (bytes_of text)
+command_with nodes verb.Cpf path target _ = Cpf (bytes_of path) (bytes_of target)
 command_with nodes verb.Ld path _ _ = Ld (bytes_of path)
 command_with nodes verb.Wd path _ _ = Wd (path_of path)
 command_with nodes verb.Llkob node _ _ = Llkob (node_of nodes node)

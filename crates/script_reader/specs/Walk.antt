@@ -10,3 +10,5 @@ pub mod Starts
 pub mod Drafts
 pub mod Inside
 pub mod Results
+pub mod Begun
+pub mod Drawing

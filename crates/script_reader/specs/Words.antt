@@ -11,7 +11,7 @@ use Rattle.script_reader.specs.SpelledNumbers.{process_spelled}
 use Rattle.script_reader.specs.declared.words.LineWord.{LineWord}
 use Rattle.script_reader.specs.declared.words.LineWord.TheVariants.{Node, Object, Fault, Phase}
 use Rattle.script_reader.specs.declared.words.Verb.{Verb}
-use Rattle.script_reader.specs.declared.words.Verb.TheVariants.{New, Lock, Unlock, Delete, Load, Store, Length, Map, Unmap, Loadat, Storeat, Bind, Crf, Crd, Crl, Dlf, Ld, Wd, Llkob}
+use Rattle.script_reader.specs.declared.words.Verb.TheVariants.{New, Lock, Unlock, Delete, Load, Store, Length, Map, Unmap, Loadat, Storeat, Bind, Crf, Crd, Crl, Dlf, Catf, Lnf, Apf, Cpf, Ld, Wd, Llkob}
 
 abbrev pub line_word_text : LineWord → List ℕ
 line_word_text Node = codes "node"
@@ -43,12 +43,16 @@ verb_text Crf = codes "crf"
 verb_text Crd = codes "crd"
 verb_text Crl = codes "crl"
 verb_text Dlf = codes "dlf"
+verb_text Catf = codes "catf"
+verb_text Lnf = codes "lnf"
+verb_text Apf = codes "apf"
+verb_text Cpf = codes "cpf"
 verb_text Ld = codes "ld"
 verb_text Wd = codes "wd"
 verb_text Llkob = codes "llkob"
 
 abbrev pub verbs : List Verb
-verbs = New ∷ Lock ∷ Unlock ∷ Delete ∷ Load ∷ Store ∷ Length ∷ Map ∷ Unmap ∷ Loadat ∷ Storeat ∷ Bind ∷ Crf ∷ Crd ∷ Crl ∷ Dlf ∷ Ld ∷ Wd ∷ Llkob ∷ []
+verbs = New ∷ Lock ∷ Unlock ∷ Delete ∷ Load ∷ Store ∷ Length ∷ Map ∷ Unmap ∷ Loadat ∷ Storeat ∷ Bind ∷ Crf ∷ Crd ∷ Crl ∷ Dlf ∷ Catf ∷ Lnf ∷ Apf ∷ Cpf ∷ Ld ∷ Wd ∷ Llkob ∷ []
 
 -- the command that a word is
 abbrev pub verb_of : List ℕ → Option Verb

@@ -73,6 +73,24 @@ pub enum Command {
     Dlf {
         path: ByteList,
     },
+    /// Reads the whole file.
+    Catf {
+        path: ByteList,
+    },
+    /// Counts the lines of a file.
+    Lnf {
+        path: ByteList,
+    },
+    /// Puts a text behind the end of a file.
+    Apf {
+        path: ByteList,
+        text: ByteList,
+    },
+    /// Makes a file by a name, with the bytes of another.
+    Cpf {
+        path: ByteList,
+        target: ByteList,
+    },
     /// Lists a directory.
     Ld {
         path: ByteList,

@@ -305,7 +305,7 @@ impl Draft {
     }
 
     /// Begins a phase.
-    fn add_phase(&mut self)
+    pub(crate) fn add_phase(&mut self)
         requires { self.old.phases < MAX_PHASES }
         ensures { self.new ≡ record self.old { phases = self.old.phases + 1 } }
     {
@@ -329,7 +329,12 @@ impl Draft {
     }
 
     /// Declares a node.
-    fn add_node(&mut self, alloc: Global, name: &[u8], frames: u16) -> Result<(), NoMemory>
+    pub(crate) fn add_node(
+        &mut self,
+        alloc: Global,
+        name: &[u8],
+        frames: u16,
+    ) -> Result<(), NoMemory>
         requires name { is_name name.now ≡ true }
         requires few { 5 ≤ frames }
         requires many { frames ≤ 256 }
@@ -343,7 +348,7 @@ impl Draft {
     }
 
     /// Declares an object. Where there is no memory for all that is noted of it, nothing is noted.
-    fn add_object(
+    pub(crate) fn add_object(
         &mut self,
         alloc: Global,
         var: &[u8],
@@ -382,7 +387,12 @@ impl Draft {
     }
 
     /// Adds a command of the last phase. Where there is no memory for all that is noted of it, nothing is noted.
-    fn add_command(&mut self, alloc: Global, proc: ProcId, command: Command) -> Result<(), NoMemory>
+    pub(crate) fn add_command(
+        &mut self,
+        alloc: Global,
+        proc: ProcId,
+        command: Command,
+    ) -> Result<(), NoMemory>
         requires node { proc.node ≤ length self.old.nodes }
         requires range { IsCommand (length self.old.nodes) command }
         requires spoken { IsSpoken self.old.objects self.old.commands proc command }

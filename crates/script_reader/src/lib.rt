@@ -1,11 +1,13 @@
-//! Reads scripts: from bytes to nodes, objects, a fault plan and commands, or to the first bad line.
+//! Reads scripts: from bytes to nodes, objects, a fault plan and commands, or to the first bad line. Makes scripts of seeds.
 #![tactic(auto)]
 
 mod arguments;
 pub mod cause;
 pub mod command;
 mod draft;
+mod draws;
 mod forms;
+mod generator;
 mod index;
 pub mod laws;
 mod line;
@@ -19,5 +21,6 @@ mod words;
 
 pub use cause::{Cause, ScriptFault};
 pub use command::Command;
+pub use generator::generate;
 pub use reader::read_script;
 pub use script::{CommandRow, NodeRow, Script, VarRow};

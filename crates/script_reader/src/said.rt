@@ -3,7 +3,7 @@ ghost use Rattle.std.specs.Prelude.{◌≡◌, ◌≤◌, ◌<◌, length, IfOk,
 ghost use Rattle.uid_names.specs.declared.limits.TheConstants.{MAX_NODES};
 ghost use Rattle.script_reader.specs.NodeNames.{place_of};
 ghost use Rattle.script_reader.specs.SaidCommands.{bytes_of, command_said, command_with as command_with_those, home_of as home_of_argument, mode_of, node_of as node_of_argument, number_of, pages_of};
-ghost use Rattle.script_reader.specs.declared.command.Command.TheVariants.{New as NewCommand, Lock as LockCommand, Load as LoadCommand, Store as StoreCommand, Loadat as LoadatCommand, Storeat as StoreatCommand, Bind as BindCommand, Crf as CrfCommand, Crl as CrlCommand};
+ghost use Rattle.script_reader.specs.declared.command.Command.TheVariants.{New as NewCommand, Lock as LockCommand, Load as LoadCommand, Store as StoreCommand, Loadat as LoadatCommand, Storeat as StoreatCommand, Bind as BindCommand, Crf as CrfCommand, Crl as CrlCommand, Apf as ApfCommand, Cpf as CpfCommand};
 ghost use Rattle.script_reader.specs.Walk.Found.{IsNodeOf};
 ghost use Rattle.script_reader.specs.Walk.Seen.{seen_argument, seen_arguments};
 
@@ -82,6 +82,10 @@ fn command_with(
         Verb::Crd => Command::Crd { path: var },
         Verb::Crl => crl_of(alloc, var, second)?,
         Verb::Dlf => Command::Dlf { path: var },
+        Verb::Catf => Command::Catf { path: var },
+        Verb::Lnf => Command::Lnf { path: var },
+        Verb::Apf => apf_of(alloc, var, second)?,
+        Verb::Cpf => cpf_of(alloc, var, second)?,
         Verb::Ld => Command::Ld { path: var },
         Verb::Wd => Command::Wd {
             path: first.path(alloc)?,
@@ -225,4 +229,20 @@ fn crl_of(alloc: Global, path: ByteList, target: Argument<'_>) -> Result<Command
         path,
         target: target.copy(alloc)?,
     })
+}
+
+/// A text behind the end of the file of a path.
+fn apf_of(alloc: Global, path: ByteList, text: Argument<'_>) -> Result<Command, NoMemory>
+    ensures { IfOk result (λ command. command ≡ ApfCommand path (bytes_of (seen_argument text.entry))) }
+{
+    let text = text.copy(alloc)?;
+    Ok(Command::Apf { path, text })
+}
+
+/// A copy by a path.
+fn cpf_of(alloc: Global, path: ByteList, target: Argument<'_>) -> Result<Command, NoMemory>
+    ensures { IfOk result (λ command. command ≡ CpfCommand path (bytes_of (seen_argument target.entry))) }
+{
+    let target = target.copy(alloc)?;
+    Ok(Command::Cpf { path, target })
 }

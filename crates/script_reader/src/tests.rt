@@ -1,3 +1,5 @@
+mod generated;
+
 use super::*;
 use dom_history::Fate;
 use std::alloc::Global;
@@ -137,7 +139,7 @@ fn words_that_begin_no_line(rt: HostRuntime) -> Result<(), Fail> {
         b"abcdefghijklmnopqrstuvwxyz0123456.1 lock x w",
         b"a.1",
         b"a.1 \"lock\" x w",
-        b"a.1 catf f",
+        b"a.1 cat f",
         b"a.1 Lock x w",
         b"a.9 locks ?",
     ];
@@ -363,6 +365,40 @@ fn commands_on_names(rt: HostRuntime) -> Result<(), Fail> {
 }
 
 #[test]
+fn commands_on_files(rt: HostRuntime) -> Result<(), Fail> {
+    let rows: [(&[u8], Option<Cause>); 26] = [
+        (b"a.1 catf //b/d/f", None),
+        (b"a.1 catf", Some(Cause::Form)),
+        (b"a.1 catf f g", Some(Cause::Form)),
+        (b"a.1 catf \"f\"", Some(Cause::Form)),
+        (b"a.1 catf f/", Some(Cause::Name)),
+        (b"a.5 catf f/", Some(Cause::Number)),
+        (b"c.1 catf f", Some(Cause::Unknown)),
+        (b"a.1 catff f", Some(Cause::Word)),
+        (b"a.1 catf \x01", Some(Cause::Byte)),
+        (b"a.1 lnf //", None),
+        (b"a.1 lnf f 1", Some(Cause::Form)),
+        (b"a.1 lnf d//e", Some(Cause::Name)),
+        (b"a.1 apf f.txt \"x\"", None),
+        (b"a.1 apf f x", Some(Cause::Form)),
+        (b"a.1 apf f", Some(Cause::Form)),
+        (b"a.1 apf \"f\" \"x\"", Some(Cause::Form)),
+        (b"a.1 apf f? \"\"", Some(Cause::Number)),
+        (b"a.1 apf f? \"x\"", Some(Cause::Name)),
+        (b"a.1 apf f \"x", Some(Cause::Quote)),
+        (b"a.1 cpf f //b/g", None),
+        (b"a.1 cpf f", Some(Cause::Form)),
+        (b"a.1 cpf f g h", Some(Cause::Form)),
+        (b"a.1 cpf f \"g\"", Some(Cause::Form)),
+        (b"a.1 cpf f/ g", Some(Cause::Name)),
+        (b"a.1 cpf f g/", Some(Cause::Name)),
+        (b"a.1 cpf f g?", Some(Cause::Name)),
+    ];
+    assert_eq!(rt; read_otherwise(rt.alloc(), &rows)?, None);
+    Ok(())
+}
+
+#[test]
 fn paths_have_a_greatest_length(rt: HostRuntime) -> Result<(), Fail> {
     let mut line = ByteList::from_slice(rt.alloc(), b"a.1 ld /")?;
     for _ in 0..127 {
@@ -431,6 +467,10 @@ fn texts_have_a_greatest_length(rt: HostRuntime) -> Result<(), Fail> {
     let line = long_line(rt.alloc(), b"a.1 store x 0 \"", 1024, b"\"")?;
     assert_eq!(rt; cause_of(rt.alloc(), line.bytes())?, None);
     let line = long_line(rt.alloc(), b"a.1 store x 0 \"", 1025, b"\"")?;
+    assert_eq!(rt; cause_of(rt.alloc(), line.bytes())?, Some(Cause::Number));
+    let line = long_line(rt.alloc(), b"a.1 apf f \"", 1024, b"\"")?;
+    assert_eq!(rt; cause_of(rt.alloc(), line.bytes())?, None);
+    let line = long_line(rt.alloc(), b"a.1 apf f \"", 1025, b"\"")?;
     assert_eq!(rt; cause_of(rt.alloc(), line.bytes())?, Some(Cause::Number));
     Ok(())
 }

@@ -1,8 +1,6 @@
-use Rattle.std.proofs.Common.{◌≡◌, true, false, Option, Some, None, ap, ◌∙◌, sym, subst}
-use Rattle.std.specs.Prelude.{MatchOption}
+use Rattle.std.proofs.Common.{None, ap, ◌∙◌, sym, subst}
 use Rattle.aegis_shell.specs.AnswerTexts.{path_too_long}
 use Rattle.aegis_shell.specs.Operations.{ops_of}
-use Rattle.aegis_shell.specs.Plans.{talks, talk_of}
 use Rattle.aegis_shell.specs.States.{begins, talk_goes}
 use Rattle.aegis_shell.specs.Talks.{MayBeTold}
 use Rattle.aegis_shell.specs.declared.outcome.Outcome.TheVariants.{Written}

@@ -1,4 +1,4 @@
-use Rattle.std.proofs.Common.{◌≡◌, Option, Some, List, ap, ◌∙◌, sym, subst}
+use Rattle.std.proofs.Common.{Some, List, ap, ◌∙◌, sym, subst}
 use Rattle.uid_names.specs.declared.lock_row.LockRow.{LockRow}
 use Rattle.dom_history.specs.declared.op.Reply.{Reply}
 use Rattle.dom_history.specs.declared.op.Reply.TheVariants.{Locks}

@@ -1,4 +1,4 @@
-use Rattle.std.proofs.Common.{◌≡◌, ◌++◌, take, drop}
+use Rattle.std.proofs.Common.{◌≡◌, ◌++◌, drop}
 use Rattle.aegis_shell.specs.Outcomes.{lock_texts}
 use Rattle.aegis_shell.proofs.names.put_locks.Given as goal
 

@@ -1,4 +1,4 @@
-use Rattle.std.proofs.Common.{◌≡◌, length, ap, ◌∙◌, Some, arith}
+use Rattle.std.proofs.Common.{length, ap, ◌∙◌, Some, arith}
 use Rattle.aegis_shell.specs.States.{State}
 use Rattle.aegis_shell.proofs.Hearing.{fits_here, ranged_here, goes_here, asks_here, ends_here}
 use Rattle.aegis_shell.proofs.Turns.{told_within}

@@ -1,4 +1,4 @@
-use Rattle.std.proofs.Common.{◌≡◌, ◌≤◌, ◌<◌, length, drop, ap, ◌∙◌, sym, arith, length-drop}
+use Rattle.std.proofs.Common.{◌≤◌, ◌<◌, length, drop, ap, ◌∙◌, sym, arith, length-drop}
 use Rattle.aegis_shell.specs.States.{State, begins, object_at_job, want_of, at_stage}
 use Rattle.aegis_shell.proofs.Wanting.{ranged_next, waits_next, goes_next, asks_next, ends_next}
 use Rattle.aegis_shell.proofs.Turns.{none_left}

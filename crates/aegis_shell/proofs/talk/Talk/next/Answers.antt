@@ -1,76 +1,27 @@
-use Rattle.std.proofs.Common.{◌≡◌, Option, Some, ap, sym, subst, IfOk, OnOk}
+use Rattle.std.proofs.Common.{◌≡◌, Some, sym, subst, IfOk}
 use Rattle.std.specs.Option.{option_copied}
-use Rattle.std.proofs.lemmas.Result.{on_ok_weaker}
-use Rattle.aegis_shell.specs.Talks.{talk_after, talk_says, MayBeTold}
+use Rattle.aegis_shell.specs.Talks.{turn_by, talk_turn, MayBeTold}
+use Rattle.aegis_shell.specs.declared.talk.Step.{Step}
 use Rattle.aegis_shell.specs.declared.talk.Talk.{Talk}
-use Rattle.aegis_shell.specs.declared.talk.Talk.TheVariants as machines
-use Rattle.naming_tree.specs.declared.step.NameStep.{NameStep}
+use Rattle.aegis_shell.specs.declared.talk.Talk.TheVariants.{Name, File}
 use Rattle.aegis_shell.proofs.talk.Talk.next.Goals as goal
 
-pub next-requires-clause-still : goal.next-requires-clause-still
-next-requires-clause-still c = (subst (λ (t : Talk). MayBeTold t (option_copied c.args.last)) c.in-Walk.is c.requires).0
+pub name_step-requires : goal.name_step-requires
+name_step-requires c = subst (λ (t : Talk). MayBeTold t (option_copied c.args.last)) c.in-Name.is c.requires
 
-pub next-requires-clause-fits : goal.next-requires-clause-fits
-next-requires-clause-fits c = (subst (λ (t : Talk). MayBeTold t (option_copied c.args.last)) c.in-Walk.is c.requires).1
+pub returns-in-Name-clause-turn : goal.returns-in-Name-clause-turn
+returns-in-Name-clause-turn c =
+    subst (λ (t : Talk). IfOk c.name_step.result (λ (step : Step). Some (turn_by step (Name c.name_step.new.talk)) ≡ talk_turn t (option_copied c.args.last))) (sym c.in-Name.is) c.name_step.ensures.turn
 
-pub returns-in-Walk-clause-after : goal.returns-in-Walk-clause-after
-returns-in-Walk-clause-after c =
-    subst (λ (t : Talk). OnOk c.next.result (machines.Walk c.next.new.self ≡ talk_after t (option_copied c.args.last))) (sym c.in-Walk.is) (on_ok_weaker c.next.result (λ e. ap machines.Walk e) c.next.ensures.after)
+pub returns-in-Name-clause-asks : goal.returns-in-Name-clause-asks
+returns-in-Name-clause-asks c = c.name_step.ensures.asks
 
-pub returns-in-Walk-clause-step : goal.returns-in-Walk-clause-step
-returns-in-Walk-clause-step c =
-    subst (λ (t : Talk). IfOk c.next.result (λ (step : NameStep). Some step ≡ talk_says t (option_copied c.args.last))) (sym c.in-Walk.is) c.next.ensures.step
+pub file_step-requires : goal.file_step-requires
+file_step-requires c = subst (λ (t : Talk). MayBeTold t (option_copied c.args.last)) c.in-File.is c.requires
 
-pub returns-in-Walk-clause-range : goal.returns-in-Walk-clause-range
-returns-in-Walk-clause-range c = c.next.ensures.range
+pub returns-in-File-clause-turn : goal.returns-in-File-clause-turn
+returns-in-File-clause-turn c =
+    subst (λ (t : Talk). IfOk c.file_step.result (λ (step : Step). Some (turn_by step (File c.file_step.new.talk)) ≡ talk_turn t (option_copied c.args.last))) (sym c.in-File.is) c.file_step.ensures.turn
 
-pub next-requires-in-List-clause-still : goal.next-requires-in-List-clause-still
-next-requires-in-List-clause-still c = (subst (λ (t : Talk). MayBeTold t (option_copied c.args.last)) c.in-List.is c.requires).0
-
-pub next-requires-in-List-clause-fits : goal.next-requires-in-List-clause-fits
-next-requires-in-List-clause-fits c = (subst (λ (t : Talk). MayBeTold t (option_copied c.args.last)) c.in-List.is c.requires).1
-
-pub returns-in-List-clause-after : goal.returns-in-List-clause-after
-returns-in-List-clause-after c =
-    subst (λ (t : Talk). OnOk c.next-in-List.result (machines.List c.next-in-List.new.self ≡ talk_after t (option_copied c.args.last))) (sym c.in-List.is) (on_ok_weaker c.next-in-List.result (λ e. ap machines.List e) c.next-in-List.ensures.after)
-
-pub returns-in-List-clause-step : goal.returns-in-List-clause-step
-returns-in-List-clause-step c =
-    subst (λ (t : Talk). IfOk c.next-in-List.result (λ (step : NameStep). Some step ≡ talk_says t (option_copied c.args.last))) (sym c.in-List.is) c.next-in-List.ensures.step
-
-pub returns-in-List-clause-range : goal.returns-in-List-clause-range
-returns-in-List-clause-range c = c.next-in-List.ensures.range
-
-pub next-requires-in-Add-clause-still : goal.next-requires-in-Add-clause-still
-next-requires-in-Add-clause-still c = (subst (λ (t : Talk). MayBeTold t (option_copied c.args.last)) c.in-Add.is c.requires).0
-
-pub next-requires-in-Add-clause-fits : goal.next-requires-in-Add-clause-fits
-next-requires-in-Add-clause-fits c = (subst (λ (t : Talk). MayBeTold t (option_copied c.args.last)) c.in-Add.is c.requires).1
-
-pub returns-in-Add-clause-after : goal.returns-in-Add-clause-after
-returns-in-Add-clause-after c =
-    subst (λ (t : Talk). OnOk c.next-in-Add.result (machines.Add c.next-in-Add.new.self ≡ talk_after t (option_copied c.args.last))) (sym c.in-Add.is) (on_ok_weaker c.next-in-Add.result (λ e. ap machines.Add e) c.next-in-Add.ensures.after)
-
-pub returns-in-Add-clause-step : goal.returns-in-Add-clause-step
-returns-in-Add-clause-step c =
-    subst (λ (t : Talk). IfOk c.next-in-Add.result (λ (step : NameStep). Some step ≡ talk_says t (option_copied c.args.last))) (sym c.in-Add.is) c.next-in-Add.ensures.step
-
-pub returns-in-Add-clause-range : goal.returns-in-Add-clause-range
-returns-in-Add-clause-range c = c.next-in-Add.ensures.range
-
-pub next-requires-in-Drop-clause-still : goal.next-requires-in-Drop-clause-still
-next-requires-in-Drop-clause-still c = (subst (λ (t : Talk). MayBeTold t (option_copied c.args.last)) c.in-Drop.is c.requires).0
-
-pub next-requires-in-Drop-clause-fits : goal.next-requires-in-Drop-clause-fits
-next-requires-in-Drop-clause-fits c = (subst (λ (t : Talk). MayBeTold t (option_copied c.args.last)) c.in-Drop.is c.requires).1
-
-pub returns-in-Drop-clause-after : goal.returns-in-Drop-clause-after
-returns-in-Drop-clause-after c =
-    subst (λ (t : Talk). OnOk c.next-in-Drop.result (machines.Drop c.next-in-Drop.new.self ≡ talk_after t (option_copied c.args.last))) (sym c.in-Drop.is) (on_ok_weaker c.next-in-Drop.result (λ e. ap machines.Drop e) c.next-in-Drop.ensures.after)
-
-pub returns-in-Drop-clause-step : goal.returns-in-Drop-clause-step
-returns-in-Drop-clause-step c =
-    subst (λ (t : Talk). IfOk c.next-in-Drop.result (λ (step : NameStep). Some step ≡ talk_says t (option_copied c.args.last))) (sym c.in-Drop.is) c.next-in-Drop.ensures.step
-
-pub returns-in-Drop-clause-range : goal.returns-in-Drop-clause-range
-returns-in-Drop-clause-range c = c.next-in-Drop.ensures.range
+pub returns-in-File-clause-asks : goal.returns-in-File-clause-asks
+returns-in-File-clause-asks c = c.file_step.ensures.asks

@@ -1,0 +1,54 @@
+-- What the code knows of copies of files, and of walks to files.
+use Rattle.std.proofs.Common.{◌≡◌, Option, Some, None, refl, ap, ◌∙◌}
+use Rattle.dom_history.specs.declared.op.Op.{Op}
+use Rattle.dom_history.specs.declared.op.Reply.{Reply}
+use Rattle.naming_tree.specs.declared.by_path.ByPath.{ByPath}
+use Rattle.naming_tree.specs.declared.walking.Walking.{Walking}
+use Rattle.naming_tree.specs.declared.step.NameResult.{NameResult}
+use Rattle.naming_tree.specs.declared.step.NameResult.TheVariants.{Found, Added}
+use Rattle.naming_tree.specs.declared.step.NameStep.TheVariants as names
+use Rattle.naming_tree.specs.ByPaths.{by_path_after, by_path_asks}
+use Rattle.naming_tree.specs.Turns.{stood_after, stood_says}
+use Rattle.naming_tree.specs.Walking.{walking_after, walking_asks}
+use Rattle.mapped_streams.specs.declared.step.StreamResult.{StreamResult}
+use Rattle.mapped_streams.specs.declared.step.StreamStep.TheVariants as streams
+use Rattle.mapped_streams.specs.declared.streaming.Streaming.{Streaming}
+use Rattle.mapped_streams.specs.Dialogues.{said_to}
+use Rattle.mapped_streams.specs.States.{rest}
+use Rattle.mapped_streams.specs.Turns.{stood_after as stream_after}
+use Rattle.aegis_shell.specs.FileTalks.{closes, copied, copy_turn, copy_told, add_turn, add_told, seek_turn, file_turn}
+use Rattle.aegis_shell.specs.Sources.{Sourced}
+use Rattle.aegis_shell.specs.declared.errand.Errand.{Errand}
+use Rattle.aegis_shell.specs.declared.file_talk.FileTalk.TheVariants.{Seeks, Adds, Copies}
+use Rattle.aegis_shell.specs.declared.file_talk.FileTurn.TheVariants.{Goes}
+
+-- the bytes of a source
+pub copy_goes : (s : Sourced) (m : Option Streaming) (last : Option Reply) (op : Op) → Some (streams.Do op) ≡ said_to (rest m) last → Some (Goes (Copies s (stream_after m last)) op) ≡ copy_told s m last
+copy_goes s m last op says = ap (λ step. copy_turn s step (stream_after m last)) says
+
+pub copy_comes : (s : Sourced) (m : Option Streaming) (last : Option Reply) (come : StreamResult) → Some (streams.Over come) ≡ said_to (rest m) last → Some (closes s (copied come)) ≡ copy_told s m last
+copy_comes s m last come says = ap (λ step. copy_turn s step (stream_after m last)) says
+
+-- the target of a copy
+module _ (s : Sourced) (m : Option ByPath) (last : Option Reply) where
+  pub add_goes : (op : Op) → Some (names.Do op) ≡ stood_says by_path_asks by_path_after m last → Some (Goes (Adds s (stood_after by_path_after m last)) op) ≡ add_told s m last
+  add_goes op says = ap (λ step. add_turn s step (stood_after by_path_after m last)) says
+
+  add_over : (come : NameResult) → add_turn s (Some (names.Over come)) None ≡ add_turn s (Some (names.Over come)) (stood_after by_path_after m last)
+  add_over (Added v) = refl
+  add_over come = refl
+
+  pub add_comes : (come : NameResult) → Some (names.Over come) ≡ stood_says by_path_asks by_path_after m last → add_turn s (Some (names.Over come)) None ≡ add_told s m last
+  add_comes come says = add_over come ∙ ap (λ step. add_turn s step (stood_after by_path_after m last)) says
+
+-- the walk to a file
+module _ (walk : Option Walking) (errand : Errand) (last : Option Reply) where
+  pub seek_on : (op : Op) → Some (names.Do op) ≡ stood_says walking_asks walking_after walk last → Some (Goes (Seeks (stood_after walking_after walk last) errand) op) ≡ file_turn (Seeks walk errand) last
+  seek_on op says = ap (λ step. seek_turn errand step (stood_after walking_after walk last)) says
+
+  seek_over : (come : NameResult) → seek_turn errand (Some (names.Over come)) None ≡ seek_turn errand (Some (names.Over come)) (stood_after walking_after walk last)
+  seek_over (Found at) = refl
+  seek_over come = refl
+
+  pub seek_comes : (come : NameResult) → Some (names.Over come) ≡ stood_says walking_asks walking_after walk last → seek_turn errand (Some (names.Over come)) None ≡ file_turn (Seeks walk errand) last
+  seek_comes come says = seek_over come ∙ ap (λ step. seek_turn errand step (stood_after walking_after walk last)) says

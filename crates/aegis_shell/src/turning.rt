@@ -1,0 +1,80 @@
+//! How the machines of commands go on.
+ghost use Rattle.std.specs.Prelude.{◌≡◌, Some, Option, List, IfOk};
+ghost use Rattle.std.specs.Option.{option_copied};
+ghost use Rattle.dom_history.specs.declared.op.Op.{Op};
+ghost use Rattle.aegis_shell.specs.NameTalks.{MayHearName};
+ghost use Rattle.aegis_shell.specs.States.{talk_goes};
+ghost use Rattle.aegis_shell.specs.Talks.{turn_by, talk_turn, MayBeTold};
+ghost use Rattle.aegis_shell.specs.Turns.{going, AsksIn};
+ghost use Rattle.aegis_shell.specs.declared.talk.Talk.TheVariants.{Name, File};
+
+use crate::file_talk::{FileTalk, FileTurn};
+use crate::name_talk::NameTalk;
+use crate::outcome::Outcome;
+use crate::stage::{Stage, Turn};
+use crate::talk::{Step, Talk};
+use dom_history::Reply;
+use naming_tree::NameStep;
+use std::alloc::Global;
+use uid_names::NoMemory;
+
+/// A machine of a name that is told this.
+fn name_step(alloc: Global, talk: &mut NameTalk, last: Option<&Reply>) -> Result<Step, NoMemory>
+    requires { MayHearName talk.old (option_copied last) }
+    ensures turn { IfOk result (λ step. Some (turn_by step (Name talk.new)) ≡ talk_turn (Name talk.old) (option_copied last.entry)) }
+    ensures asks { IfOk result (λ step. (list : Option (List Op)) → AsksIn list (turn_by step (Name talk.new))) }
+{
+    match talk.next(alloc, last)? {
+        NameStep::Do(op) => Ok(Step::Do(op)),
+        NameStep::Over(come) => Ok(Step::Over(Outcome::Came(come))),
+    }
+}
+
+/// A machine of a file that is told this.
+fn file_step(
+    alloc: Global,
+    talk: &mut Option<FileTalk>,
+    last: Option<&Reply>,
+) -> Result<Step, NoMemory>
+    requires { MayBeTold (File talk.old) (option_copied last) }
+    ensures turn { IfOk result (λ step. Some (turn_by step (File talk.new)) ≡ talk_turn (File talk.old) (option_copied last.entry)) }
+    ensures asks { IfOk result (λ step. (list : Option (List Op)) → AsksIn list (turn_by step (File talk.new))) }
+{
+    let Some(machine) = talk.take() else {
+        unreachable!()
+    };
+    match machine.turn(alloc, last)? {
+        FileTurn::Goes(machine, op) => {
+            *talk = Some(machine);
+            Ok(Step::Do(op))
+        }
+        FileTurn::Comes(outcome) => Ok(Step::Over(outcome)),
+    }
+}
+
+impl Talk {
+    /// Tells it the reply to its operation; nothing at the first call.
+    #[tactic(none)]
+    fn next(&mut self, alloc: Global, last: Option<&Reply>) -> Result<Step, NoMemory>
+        requires { MayBeTold self.old (option_copied last) }
+        ensures turn { IfOk result (λ step. Some (turn_by step self.new) ≡ talk_turn self.old (option_copied last.entry)) }
+        ensures asks { IfOk result (λ step. (list : Option (List Op)) → AsksIn list (turn_by step self.new)) }
+    {
+        match self {
+            Talk::Name(talk) => name_step(alloc, talk, last),
+            Talk::File(talk) => file_step(alloc, talk, last),
+        }
+    }
+}
+
+/// A machine that is told this.
+pub fn turn_of(alloc: Global, mut talk: Talk, last: Option<&Reply>) -> Result<Turn, NoMemory>
+    requires { MayBeTold talk (option_copied last) }
+    ensures turn { IfOk result (λ turn. going turn ≡ talk_goes talk (option_copied last.entry)) }
+    ensures asks { IfOk result (λ turn. (list : Option (List Op)) → AsksIn list turn) }
+{
+    match talk.next(alloc, last)? {
+        Step::Do(op) => Ok(Turn::Goes(Stage::Talks(talk), op)),
+        Step::Over(outcome) => Ok(Turn::Comes(outcome)),
+    }
+}
