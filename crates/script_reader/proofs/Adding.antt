@@ -4,7 +4,6 @@ use Rattle.uid_names.specs.Names.{ProcName}
 use Rattle.uid_names.specs.declared.limits.TheConstants.{VOLUME_ROOM}
 use Rattle.uid_names.specs.declared.mode.Mode.TheVariants.{Write}
 use Rattle.script_reader.specs.After.{declared_at, with_command, with_declared, with_node}
-use Rattle.script_reader.specs.Draws.{state_after}
 use Rattle.script_reader.specs.Generated.{begin_of, eight_digits, first_work, last_offset, later_work, number_of, object_name, object_of, offset_of, process_at, rows_by, rows_of}
 use Rattle.script_reader.specs.Limits.{pages_at}
 use Rattle.script_reader.specs.NodeNames.{is_node_name}

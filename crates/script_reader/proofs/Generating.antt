@@ -1,6 +1,6 @@
 -- The script of a seed: each piece of it may be said where it is, and leads to the next.
-use Rattle.std.proofs.Common.{◌≡◌, ◌≤◌, ◌<◌, ◌+◌, ◌-◌, ◌*◌, ◌/◌, ◌%◌, ◌≢◌, ℕ, zero, suc, Bool, true, false, get_or, set, List, [], ◌∷◌, ◌++◌, length, map, IsTrue, refl, ap, sym, subst, ◌∙◌, append-nil, append_assoc, add-one, length-append, arith, rules}
-use Rattle.std.specs.Prelude.{◌==◌, ◌&&◌, ◌||◌, not, nat_le, nat_lt, codes, decimal, flat_map}
+use Rattle.std.proofs.Common.{◌≡◌, ◌≤◌, ◌<◌, ◌+◌, ◌*◌, ◌/◌, ◌%◌, ◌≢◌, ℕ, zero, suc, Bool, true, false, get_or, set, List, [], ◌∷◌, ◌++◌, length, map, refl, ap, sym, subst, ◌∙◌, append-nil, append_assoc, add-one, length-append, arith, rules}
+use Rattle.std.specs.Prelude.{◌==◌, ◌||◌, not, nat_le, nat_lt, codes, decimal, flat_map}
 use Rattle.std.specs.Fmt.{digits}
 use Rattle.std.specs.List.{AllByRecursion, list_all, range_with_len}
 use Rattle.std.proofs.lemmas.Bool.{eqb-true}
@@ -11,10 +11,10 @@ use Rattle.uid_names.specs.Names.{ProcName}
 use Rattle.uid_names.specs.NameTexts.{IsNameText}
 use Rattle.uid_names.specs.Beginnings.{at_home}
 use Rattle.uid_names.specs.Openings.{with_object}
-use Rattle.uid_names.specs.declared.limits.TheConstants.{MAX_ROOM, VOLUME_ROOM}
+use Rattle.uid_names.specs.declared.limits.TheConstants.{VOLUME_ROOM}
 use Rattle.uid_names.specs.declared.mode.ObjKind.TheVariants.{File}
 use Rattle.script_reader.specs.After.{declared_at, next_uid, with_command, with_declared, with_node, with_nodes}
-use Rattle.script_reader.specs.Arguments.{Given, Var, NewVar, Room, Offset, Count, Address, Text, Mode, Home, HomeNode, OptionalRoom, Path, OptionalPath}
+use Rattle.script_reader.specs.Arguments.{Given, Var, Offset, Count, Text, Mode}
 use Rattle.script_reader.specs.Commands.{IsArgument, IsCommand, arguments_of}
 use Rattle.script_reader.specs.Draws.{next_state, state_after}
 use Rattle.script_reader.specs.Generated.{begin_of, first_work, generated_commands, generated_node, generated_object, generated_var, later_work, object_name, object_uid, process_at, rows_by, rows_in, rows_of, work_in}

@@ -1,5 +1,5 @@
 -- Which command its arguments say.
-use Rattle.std.specs.Prelude.{ℕ, Option, Some, None, unwrap_or, List, [], slice_index_or}
+use Rattle.std.specs.Prelude.{ℕ, Option, None, unwrap_or, List, [], slice_index_or}
 use Rattle.uid_names.specs.declared.mode.Mode.{Mode as LockMode}
 use Rattle.uid_names.specs.declared.mode.Mode.TheVariants.{Read}
 use Rattle.script_reader.specs.Arguments.{Said, Var, NewVar, Room, Offset, Count, Address, Text, Mode, Home, HomeNode, OptionalRoom, Path, OptionalPath, home_number, pages_said}

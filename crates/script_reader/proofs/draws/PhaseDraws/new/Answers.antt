@@ -1,4 +1,4 @@
-use Rattle.std.proofs.Common.{◌≡◌, ◌<◌, ℕ, suc, ◌+◌, ◌*◌, length, length-set, ap, sym, ◌∙◌, arith, rules}
+use Rattle.std.proofs.Common.{◌≡◌, ◌<◌, suc, ◌+◌, ◌*◌, length, length-set, ap, sym, ◌∙◌, arith, rules}
 use Rattle.script_reader.specs.Draws.{drawn, next_state, state_after}
 use Rattle.script_reader.specs.Generated.{number_of, offset_of}
 use Rattle.script_reader.proofs.Generating.{draw_number, draw_offset, draws_on, first_draw, one_more}
