@@ -29,9 +29,15 @@ never_both words turns read (seed, others, generate) =
     absurd (omega (arith, letters))
 
 -- what was added at this status, and not at the other
-pub added_at : {A B : Type 0} (status this other : ℕ) → status ≡ this → ((status ≡ this) × A) ⊎ ((status ≡ other) × B) → (this ≡ other → ⊥) → A
+pub added_at : {A B C : Type 0} (status this other : ℕ) → status ≡ this → ((status ≡ this) × A) ⊎ ((status ≡ other) × B × C) → (this ≡ other → ⊥) → A
 added_at status this other is (inl added) apart = added.1
 added_at status this other is (inr cut) apart = absurd (apart (sym is ∙ cut.0))
+
+-- the status where no write failed
+pub no_fault : (status : ℕ) → (status ≡ 0) ⊎ ((status ≡ 5) ⊎ (status ≡ 6)) → (status ≡ 5 → ⊥) → (status ≡ 6 → ⊥) → (status ≡ 0) ⊎ ((status ≡ 7) ⊎ (status ≡ 8))
+no_fault status (inl done) out_fine journal_fine = inl done
+no_fault status (inr (inl is)) out_fine journal_fine = absurd (out_fine is)
+no_fault status (inr (inr is)) out_fine journal_fine = absurd (journal_fine is)
 
 -- so words that ask for one that is generated ask for no other
 pub is_generated : (words : List (List ℕ)) (origin : Origin) (turns : ℕ) → AskFor words origin turns → AskToGenerate words → (seed : ℕ) × (origin ≡ Generated seed)

@@ -4,7 +4,7 @@ use Rattle.dom_io.specs.Known.{AppendsPrefix}
 use Rattle.script_runner.specs.declared.words.Origin.TheVariants.{Generated}
 use Rattle.script_runner.specs.Words.{IsTaken, seed_of}
 use Rattle.script_runner.proofs.Sourced.{script_not_refused}
-use Rattle.script_runner.proofs.Asking.{added_at, is_generated, none_generated, asks_to_read, refusal_added, refusal_not_generated}
+use Rattle.script_runner.proofs.Asking.{added_at, no_fault, is_generated, none_generated, asks_to_read, refusal_added, refusal_not_generated}
 use Rattle.script_runner.proofs.Due.{run_added, journal_cut, text_cut}
 use Rattle.script_runner.proofs.domain.run_domain.Goals as goal
 
@@ -83,12 +83,14 @@ pub returns-in-Ok-Refusal-clause-complete_generated : goal.returns-in-Ok-Refusal
 returns-in-Ok-Refusal-clause-complete_generated g c = λ generate out_fine journal_fine.
     absurd (refusal_not_generated (map string_bytes c.args.words.now) (g.S.Source.left c.args.script.now) _ c.in-Some.asked.origin (seed_of c.in-Some.asked.turns) c.in-Ok-Refusal.field-0 c.in-Some.ensures c.in-Ok-Refusal.ensures.due c.in-Ok-Refusal.field-0-is generate)
 
+pub returns-in-Ok-Run-clause-complete_generated : goal.returns-in-Ok-Run-clause-complete_generated
+returns-in-Ok-Run-clause-complete_generated g c = λ generate out_fine journal_fine.
+    no_fault c.write_run.result c.write_run.ensures.status (λ is. out_fine (c.write_run.ensures.fault is)) (λ is. journal_fine (c.write_run.ensures.journal_fault is))
+
 pub returns-in-Err-ReadFault-clause-read_fault : goal.returns-in-Err-ReadFault-clause-read_fault
 returns-in-Err-ReadFault-clause-read_fault g c = λ _.
-(
-      asks_to_read (map string_bytes c.args.words.now) c.in-Some.asked.origin (seed_of c.in-Some.asked.turns) c.in-Some.ensures (c.in-Err-ReadFault.ensures.read (search (rules, c.in-Err-ReadFault.field-0-is))),
-      c.in-Err-ReadFault.ensures.read_fault (search (rules, c.in-Err-ReadFault.field-0-is)),
-    )
+    let asked = asks_to_read (map string_bytes c.args.words.now) c.in-Some.asked.origin (seed_of c.in-Some.asked.turns) c.in-Some.ensures (c.in-Err-ReadFault.ensures.read (search (rules, c.in-Err-ReadFault.field-0-is))) in
+    (asked, c.in-Err-ReadFault.ensures.read_fault (search (rules, c.in-Err-ReadFault.field-0-is)))
 
 pub returns-in-Err-ReadFault-clause-complete_generated : goal.returns-in-Err-ReadFault-clause-complete_generated
 returns-in-Err-ReadFault-clause-complete_generated g c = λ generate out_fine journal_fine.
@@ -97,4 +99,4 @@ returns-in-Err-ReadFault-clause-complete_generated g c = λ generate out_fine jo
 pub returns-in_default-clause-complete_generated : goal.returns-in_default-clause-complete_generated
 returns-in_default-clause-complete_generated g c = λ generate out_fine journal_fine.
     let refused : IsTaken (map string_bytes c.args.words.now) → ⊥ = search rules in
-    absurd (refused (Generated generate.0, (generate.1, generate.2)))
+    absurd (refused (Generated generate.0, generate.1, generate.2))
