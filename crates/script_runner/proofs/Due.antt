@@ -1,5 +1,5 @@
 -- What is due for a script is due for a source of it.
-use Rattle.std.proofs.Common.{◌≡◌, ◌∙◌, ap, subst, inl, ℕ, List, Option, Result, Ok, Err, rules}
+use Rattle.std.proofs.Common.{◌≡◌, ◌∙◌, refl, ap, subst, inl, ℕ, List, Option, Result, Ok, Err, rules}
 use Rattle.std.specs.Io.KnownBytes.{append_known}
 use Rattle.dom_io.specs.Known.{AppendsPrefix}
 use Rattle.journal_text.specs.Buffers.{Filled}
@@ -9,54 +9,67 @@ use Rattle.script_runner.specs.declared.domain.Due.{Due}
 use Rattle.script_runner.specs.declared.domain.Due.TheVariants.{Run, Refusal}
 use Rattle.script_runner.specs.declared.domain.RunEnd.{RunEnd}
 use Rattle.script_runner.specs.declared.domain.RunEnd.TheVariants.{ReadFault, TickLimit, NoMemory}
+use Rattle.script_runner.specs.declared.words.Origin.{Origin}
+use Rattle.script_runner.specs.declared.words.Origin.TheVariants.{Read, Generated}
 use Rattle.script_runner.specs.Words.{AskFor}
-use Rattle.script_runner.specs.Domain.{IsSourceOf, LimitOfSource, Held, Adds, AddsRun, AddsPartOfRun, AddsPart}
-use Rattle.script_runner.specs.DueTexts.{IsDueOf, IsEndOf, AreTextsOfSource, IsDueText}
+use Rattle.dom_history.specs.Events.{Happening}
+use Rattle.script_runs.specs.Runs.{IsRunOf, heard_in}
+use Rattle.script_runs.specs.Reports.{names_of, rows_of}
+use Rattle.script_runner.specs.Domain.{IsScriptFrom, LimitOfSource, Held, Adds, AddsRun, AddsPartOfRun, AddsPart, text_of}
+use Rattle.script_runner.specs.DueTexts.{told_of, IsDueOf, IsEndOf, AreTextsOfSource, IsDueText}
 
-pub due_of_source : (left : Option (List ℕ)) (s : Content) (seed : ℕ) (r : Result Due RunEnd) → IsSourceOf left s → IfOk r (IsDueOf s seed) → IfOk r (IsDueText left seed)
-due_of_source left s seed (Err e) source due = tt
-due_of_source left s seed (Ok (Refusal text)) source due = absurd due
-due_of_source left s seed (Ok (Run text lines)) source due = record {
+-- what is told of the answers over what was heard in a run is what is told of the run
+pub told_is : (origin : Origin) (s : Content) {turns last : ℕ} {events : List Happening} (run : IsRunOf s turns last events) → told_of origin (names_of s) (rows_of s (heard_in run.picked.world)) ≡ text_of origin s run
+told_is Read s run = refl
+told_is (Generated seed) s run = refl
+
+pub due_of_source : (origin : Origin) (left : Option (List ℕ)) (s : Content) (turns : ℕ) (r : Result Due RunEnd) → IsScriptFrom origin left s → IfOk r (IsDueOf origin s turns) → IfOk r (IsDueText origin left turns)
+due_of_source origin left s turns (Err e) source due = tt
+due_of_source origin left s turns (Ok (Refusal text)) source due = absurd due
+due_of_source origin left s turns (Ok (Run text lines)) source due = record {
   run = record { script = s; source = source; events = due.events; run = due.run; one_store = due.one_store };
-  reported = due.reported;
+  told = due.told;
   written = due.written;
 }
 
-pub limit_of_source : (left : Option (List ℕ)) (s : Content) (seed : ℕ) (r : Result Due RunEnd) → IsSourceOf left s → IfErr r (IsEndOf s seed) → IsErrOf r TickLimit → LimitOfSource left seed
-limit_of_source left s seed (Ok due) source end is = absurd (search (rules, is))
-limit_of_source left s seed (Err ReadFault) source end is = absurd end
-limit_of_source left s seed (Err TickLimit) source end is = record { script = s; source = source; node = end.0; comes = end.1 }
-limit_of_source left s seed (Err NoMemory) source end is = absurd (search (rules, is))
+pub limit_of_source : (origin : Origin) (left : Option (List ℕ)) (s : Content) (turns : ℕ) (r : Result Due RunEnd) → IsScriptFrom origin left s → IfErr r (IsEndOf s turns) → IsErrOf r TickLimit → LimitOfSource origin left turns
+limit_of_source origin left s turns (Ok due) source end is = absurd (search (rules, is))
+limit_of_source origin left s turns (Err ReadFault) source end is = absurd end
+limit_of_source origin left s turns (Err TickLimit) source end is = record { script = s; source = source; node = end.0; comes = end.1 }
+limit_of_source origin left s turns (Err NoMemory) source end is = absurd (search (rules, is))
 
-pub no_read_fault : (s : Content) (seed : ℕ) (r : Result Due RunEnd) → IfErr r (IsEndOf s seed) → IsErrOf r ReadFault → ⊥
-no_read_fault s seed (Ok due) end is = absurd (search (rules, is))
-no_read_fault s seed (Err ReadFault) end is = end
-no_read_fault s seed (Err TickLimit) end is = absurd (search (rules, is))
-no_read_fault s seed (Err NoMemory) end is = absurd (search (rules, is))
+pub no_read_fault : (s : Content) (turns : ℕ) (r : Result Due RunEnd) → IfErr r (IsEndOf s turns) → IsErrOf r ReadFault → ⊥
+no_read_fault s turns (Ok due) end is = absurd (search (rules, is))
+no_read_fault s turns (Err ReadFault) end is = end
+no_read_fault s turns (Err TickLimit) end is = absurd (search (rules, is))
+no_read_fault s turns (Err NoMemory) end is = absurd (search (rules, is))
 
-module _ (words : List (List ℕ)) (left : Option (List ℕ)) (seed : ℕ) (due : Due) (text : List ℕ) (lines : Filled) (asked : AskFor words seed) (is_due : IsDueText left seed due) (is : due ≡ Run text lines) where
-  texts : AreTextsOfSource left seed text lines.text
-  texts = subst (IsDueText left seed) is is_due
+module _ (words : List (List ℕ)) (left : Option (List ℕ)) (origin : Origin) (turns : ℕ) (due : Due) (text : List ℕ) (lines : Filled) (asked : AskFor words origin turns) (is_due : IsDueText origin left turns due) (is : due ≡ Run text lines) where
+  texts : AreTextsOfSource origin left turns text lines.text
+  texts = subst (IsDueText origin left turns) is is_due
 
   pub run_added : (out journal : Held) → Adds out.before out.after text → Adds journal.before journal.after lines.text → AddsRun words left out journal
-  run_added out journal reported written =
+  run_added out journal told written =
       record {
-        seed = seed;
+        origin = origin;
+        turns = turns;
         asked = asked;
         run = texts.run;
-        reported = reported ∙ ap (append_known out.before) texts.reported;
+        told = told ∙ ap (append_known out.before) texts.told;
         written = written ∙ ap (append_known journal.before) texts.written;
       }
 
   pub journal_cut : (out journal : Held) → Adds out.before out.after text → AppendsPrefix journal.before journal.after lines.text → AddsPartOfRun words left out journal
-  journal_cut out journal reported part =
+  journal_cut out journal told part =
       record {
-        seed = seed;
+        origin = origin;
+        turns = turns;
         asked = asked;
         run = texts.run;
-        reported = reported ∙ ap (append_known out.before) texts.reported;
+        told = told ∙ ap (append_known out.before) texts.told;
         part = subst (AppendsPrefix journal.before journal.after) texts.written part;
       }
 
-  pub report_cut : (out : Held) → AppendsPrefix out.before out.after text → AddsPart words left out
-  report_cut out part = record { seed = seed; asked = asked; text = text; due = inl (record { run = texts.run; written = texts.reported }); part = part }
+  pub text_cut : (out : Held) → AppendsPrefix out.before out.after text → AddsPart words left out
+  text_cut out part =
+      record { origin = origin; turns = turns; asked = asked; text = text; due = inl (record { run = texts.run; written = texts.told }); part = part }

@@ -1,6 +1,8 @@
 pub mod WrittenLines
 pub mod Sourced
 pub mod Due
+pub mod Asking
+pub mod Judged
 pub mod PlanRows
 pub mod FirstNodes
 pub mod RanNodes

@@ -8,6 +8,8 @@ use Rattle.script_reader.specs.Scripts.{Content}
 use Rattle.script_reader.specs.Grammar.{IsScript, IsBad}
 use Rattle.script_runner.specs.declared.domain.Due.{Due}
 use Rattle.script_runner.specs.declared.domain.Due.TheVariants.{Refusal}
+use Rattle.script_runner.specs.declared.words.Origin.{Origin}
+use Rattle.script_runner.specs.declared.words.Origin.TheVariants.{Read, Generated}
 use Rattle.script_runner.specs.Domain.{AreLeft, IsBadSource, IsRefusalOfSource}
 use Rattle.script_runner.specs.DueTexts.{IsDueText}
 
@@ -56,6 +58,7 @@ not_bad left bytes s text never left_is form refused =
     never refused.bad.bytes s refused.line refused.cause (subst (λ b. IsScript b s) same form) refused.bad.bad
 
 -- so a source that has a script left is not refused
-pub script_not_refused : (left : Option (List ℕ)) (bytes : List ℕ) (s : Content) (seed : ℕ) (due : Due) (text : List ℕ) → AreNeverBoth → left ≡ Some bytes → IsScript bytes s → IsDueText left seed due → due ≡ Refusal text → ⊥
-script_not_refused left bytes s seed due text never left_is form is_due is =
-    not_bad left bytes s text never left_is form (subst (IsDueText left seed) is is_due)
+pub script_not_refused : (left : Option (List ℕ)) (bytes : List ℕ) (s : Content) (origin : Origin) (turns : ℕ) (due : Due) (text : List ℕ) → AreNeverBoth → left ≡ Some bytes → IsScript bytes s → IsDueText origin left turns due → due ≡ Refusal text → ⊥
+script_not_refused left bytes s Read turns due text never left_is form is_due is =
+    not_bad left bytes s text never left_is form (subst (IsDueText Read left turns) is is_due)
+script_not_refused left bytes s (Generated seed) turns due text never left_is form is_due is = subst (IsDueText (Generated seed) left turns) is is_due

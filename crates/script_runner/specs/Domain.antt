@@ -7,9 +7,13 @@ use Rattle.script_reader.specs.declared.cause.Cause.{Cause}
 use Rattle.script_reader.specs.Causes.{cause_text}
 use Rattle.script_reader.specs.Scripts.{Content}
 use Rattle.script_reader.specs.Grammar.{IsScript, IsBad}
+use Rattle.script_reader.specs.Generated.{generated}
+use Rattle.script_runner.specs.declared.words.Origin.{Origin}
+use Rattle.script_runner.specs.declared.words.Origin.TheVariants.{Read, Generated}
 use Rattle.script_runner.specs.Words.{AskFor}
 use Rattle.script_runs.specs.Runs.{IsRunOf, ComesToTick, last_tick}
 use Rattle.script_runs.specs.Reports.{report_of}
+use Rattle.script_runs.specs.Summaries.{summary_of}
 use Rattle.script_runs.specs.Histories.{IsAsOneStore}
 use Rattle.script_runner.specs.Reports.{journal_of}
 
@@ -34,27 +38,37 @@ pub record IsSourceOf (left : Option (List ℕ)) (script : Content) : Type 0 whe
   pub are_left : AreLeft left bytes
   pub form : IsScript bytes script
 
--- a run of the script of a source, the one that the seed picks; it is as one store would have it: all nodes have ended, the history is one of
+-- the script that is run: the one whose bytes the source had left, or the one that is generated from a seed
+abbrev pub IsScriptFrom : Origin → Option (List ℕ) → Content → Type 0
+IsScriptFrom Read left script = IsSourceOf left script
+IsScriptFrom (Generated seed) left script = script ≡ generated seed
+
+-- a run of a script, the one that the number of its turns picks; it is as one store would have it: all nodes have ended, the history is one of
 -- one store, which holds each process's commands once and in order to their end, in phases that never overlap, with the replies that its
 -- program heard; and at each unlock of a held lock every page that the holder modified is at its home
-pub record RunOfSource (left : Option (List ℕ)) (seed : ℕ) : Type 0 where
+pub record RunOfSource (origin : Origin) (left : Option (List ℕ)) (turns : ℕ) : Type 0 where
   pub script : Content
-  pub source : IsSourceOf left script
+  pub source : IsScriptFrom origin left script
   pub events : List Happening
-  pub run : IsRunOf script seed last_tick events
+  pub run : IsRunOf script turns last_tick events
   pub one_store : IsAsOneStore script events run.picked.world
 
--- the turns of the seed give a node of the script of a source the last tick
-pub record LimitOfSource (left : Option (List ℕ)) (seed : ℕ) : Type 0 where
+-- the turns of this number give a node of the script the last tick
+pub record LimitOfSource (origin : Origin) (left : Option (List ℕ)) (turns : ℕ) : Type 0 where
   pub script : Content
-  pub source : IsSourceOf left script
+  pub source : IsScriptFrom origin left script
   pub node : ℕ
-  pub comes : ComesToTick script seed last_tick node
+  pub comes : ComesToTick script turns last_tick node
 
-abbrev pub report_in : {left : Option (List ℕ)} {seed : ℕ} → RunOfSource left seed → List ℕ
-report_in r = report_of r.script r.run
+-- what is told of a run: the report, or for a script that was generated the line that sums it up
+abbrev pub text_of : Origin → (s : Content) {turns last : ℕ} {events : List Happening} → IsRunOf s turns last events → List ℕ
+text_of Read s run = report_of s run
+text_of (Generated seed) s run = summary_of seed s run
 
-abbrev pub journal_in : {left : Option (List ℕ)} {seed : ℕ} → RunOfSource left seed → List ℕ
+abbrev pub text_in : (origin : Origin) {left : Option (List ℕ)} {turns : ℕ} → RunOfSource origin left turns → List ℕ
+text_in origin r = text_of origin r.script r.run
+
+abbrev pub journal_in : {origin : Origin} {left : Option (List ℕ)} {turns : ℕ} → RunOfSource origin left turns → List ℕ
 journal_in r = journal_of r.script r.events
 
 -- the bytes of a source are bad at this line, for this cause
@@ -70,14 +84,19 @@ pub record IsRefusalOfSource (left : Option (List ℕ)) (text : List ℕ) : Type
   pub bad : IsBadSource left line cause
   pub written : text ≡ refusal line cause
 
--- the text is the report of the run that the seed picks
-pub record IsReportOfSource (left : Option (List ℕ)) (seed : ℕ) (text : List ℕ) : Type 0 where
-  pub run : RunOfSource left seed
-  pub written : text ≡ report_in run
+-- the same where the script is read; no other is refused
+abbrev pub IsRefusalFrom : Origin → Option (List ℕ) → List ℕ → Type 0
+IsRefusalFrom Read left text = IsRefusalOfSource left text
+IsRefusalFrom (Generated seed) left text = ⊥
 
--- the text that is due for the bytes of a source: the report, or what is said of their first bad line
-abbrev pub IsDue : Option (List ℕ) → ℕ → List ℕ → Type 0
-IsDue left seed text = IsReportOfSource left seed text ⊎ IsRefusalOfSource left text
+-- the text is what is told of the run that the number of turns picks
+pub record IsTextOfSource (origin : Origin) (left : Option (List ℕ)) (turns : ℕ) (text : List ℕ) : Type 0 where
+  pub run : RunOfSource origin left turns
+  pub written : text ≡ text_in origin run
+
+-- the text that is due: what is told of the run, or what is said of the first bad line
+abbrev pub IsDue : Origin → Option (List ℕ) → ℕ → List ℕ → Type 0
+IsDue origin left turns text = IsTextOfSource origin left turns text ⊎ IsRefusalFrom origin left text
 
 -- a text was added at the end of what a sink holds, where it tells that
 abbrev pub Adds : Option (List ℕ) → Option (List ℕ) → List ℕ → Type 0
@@ -88,20 +107,22 @@ pub record Held : Type 0 where
   pub before : Option (List ℕ)
   pub after : Option (List ℕ)
 
--- the report and the journal of one run were added, each to its sink; the words ask for its turns
+-- the text and the journal of one run were added, each to its sink; the words ask for its script and its turns
 pub record AddsRun (words : List (List ℕ)) (left : Option (List ℕ)) (out journal : Held) : Type 0 where
-  pub seed : ℕ
-  pub asked : AskFor words seed
-  pub run : RunOfSource left seed
-  pub reported : Adds out.before out.after (report_in run)
+  pub origin : Origin
+  pub turns : ℕ
+  pub asked : AskFor words origin turns
+  pub run : RunOfSource origin left turns
+  pub told : Adds out.before out.after (text_in origin run)
   pub written : Adds journal.before journal.after (journal_in run)
 
--- the report was added, and a first part of the journal of the same run, which may be all of it
+-- the text was added, and a first part of the journal of the same run, which may be all of it
 pub record AddsPartOfRun (words : List (List ℕ)) (left : Option (List ℕ)) (out journal : Held) : Type 0 where
-  pub seed : ℕ
-  pub asked : AskFor words seed
-  pub run : RunOfSource left seed
-  pub reported : Adds out.before out.after (report_in run)
+  pub origin : Origin
+  pub turns : ℕ
+  pub asked : AskFor words origin turns
+  pub run : RunOfSource origin left turns
+  pub told : Adds out.before out.after (text_in origin run)
   pub part : AppendsPrefix journal.before journal.after (journal_in run)
 
 -- what is said of the first bad line was added
@@ -112,14 +133,16 @@ pub record AddsRefusal (left : Option (List ℕ)) (out : Held) : Type 0 where
 
 -- a first part of the text that was due was added, which may be all of it
 pub record AddsPart (words : List (List ℕ)) (left : Option (List ℕ)) (out : Held) : Type 0 where
-  pub seed : ℕ
-  pub asked : AskFor words seed
+  pub origin : Origin
+  pub turns : ℕ
+  pub asked : AskFor words origin turns
   pub text : List ℕ
-  pub due : IsDue left seed text
+  pub due : IsDue origin left turns text
   pub part : AppendsPrefix out.before out.after text
 
 -- the turns that the words ask for come to the last tick
 pub record ComesToTheLimit (words : List (List ℕ)) (left : Option (List ℕ)) : Type 0 where
-  pub seed : ℕ
-  pub asked : AskFor words seed
-  pub limit : LimitOfSource left seed
+  pub origin : Origin
+  pub turns : ℕ
+  pub asked : AskFor words origin turns
+  pub limit : LimitOfSource origin left turns

@@ -1,5 +1,7 @@
 -- The texts that are due, by their kind (for the private code alone).
 use Rattle.std.specs.Prelude.{ℕ, ◌≡◌, List, Option}
+use Rattle.script_runner.specs.declared.words.Origin.{Origin}
+use Rattle.script_runner.specs.declared.words.Origin.TheVariants.{Read, Generated}
 use Rattle.script_runner.specs.declared.domain.Due.{Due}
 use Rattle.script_runner.specs.declared.domain.Due.TheVariants.{Run, Refusal}
 use Rattle.script_runner.specs.declared.domain.RunEnd.{RunEnd}
@@ -7,37 +9,43 @@ use Rattle.script_runner.specs.declared.domain.RunEnd.TheVariants.{ReadFault, Ti
 use Rattle.script_reader.specs.Scripts.{Content}
 use Rattle.dom_history.specs.Events.{Happening}
 use Rattle.script_runs.specs.Runs.{IsRunOf, ComesToTick, last_tick}
-use Rattle.script_runs.specs.Reports.{report_of}
+use Rattle.script_runs.specs.Reports.{ProcAnswers, lines_of}
+use Rattle.script_runs.specs.Summaries.{summary, all_answers}
 use Rattle.script_runs.specs.Histories.{IsAsOneStore}
 use Rattle.script_runner.specs.Reports.{journal_of}
-use Rattle.script_runner.specs.Domain.{RunOfSource, report_in, journal_in, IsRefusalOfSource}
+use Rattle.script_runner.specs.Domain.{RunOfSource, text_of, text_in, journal_in, IsRefusalFrom}
 
--- the texts are the report and the journal of the run that the seed picks
-pub record AreTexts (s : Content) (seed : ℕ) (text lines : List ℕ) : Type 0 where
+-- what is told of these answers, at nodes of these names
+abbrev pub told_of : Origin → List (List ℕ) → List ProcAnswers → List ℕ
+told_of Read names rows = lines_of names rows
+told_of (Generated seed) names rows = summary seed (all_answers rows)
+
+-- the texts are what is told of the run that the number of turns picks, and its journal
+pub record AreTexts (origin : Origin) (s : Content) (turns : ℕ) (text lines : List ℕ) : Type 0 where
   pub events : List Happening
-  pub run : IsRunOf s seed last_tick events
+  pub run : IsRunOf s turns last_tick events
   pub one_store : IsAsOneStore s events run.picked.world
-  pub reported : text ≡ report_of s run
+  pub told : text ≡ text_of origin s run
   pub written : lines ≡ journal_of s events
 
--- the same of a source
-pub record AreTextsOfSource (left : Option (List ℕ)) (seed : ℕ) (text lines : List ℕ) : Type 0 where
-  pub run : RunOfSource left seed
-  pub reported : text ≡ report_in run
+-- the same of the script of an origin
+pub record AreTextsOfSource (origin : Origin) (left : Option (List ℕ)) (turns : ℕ) (text lines : List ℕ) : Type 0 where
+  pub run : RunOfSource origin left turns
+  pub told : text ≡ text_in origin run
   pub written : lines ≡ journal_in run
 
 -- what is due for a script
-abbrev pub IsDueOf : Content → ℕ → Due → Type 0
-IsDueOf s seed (Run text lines) = AreTexts s seed text lines.text
-IsDueOf s seed (Refusal text) = ⊥
+abbrev pub IsDueOf : Origin → Content → ℕ → Due → Type 0
+IsDueOf origin s turns (Run text lines) = AreTexts origin s turns text lines.text
+IsDueOf origin s turns (Refusal text) = ⊥
 
 -- why nothing is due for it
 abbrev pub IsEndOf : Content → ℕ → RunEnd → Type 0
-IsEndOf s seed ReadFault = ⊥
-IsEndOf s seed TickLimit = (node : ℕ) × ComesToTick s seed last_tick node
-IsEndOf s seed NoMemory = Unit {0}
+IsEndOf s turns ReadFault = ⊥
+IsEndOf s turns TickLimit = (node : ℕ) × ComesToTick s turns last_tick node
+IsEndOf s turns NoMemory = Unit {0}
 
--- what is due for the bytes of a source: the report and the journal, or what is said of their first bad line
-abbrev pub IsDueText : Option (List ℕ) → ℕ → Due → Type 0
-IsDueText left seed (Run text lines) = AreTextsOfSource left seed text lines.text
-IsDueText left seed (Refusal text) = IsRefusalOfSource left text
+-- what is due for the script of an origin: what is told of its run, and the journal; or what is said of the first bad line
+abbrev pub IsDueText : Origin → Option (List ℕ) → ℕ → Due → Type 0
+IsDueText origin left turns (Run text lines) = AreTextsOfSource origin left turns text lines.text
+IsDueText origin left turns (Refusal text) = IsRefusalFrom origin left text

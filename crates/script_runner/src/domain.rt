@@ -1,23 +1,26 @@
-//! The program: from its words and a script's bytes to the report and the journal.
-ghost use Rattle.std.specs.Prelude.{◌≡◌, ◌≢◌, ◌+◌, ◌⊎◌, ℕ, List, map, string_bytes, IsTrue, IfOk, IfErr, IsErrOf, Some};
+//! The program: from its words and a script to what is told of its run, and the journal.
+ghost use Rattle.std.specs.Prelude.{◌≡◌, ◌≢◌, ◌+◌, ◌⊎◌, ℕ, List, Option, map, string_bytes, IsTrue, IfOk, IfErr, IsErrOf, Some};
 ghost use Rattle.dom_io.specs.Counts.{CountRose};
 ghost use Rattle.dom_io.specs.Known.{TakesAtMost, AppendsPrefix};
 ghost use Rattle.script_reader.specs.declared.cause.Cause.{Cause};
 ghost use Rattle.script_reader.specs.Scripts.{Content};
 ghost use Rattle.script_reader.specs.Grammar.{IsScript};
-ghost use Rattle.script_runner.specs.Words.{IsTaken, seed_of};
+ghost use Rattle.script_runner.specs.declared.words.Origin.TheVariants.{Read, Generated};
+ghost use Rattle.script_runner.specs.Words.{IsTaken, AskToRead, AskToGenerate, seed_of};
+ghost use Rattle.script_runner.specs.Reports.{answers_in};
 ghost use Rattle.script_runner.specs.Domain.{is_status, usage as usage_text, refusal as refusal_text, Adds, AddsRun, AddsPartOfRun, AddsRefusal, AddsPart, ComesToTheLimit, LimitOfSource};
-ghost use Rattle.script_runner.specs.DueTexts.{IsDueText, IsDueOf, IsEndOf};
+ghost use Rattle.script_runner.specs.DueTexts.{told_of, IsDueText, IsDueOf, IsEndOf};
 
 use crate::names::names_of;
 use crate::report::report;
-use crate::run::run_script;
-use crate::words::words_asked;
+use crate::run::{AnswerRow, run_script};
+use crate::summary::summary;
+use crate::words::{Asked, Origin, words_asked};
 use dom_io::{ReadEnd, Sink, Source, read_all, write_all};
 use dom_text::put_decimal;
 use journal_text::{LineBuffer, write_journal};
 use script_reader::laws::scripts_have_one_reading;
-use script_reader::{Cause, Script, ScriptFault, read_script};
+use script_reader::{Cause, NodeRow, Script, ScriptFault, generate, read_script};
 use std::alloc::Global;
 use thiserror::Error;
 use uid_names::{ByteList, NoMemory, SCRIPT_BYTES};
@@ -28,10 +31,10 @@ const USAGE: &[u8; 60] = b"usage: domain run [--turns N] | domain gen SEED [--tu
 /// No event gives a node this tick.
 const LAST_TICK: u64 = 1 << 40;
 
-/// What is due for the bytes of a source.
+/// What is due for a script.
 #[derive(Drop)]
 pub(crate) enum Due {
-    /// The report and the journal of a script's run.
+    /// What is told of the script's run, and its journal.
     Run(ByteList, LineBuffer),
     /// What is said of the first bad line.
     Refusal(ByteList),
@@ -71,9 +74,29 @@ fn refusal(alloc: Global, line: u32, cause: Cause) -> Result<ByteList, NoMemory>
     Ok(text)
 }
 
-/// The report and the journal of a script's run, which are made whole.
-fn run_due(alloc: Global, script: &Script, turns: Option<u64>) -> Result<Due, RunEnd>
-    ensures due { IfOk result (IsDueOf script.now (seed_of turns)) }
+/// What is told of these answers: the report, or the line that sums up those of a script that was generated.
+fn told(
+    alloc: Global,
+    origin: Origin,
+    nodes: &[NodeRow],
+    rows: &[AnswerRow],
+) -> Result<ByteList, NoMemory>
+    ensures { IfOk result (λ text. text ≡ told_of origin (map (λ n. n.name) nodes.now) (map answers_in rows.now)) }
+{
+    match origin {
+        Origin::Read => report(alloc, nodes, rows),
+        Origin::Generated(seed) => summary(alloc, seed, rows),
+    }
+}
+
+/// What is told of a script's run, and its journal, which are made whole.
+fn run_due(
+    alloc: Global,
+    origin: Origin,
+    script: &Script,
+    turns: Option<u64>,
+) -> Result<Due, RunEnd>
+    ensures due { IfOk result (IsDueOf origin script.now (seed_of turns)) }
     ensures end { IfErr result (IsEndOf script.now (seed_of turns)) }
 {
     let ran = match run_script(alloc, script, turns, LAST_TICK) {
@@ -81,7 +104,7 @@ fn run_due(alloc: Global, script: &Script, turns: Option<u64>) -> Result<Due, Ru
         Err(RunFault::TickLimit(_)) => return Err(RunEnd::TickLimit),
         Err(RunFault::NoMemory) => return Err(RunEnd::NoMemory),
     };
-    let text = report(alloc, script.nodes(), ran.answers.items())?;
+    let text = told(alloc, origin, script.nodes(), ran.answers.items())?;
     let names = names_of(alloc, script.nodes())?;
     let lines = write_journal(alloc, &ran.events, &names)?;
     Ok(Due::Run(text, lines))
@@ -89,9 +112,9 @@ fn run_due(alloc: Global, script: &Script, turns: Option<u64>) -> Result<Due, Ru
 
 /// What is due for the bytes that a source has left.
 fn read_due<S: Source>(alloc: Global, script: &mut S, turns: Option<u64>) -> Result<Due, RunEnd>
-    ensures due { IfOk result (IsDueText (S.left script.old) (seed_of turns)) }
+    ensures due { IfOk result (IsDueText Read (S.left script.old) (seed_of turns)) }
     ensures read_fault { IsErrOf result RunEnd.ReadFault → CountRose (S.faults script.old) (S.faults script.new) }
-    ensures limit { IsErrOf result RunEnd.TickLimit → LimitOfSource (S.left script.old) (seed_of turns) }
+    ensures limit { IsErrOf result RunEnd.TickLimit → LimitOfSource Read (S.left script.old) (seed_of turns) }
     ensures taken { TakesAtMost (SCRIPT_BYTES + 1) (S.left script.old) (S.left script.new) }
 {
     let bytes = match read_all(alloc, script, SCRIPT_BYTES) {
@@ -101,9 +124,34 @@ fn read_due<S: Source>(alloc: Global, script: &mut S, turns: Option<u64>) -> Res
         Err(ReadEnd::NoMemory) => return Err(RunEnd::NoMemory),
     };
     match read_script(alloc, bytes.bytes()) {
-        Ok(read) => run_due(alloc, &read, turns),
+        Ok(read) => run_due(alloc, Origin::Read, &read, turns),
         Err(ScriptFault::Bad { line, cause }) => Ok(Due::Refusal(refusal(alloc, line, cause)?)),
         Err(ScriptFault::NoMemory) => Err(RunEnd::NoMemory),
+    }
+}
+
+/// What is due for the script that is generated from a seed.
+fn generated_due(alloc: Global, seed: u64, turns: Option<u64>) -> Result<Due, RunEnd>
+    ensures due { (left : Option (List ℕ)) → IfOk result (IsDueText (Generated seed) left (seed_of turns)) }
+    ensures no_read_fault { IsErrOf result RunEnd.ReadFault → ⊥ }
+    ensures limit { (left : Option (List ℕ)) → IsErrOf result RunEnd.TickLimit → LimitOfSource (Generated seed) left (seed_of turns) }
+{
+    let script = generate(alloc, seed)?;
+    run_due(alloc, Origin::Generated(seed), &script, turns)
+}
+
+/// What is due for the script that is asked for; a source is read only for one that is not generated.
+fn asked_due<S: Source>(alloc: Global, asked: Asked, script: &mut S) -> Result<Due, RunEnd>
+    ensures due { IfOk result (IsDueText asked.origin (S.left script.old) (seed_of asked.turns)) }
+    ensures read_fault { IsErrOf result RunEnd.ReadFault → CountRose (S.faults script.old) (S.faults script.new) }
+    ensures read { IsErrOf result RunEnd.ReadFault → asked.origin ≡ Read }
+    ensures limit { IsErrOf result RunEnd.TickLimit → LimitOfSource asked.origin (S.left script.old) (seed_of asked.turns) }
+    ensures taken { TakesAtMost (SCRIPT_BYTES + 1) (S.left script.old) (S.left script.new) }
+    ensures unread { (seed : ℕ) → asked.origin ≡ Generated seed → script.new ≡ script.old }
+{
+    match asked.origin {
+        Origin::Read => read_due(alloc, script, asked.turns),
+        Origin::Generated(seed) => generated_due(alloc, seed, asked.turns),
     }
 }
 
@@ -118,13 +166,13 @@ fn write_text<O: Sink>(out: &mut O, text: &[u8], status: u8) -> u8
     }
 }
 
-/// Writes the report, and then the journal: 0, or 5 where a write of the report failed, 6 where one of the journal did.
+/// Writes what is told of a run, and then the journal: 0, or 5 where a write of the text failed, 6 where one of the journal did.
 /// Takes no memory.
 fn write_run<O: Sink, J: Sink>(out: &mut O, journal: &mut J, text: &[u8], lines: &[u8]) -> u8
     ensures status { (result ≡ 0) ⊎ ((result ≡ 5) ⊎ (result ≡ 6)) }
-    ensures reported { result ≢ 5 → Adds (O.held out.old) (O.held out.new) text.now }
+    ensures told { result ≢ 5 → Adds (O.held out.old) (O.held out.new) text.now }
     ensures fault { result ≡ 5 → CountRose (O.faults out.old) (O.faults out.new) }
-    ensures report_cut { result ≡ 5 → AppendsPrefix (O.held out.old) (O.held out.new) text.now }
+    ensures text_cut { result ≡ 5 → AppendsPrefix (O.held out.old) (O.held out.new) text.now }
     ensures no_journal { result ≡ 5 → journal.new ≡ journal.old }
     ensures written { result ≡ 0 → Adds (J.held journal.old) (J.held journal.new) lines.now }
     ensures journal_fault { result ≡ 6 → CountRose (J.faults journal.old) (J.faults journal.new) }
@@ -140,18 +188,19 @@ fn write_run<O: Sink, J: Sink>(out: &mut O, journal: &mut J, text: &[u8], lines:
 }
 
 /// Runs the program: `words` are those of the command line, `script` is standard input, `out` standard output and
-/// `journal` standard error. The answer is the exit status:
+/// `journal` standard error. What is told of a run is the report of the script that was read, or the line that sums up the
+/// run of the one that was generated. The answer is the exit status:
 ///
-/// - 0: the report and the journal of a run of the script were written;
+/// - 0: what is told of a run of the script was written, and the journal;
 /// - 2: the words are not taken, and the usage was written;
 /// - 3: the source has no script, and its first bad line was named with the cause;
 /// - 4: a read failed;
 /// - 5: a write to `out` failed;
-/// - 6: the report was written, and a write to `journal` failed;
+/// - 6: what is told of a run was written, and a write to `journal` failed;
 /// - 7: there was no memory;
 /// - 8: a node came to the last tick.
 ///
-/// Nothing takes memory once the report begins to be written.
+/// Nothing takes memory once that begins to be written.
 pub fn run_domain<S: Source, O: Sink, J: Sink>(
     alloc: Global,
     words: &[String],
@@ -164,20 +213,21 @@ pub fn run_domain<S: Source, O: Sink, J: Sink>(
     // The headline: what is written is the report and the journal of one run of the script's nodes, which is planned by its
     // faults and which the turns of the words pick. All nodes have ended in it. Its history is one of one store without nodes or
     // caches, and holds each process's commands once and in order, to their end, in phases that never overlap; the report is
-    // exactly its answers. And at each unlock of a held lock every page that the holder modified is at its home.
+    // exactly its answers. And at each unlock of a held lock every page that the holder modified is at its home. Where the words
+    // ask for the script of a seed it is the generated one, and in place of the report stands the line that sums up its answers.
     ensures run { result ≡ 0 → AddsRun (map string_bytes words.now) (S.left script.old)
         (record { before = O.held out.old; after = O.held out.new }) (record { before = J.held journal.old; after = J.held journal.new }) }
 
     // Words, and then bytes, that are refused; both yield to a write fault.
     ensures words_refused { (IsTaken (map string_bytes words.now) → ⊥) → (result ≡ 2) ⊎ (result ≡ 5) }
     ensures usage { result ≡ 2 → (IsTaken (map string_bytes words.now) → ⊥) × Adds (O.held out.old) (O.held out.new) usage_text }
-    ensures bytes_refused { result ≡ 3 → IsTaken (map string_bytes words.now) × AddsRefusal (S.left script.old) (record { before = O.held out.old; after = O.held out.new }) }
+    ensures bytes_refused { result ≡ 3 → AskToRead (map string_bytes words.now) × AddsRefusal (S.left script.old) (record { before = O.held out.old; after = O.held out.new }) }
 
     // A node comes to the last tick only where the turns of the words give it that tick.
     ensures limit { result ≡ 8 → ComesToTheLimit (map string_bytes words.now) (S.left script.old) }
 
     // Faults of the outside, only where their count rose.
-    ensures read_fault { result ≡ 4 → CountRose (S.faults script.old) (S.faults script.new) }
+    ensures read_fault { result ≡ 4 → AskToRead (map string_bytes words.now) × CountRose (S.faults script.old) (S.faults script.new) }
     ensures write_fault { result ≡ 5 → CountRose (O.faults out.old) (O.faults out.new) }
     ensures journal_fault { result ≡ 6 → CountRose (J.faults journal.old) (J.faults journal.new) }
     ensures usage_cut { result ≡ 5 → (IsTaken (map string_bytes words.now) → ⊥) → AppendsPrefix (O.held out.old) (O.held out.new) usage_text }
@@ -190,6 +240,7 @@ pub fn run_domain<S: Source, O: Sink, J: Sink>(
     ensures nothing_written { (result ≡ 4) ⊎ ((result ≡ 7) ⊎ (result ≡ 8)) → out.new ≡ out.old }
     ensures no_journal { result ≢ 0 → result ≢ 6 → journal.new ≡ journal.old }
     ensures nothing_read { (IsTaken (map string_bytes words.now) → ⊥) → script.new ≡ script.old }
+    ensures generated_unread { AskToGenerate (map string_bytes words.now) → script.new ≡ script.old }
     ensures source { TakesAtMost (SCRIPT_BYTES + 1) (S.left script.old) (S.left script.new) }
 
     // Where nothing outside fails, a script is run to its end or to the last tick, or there was no memory.
@@ -197,13 +248,16 @@ pub fn run_domain<S: Source, O: Sink, J: Sink>(
         → (CountRose (S.faults script.old) (S.faults script.new) → ⊥) → (CountRose (O.faults out.old) (O.faults out.new) → ⊥)
         → (CountRose (J.faults journal.old) (J.faults journal.new) → ⊥)
         → (result ≡ 0) ⊎ ((result ≡ 7) ⊎ (result ≡ 8)) }
+    ensures complete_generated { AskToGenerate (map string_bytes words.now)
+        → (CountRose (O.faults out.old) (O.faults out.new) → ⊥) → (CountRose (J.faults journal.old) (J.faults journal.new) → ⊥)
+        → (result ≡ 0) ⊎ ((result ≡ 7) ⊎ (result ≡ 8)) }
 {
     let Some(asked) = words_asked(words) else {
         return write_text(out, USAGE, 2);
     };
     // So bytes that are a script have no bad line.
     scripts_have_one_reading();
-    match read_due(alloc, script, asked.turns) {
+    match asked_due(alloc, asked, script) {
         Ok(Due::Run(text, lines)) => write_run(out, journal, text.bytes(), lines.bytes()),
         Ok(Due::Refusal(text)) => write_text(out, text.bytes(), 3),
         Err(RunEnd::ReadFault) => 4,

@@ -1,4 +1,4 @@
-//! Runs a script on nodes: from its bytes to the report's and the journal's.
+//! Runs a script on nodes: from its bytes, or its seed, to what is told of the run and to the journal.
 #![tactic(auto)]
 
 mod domain;
@@ -8,6 +8,7 @@ mod plans;
 mod processes;
 mod report;
 pub mod run;
+mod summary;
 #[cfg(test)]
 mod tests;
 mod words;

@@ -1,6 +1,9 @@
 //! What no clause says: that runs find memory, and reports that were worked out by hand.
 mod examples;
+mod files;
+mod generated;
 mod sinks;
+mod words;
 mod worlds;
 
 use super::run_domain;
@@ -14,8 +17,6 @@ const FIRST_RUN: &[u8] =
 
 const FIRST_REPORT: &[u8] =
     b"a.1 1 ok 0000000000200001\na.1 2 ok\na.1 3 ok\na.1 4 ok \"hi\"\na.1 5 ok\n";
-
-const USAGE: &[u8] = b"usage: domain run [--turns N] | domain gen SEED [--turns N]\n";
 
 /// What a run of the program answered and left.
 #[derive(Drop)]
@@ -267,47 +268,6 @@ fn a_script_of_too_many_bytes_is_bad_as_a_whole(rt: HostRuntime) -> Result<(), F
     let script = vec![in rt.alloc(); b'\n'; 1_048_577]?;
     let text = refusal(rt.alloc(), script.as_slice())?;
     assert_eq!(rt; text.bytes(), b"line 0: too long\n".as_slice());
-    Ok(())
-}
-
-/// The first run, with these words.
-fn first_run(alloc: Global, words: &[&str]) -> Result<Outcome, Fail> {
-    let source = MemSource::new(alloc, FIRST_RUN, &[])?;
-    let out = MemSink::new(alloc, 100, &[])?;
-    run(alloc, words, source, out)
-}
-
-/// Whether these words run a script.
-fn is_run(alloc: Global, words: &[&str]) -> Result<bool, Fail> {
-    let outcome = first_run(alloc, words)?;
-    Ok(outcome.status == 0 && outcome.out.bytes() == FIRST_REPORT)
-}
-
-/// Whether these words get the usage, and no byte of the script is read.
-fn is_refused(alloc: Global, words: &[&str]) -> Result<bool, Fail> {
-    let outcome = first_run(alloc, words)?;
-    Ok(outcome.status == 2 && outcome.out.bytes() == USAGE && outcome.source.rest() == FIRST_RUN)
-}
-
-#[test]
-fn turns_are_any_number_below_two_to_the_64(rt: HostRuntime) -> Result<(), Fail> {
-    assert!(rt; is_run(rt.alloc(), &["run", "--turns", "0"])?);
-    assert!(rt; is_run(rt.alloc(), &["run", "--turns", "18446744073709551615"])?);
-    assert!(rt; is_refused(rt.alloc(), &["run", "--turns", "18446744073709551616"])?);
-    assert!(rt; is_refused(rt.alloc(), &["run", "--turns", "007"])?);
-    assert!(rt; is_refused(rt.alloc(), &["run", "--turns", ""])?);
-    Ok(())
-}
-
-#[test]
-fn words_are_taken_as_they_stand(rt: HostRuntime) -> Result<(), Fail> {
-    assert!(rt; is_refused(rt.alloc(), &[])?);
-    assert!(rt; is_refused(rt.alloc(), &["gen"])?);
-    assert!(rt; is_refused(rt.alloc(), &["Run"])?);
-    assert!(rt; is_refused(rt.alloc(), &["run", "extra"])?);
-    assert!(rt; is_refused(rt.alloc(), &["run", "--turns"])?);
-    assert!(rt; is_refused(rt.alloc(), &["run", "--turns=7"])?);
-    assert!(rt; is_refused(rt.alloc(), &["run", "--turns", "7", "7"])?);
     Ok(())
 }
 

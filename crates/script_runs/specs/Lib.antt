@@ -2,4 +2,5 @@ pub mod Processes
 pub mod Setups
 pub mod Runs
 pub mod Reports
+pub mod Summaries
 pub mod Histories

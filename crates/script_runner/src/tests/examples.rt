@@ -6,7 +6,7 @@ use std::test::Fail;
 use uid_names::ByteList;
 
 /// What the word `run` writes for a script, where it ends with this status.
-fn written(alloc: Global, script: &[u8], status: u8) -> Result<ByteList, Fail> {
+pub(super) fn written(alloc: Global, script: &[u8], status: u8) -> Result<ByteList, Fail> {
     let mut words = Vec::new(alloc);
     words.push(String::from_str(alloc, "run")?)?;
     let mut source = MemSource::new(alloc, script, &[])?;
@@ -20,7 +20,7 @@ fn written(alloc: Global, script: &[u8], status: u8) -> Result<ByteList, Fail> {
 }
 
 /// The first of these scripts for which not this text is written with this status.
-fn first_other(
+pub(super) fn first_other(
     alloc: Global,
     examples: &[(&[u8], &[u8])],
     status: u8,
@@ -35,7 +35,7 @@ fn first_other(
 
 #[test]
 fn examples_have_their_reports(rt: HostRuntime) -> Result<(), Fail> {
-    let examples: [(&[u8], &[u8]); 12] = [
+    let examples: [(&[u8], &[u8]); 13] = [
         (
             b"# Two lines without tokens stand first.
 
@@ -258,6 +258,39 @@ a.1 14 ok a:node b:node
 a.1 15 ok //a
 a.1 16 ok
 a.1 17 no name
+",
+        ),
+        (
+            b"node alpha
+node beta
+node gamma frames 16
+alpha.1 crd //beta/proj
+alpha.1 crf //beta/proj/plan.txt 4
+alpha.1 apf //beta/proj/plan.txt \"buy ring\\n\"
+phase
+beta.1 wd proj
+beta.1 apf plan.txt \"call ring room\\n\"
+beta.1 lnf plan.txt
+phase
+gamma.1 cpf //beta/proj/plan.txt copy.txt
+gamma.1 catf copy.txt
+gamma.1 dlf //beta/proj/plan.txt
+gamma.1 ld //beta/proj
+gamma.1 llkob beta
+gamma.1 wd
+",
+            b"alpha.1 1 ok
+alpha.1 2 ok
+alpha.1 3 ok
+beta.1 1 ok //beta/proj
+beta.1 2 ok
+beta.1 3 ok 2
+gamma.1 1 ok
+gamma.1 2 ok \"buy ring\\ncall ring room\\n\"
+gamma.1 3 ok
+gamma.1 4 ok
+gamma.1 5 ok
+gamma.1 6 ok //gamma
 ",
         ),
         (

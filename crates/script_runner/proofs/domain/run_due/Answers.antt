@@ -2,9 +2,11 @@ use Rattle.std.proofs.Common.{◌≡◌, ◌∙◌, sym, ap, subst, map}
 use Rattle.std.specs.Prelude.{All}
 use Rattle.dom_history.specs.NodeTexts.{AreNodeNames}
 use Rattle.journal_text.specs.Lines.{Names, journal}
-use Rattle.script_runs.specs.Reports.{lines_of, names_of}
+use Rattle.script_runs.specs.Reports.{names_of}
 use Rattle.aegis_shell.proofs.Parts.{node_names}
 use Rattle.script_runner.specs.Reports.{answers_in}
+use Rattle.script_runner.specs.DueTexts.{told_of}
+use Rattle.script_runner.proofs.Due.{told_is}
 use Rattle.script_runner.proofs.domain.run_due.Goals as goal
 
 pub names_of-requires : goal.names_of-requires
@@ -25,6 +27,9 @@ returns-clause-due c =
       events = ran.events;
       run = ran.run;
       one_store = ran.one_store;
-      reported = c.in_ok-text.ensures ∙ (ap (λ nodes. lines_of (map (λ n. n.name) nodes) (map answers_in c.items.result.now)) c.nodes.ensures.value ∙ ap (lines_of (names_of c.args.script.now)) rows);
+      told =
+          c.in_ok-text.ensures
+          ∙ (ap (λ nodes. told_of c.args.origin (map (λ n. n.name) nodes) (map answers_in c.items.result.now)) c.nodes.ensures.value
+          ∙ (ap (told_of c.args.origin (names_of c.args.script.now)) rows ∙ told_is c.args.origin c.args.script.now ran.run));
       written = c.in_ok-lines.ensures ∙ (ap (λ names. journal names c.in-Ok.ran.events) names ∙ ap (journal (names_of c.args.script.now)) ran.by_place);
     }
