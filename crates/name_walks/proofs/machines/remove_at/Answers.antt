@@ -1,0 +1,10 @@
+use Rattle.std.specs.Option.{option_copied}
+use Rattle.name_walks.proofs.Beginning.{drop_at_begun, goes_on}
+use Rattle.naming_tree.specs.Removing.{removing_asks, removing_after}
+use Rattle.name_walks.proofs.machines.remove_at.Goals as goal
+
+pub steps-init : goal.steps-init
+steps-init c = drop_at_begun _ _ _ c.new-machine.ensures
+
+pub steps-preserved : goal.steps-preserved
+steps-preserved c = goes_on removing_asks removing_after c.steps.machine _ (option_copied c.as_ref.result) _ _ _ c.in_ok-result.ensures.after c.in_ok-result.ensures.step c.in-Do.is c.in_ok-reply-in-Do.ensures

@@ -1,0 +1,110 @@
+//! Machines, from their first operation to their result.
+ghost use Rattle.std.specs.Prelude.{IsSome};
+ghost use Rattle.uid_names.specs.Rooms.{IsRoom};
+ghost use Rattle.naming_tree.specs.Paths.{route_of};
+ghost use Rattle.naming_tree.specs.Additions.{IsAddition, IsText};
+
+use crate::world::{MOST_OPERATIONS, World};
+use dom_history::Reply;
+use naming_tree::{
+    AddAt, AddName, Addition, Component, DropAt, DropName, ListDir, NameResult, NameStep, Walk,
+};
+use std::test::Fail;
+use uid_names::{ByteList, ObjKind, Uid};
+
+/// What is at a path; a link at its end is followed or not.
+pub fn walk(world: &mut World, path: &[u8], last: bool) -> Result<NameResult, Fail>
+    requires { IsSome (route_of path.now) }
+{
+    let mut machine = Walk::new(world.alloc, world.site()?, path, world.entry(), last)?;
+    let mut told: Option<Reply> = None;
+    'steps: for _ in 0..MOST_OPERATIONS {
+        match machine.next(world.alloc, told.as_ref())? {
+            NameStep::Over(result) => return Ok(result),
+            NameStep::Do(op) => told = Some(world.reply(&op)?),
+        }
+    }
+    Err("no end".into())
+}
+
+/// The list of a directory by its path.
+pub fn list(world: &mut World, path: &[u8]) -> Result<NameResult, Fail>
+    requires { IsSome (route_of path.now) }
+{
+    let mut machine = ListDir::new(world.alloc, world.site()?, path, world.entry())?;
+    let mut told: Option<Reply> = None;
+    'steps: for _ in 0..MOST_OPERATIONS {
+        match machine.next(world.alloc, told.as_ref())? {
+            NameStep::Over(result) => return Ok(result),
+            NameStep::Do(op) => told = Some(world.reply(&op)?),
+        }
+    }
+    Err("no end".into())
+}
+
+/// The addition of an object's name.
+pub fn add(
+    world: &mut World,
+    path: &[u8],
+    kind: ObjKind,
+    room: u32,
+    text: Option<ByteList>,
+) -> Result<NameResult, Fail>
+    requires path { IsSome (route_of path.now) }
+    requires room { IsRoom room }
+    requires text { IsText kind text }
+{
+    let (site, working) = (world.site()?, world.entry());
+    let mut machine = AddName::new(world.alloc, site, path, working, kind, room, text)?;
+    let mut told: Option<Reply> = None;
+    'steps: for _ in 0..MOST_OPERATIONS {
+        match machine.next(world.alloc, told.as_ref())? {
+            NameStep::Over(result) => return Ok(result),
+            NameStep::Do(op) => told = Some(world.reply(&op)?),
+        }
+    }
+    Err("no end".into())
+}
+
+/// The removal of a name.
+pub fn remove(world: &mut World, path: &[u8]) -> Result<NameResult, Fail>
+    requires { IsSome (route_of path.now) }
+{
+    let mut machine = DropName::new(world.alloc, world.site()?, path, world.entry())?;
+    let mut told: Option<Reply> = None;
+    'steps: for _ in 0..MOST_OPERATIONS {
+        match machine.next(world.alloc, told.as_ref())? {
+            NameStep::Over(result) => return Ok(result),
+            NameStep::Do(op) => told = Some(world.reply(&op)?),
+        }
+    }
+    Err("no end".into())
+}
+
+/// The addition of a name to a directory by its object.
+pub fn add_at(world: &mut World, dir: Uid, what: Addition) -> Result<NameResult, Fail>
+    requires { IsAddition what }
+{
+    let mut machine = AddAt::new(world.alloc, dir, what);
+    let mut told: Option<Reply> = None;
+    'steps: for _ in 0..MOST_OPERATIONS {
+        match machine.next(world.alloc, told.as_ref())? {
+            NameStep::Over(result) => return Ok(result),
+            NameStep::Do(op) => told = Some(world.reply(&op)?),
+        }
+    }
+    Err("no end".into())
+}
+
+/// The removal of a name from a directory by its object.
+pub fn remove_at(world: &mut World, dir: Uid, name: Component) -> Result<NameResult, Fail> {
+    let mut machine = DropAt::new(world.alloc, dir, name);
+    let mut told: Option<Reply> = None;
+    'steps: for _ in 0..MOST_OPERATIONS {
+        match machine.next(world.alloc, told.as_ref())? {
+            NameStep::Over(result) => return Ok(result),
+            NameStep::Do(op) => told = Some(world.reply(&op)?),
+        }
+    }
+    Err("no end".into())
+}
