@@ -1,3 +1,4 @@
+pub mod Digits
 pub mod KindNames
 pub mod Drops
 pub mod TwoNames

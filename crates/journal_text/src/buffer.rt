@@ -1,11 +1,11 @@
 //! A buffer for lines, whose room is taken when it is made.
-ghost use Rattle.std.specs.Prelude.{◌≡◌, ◌+◌, ◌≤◌, [], ◌++◌, length, decimal, IfOk};
+ghost use Rattle.std.specs.Prelude.{◌≡◌, ◌+◌, ◌≤◌, [], ◌++◌, length, take, decimal, IfOk};
 ghost use Rattle.journal_text.specs.Buffers.{filled};
 ghost use Rattle.journal_text.specs.Lines.{journal};
 
-use crate::sizes::journal_len;
+use crate::sizes::{decimal_len, journal_len};
 use dom_history::{EventList, NodeNames};
-use itoa::Buffer;
+use itoa::write_digits;
 use std::alloc::Global;
 use std::marker::Model;
 use uid_names::NoMemory;
@@ -14,18 +14,29 @@ use uid_names::NoMemory;
 #[derive(Drop, Debug)]
 pub struct LineBuffer {
     bytes: Vec<u8>,
-    room: usize,
+    len: usize,
 }
 
 impl Model for LineBuffer {
-    ghost use Rattle.std.specs.Prelude.{vec_capacity, ◌≤◌};
+    ghost use Rattle.std.specs.Prelude.{vec_len, take, ◌≤◌};
     ghost use Rattle.journal_text.specs.Buffers.{Filled, filled};
 
     ghost Value = { Filled };
 
-    ghost view = { λ b. filled b.bytes.items b.room };
+    ghost view = { λ b. filled (take b.len b.bytes.items) (vec_len b.bytes) };
 
-    ghost invariant = { λ b. b.room ≤ vec_capacity b.bytes };
+    ghost invariant = { λ b. b.len ≤ vec_len b.bytes };
+}
+
+/// Puts a number's decimal digits behind so many bytes, and tells where they end.
+fn put_digits(bytes: &mut [u8], len: usize, n: u64) -> usize
+    requires { len + length (decimal n) ≤ length bytes.old }
+    ensures end { result ≡ len + length (decimal n) }
+    ensures digits { take result bytes.new ≡ take len bytes.old ++ decimal n }
+{
+    let end = len + decimal_len(n);
+    write_digits(n, bytes, end);
+    end
 }
 
 impl LineBuffer {
@@ -47,33 +58,39 @@ impl LineBuffer {
     pub(crate) fn with_room(alloc: Global, room: usize) -> Result<LineBuffer, NoMemory>
         ensures { IfOk result (λ b. b ≡ filled [] room) }
     {
-        let bytes = Vec::with_capacity(alloc, room)?;
-        Ok(LineBuffer { bytes, room })
+        let bytes = Vec::from_elem(alloc, 0, room)?;
+        Ok(LineBuffer { bytes, len: 0 })
     }
 
     /// Puts bytes last. Takes no memory.
+    #[inline(always)]
     pub(crate) fn put(&mut self, more: &[u8])
         requires { length self.old.text + length more.now ≤ self.old.room }
         ensures { self.new ≡ filled (self.old.text ++ more.now) self.old.room }
     {
-        if self.bytes.extend_from_slice(more).is_err() {
-            unreachable!();
-        }
+        let end = self.len + more.len();
+        self.bytes[self.len..end].copy_from_slice(more);
+        self.len = end;
     }
 
     /// Puts a number last, in decimal digits. Takes no memory.
+    #[tactic(auto, using(std::proofs::lemmas::Fmt::decimal_digit))]
+    #[inline(always)]
     pub(crate) fn put_decimal(&mut self, n: u64)
         requires { length self.old.text + length (decimal n) ≤ self.old.room }
         ensures { self.new ≡ filled (self.old.text ++ decimal n) self.old.room }
     {
-        let mut digits = Buffer::new();
-        self.put(digits.format(n).as_bytes());
+        if n < 10 {
+            self.put(&[b'0' + n as u8]);
+        } else {
+            self.len = put_digits(&mut self.bytes, self.len, n);
+        }
     }
 
     /// What was written. Takes no memory.
     pub fn bytes(&self) -> &[u8]
         ensures { result.now ≡ self.now.text }
     {
-        self.bytes.as_slice()
+        &self.bytes[..self.len]
     }
 }

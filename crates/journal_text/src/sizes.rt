@@ -1,12 +1,11 @@
 //! How many bytes lines have.
-ghost use Rattle.std.specs.Prelude.{◌≡◌, ◌+◌, ◌≤◌, length, sum, IfSome, decimal};
+ghost use Rattle.std.specs.Prelude.{◌≡◌, ◌+◌, ◌<◌, length, sum, IfSome, decimal};
 ghost use Rattle.std.specs.List.{flat_map};
 ghost use Rattle.dom_history.specs.Events.{IsKindNumber};
 ghost use Rattle.journal_text.specs.Lines.{node_text, numbered_text, kind_text, what_text, drop_text, sent_text, ended_text, effects_text, place_text, line, journal};
 
 use crate::writing::kind_name_of;
 use dom_history::{Effects, EndWord, Event, NodeNames, Sent, What};
-use itoa::Buffer;
 use uid_names::{NodeId, Place, Uid};
 
 /// The sum of these lengths; None where no length is as great.
@@ -20,11 +19,36 @@ fn sum_of(lengths: &[usize]) -> Option<usize>
     Some(total)
 }
 
-fn decimal_len(n: u64) -> usize
+/// How many digits a number below 10,000 has.
+#[tactic(auto, using(crate::proofs::Digits::one_digit, crate::proofs::Digits::two_digits, crate::proofs::Digits::three_digits, crate::proofs::Digits::four_digits))]
+#[inline(always)]
+fn short_len(n: u64) -> usize
+    requires { n < 10000 }
     ensures { result ≡ length (decimal n) }
 {
-    let mut digits = Buffer::new();
-    digits.format(n).len()
+    if n < 10 {
+        1
+    } else if n < 100 {
+        2
+    } else if n < 1000 {
+        3
+    } else {
+        4
+    }
+}
+
+/// How many digits a number has.
+#[inline(always)]
+pub(crate) fn decimal_len(n: u64) -> usize
+    ensures { result ≡ length (decimal n) }
+{
+    let mut left = n;
+    let mut behind = 0;
+    while left >= 10_000 {
+        left /= 10_000;
+        behind += 4;
+    }
+    short_len(left) + behind
 }
 
 fn node_len(names: &NodeNames, node: NodeId) -> usize
