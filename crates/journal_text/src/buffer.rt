@@ -13,7 +13,9 @@ use uid_names::NoMemory;
 /// Lines behind one another, in a room of bytes that was taken when the buffer was made.
 #[derive(Drop, Debug)]
 pub struct LineBuffer {
+    /// The whole room, in which each byte is there from the first on: so a piece is put by a copy, with no question of room.
     bytes: Vec<u8>,
+    /// How many of them are text.
     len: usize,
 }
 
@@ -63,6 +65,7 @@ impl LineBuffer {
     }
 
     /// Puts bytes last. Takes no memory.
+    // Inlined, so that a piece of a known length is a store or two.
     #[inline(always)]
     pub(crate) fn put(&mut self, more: &[u8])
         requires { length self.old.text + length more.now ≤ self.old.room }
@@ -74,6 +77,7 @@ impl LineBuffer {
     }
 
     /// Puts a number last, in decimal digits. Takes no memory.
+    // Most numbers have one digit.
     #[tactic(auto, using(std::proofs::lemmas::Fmt::decimal_digit))]
     #[inline(always)]
     pub(crate) fn put_decimal(&mut self, n: u64)
