@@ -14,5 +14,5 @@ returns-clause-stands g c made given n stands =
     c.start.ensures
     ∙ filter_agree (λ what. enabled (given_of old.machine) (state_of old.machine) what Nothing) (λ what. enabled given n what Nothing)
     (λ what. enabled-there g.P.Program.spent g.P.Program.wants g.P.Program.becomes made given (record { inner = inner_of old.machine; log = old.log; spent = old.spent }) n
-      (subst (λ x. Stands g.P.Program.wants g.P.Program.becomes made given x n) (sym c.self.view_is) stands) (c.self.invariant c.if-self.false) what Nothing)
+    (subst (λ x. Stands g.P.Program.wants g.P.Program.becomes made given x n) (sym c.self.view_is) stands) (c.self.invariant c.if-self.false) what Nothing)
     (starts_of c.args.proc)
