@@ -7,3 +7,4 @@ pub mod Receivings
 pub mod Nodes
 pub mod Machines
 pub mod Outcomes
+pub mod Starts

@@ -1,9 +1,10 @@
 //! The state of a node, and which events are enabled there.
-ghost use Rattle.std.specs.Prelude.{◌≡◌, ◌≤◌, ◌<◌, ◌^◌, ◌&&◌, ◌==◌, not, nat_lt, true, false, [], ◌∷◌, ℕ, List, is_some, is_none, IsSome, IfSome, IsNone, Some, None, IfOk, OnOk, map, length, option_copied};
+ghost use Rattle.std.specs.Prelude.{◌≡◌, ◌≤◌, ◌<◌, ◌^◌, ◌&&◌, ◌==◌, not, nat_lt, true, false, [], ◌∷◌, ℕ, List, filter, option_to_list, is_some, is_none, IsSome, IfSome, IsNone, Some, None, IfOk, OnOk, map, length, option_copied};
 ghost use Rattle.std.specs.Option.{ForSome};
 ghost use Rattle.std.specs.List.{list_all, list_any};
 ghost use Rattle.uid_names.specs.Beginnings.{CanHomeBegin, at_home};
 ghost use Rattle.uid_names.specs.declared.limits.TheConstants.{MAX_PHASES, NODE_PROCESSES};
+ghost use Rattle.dom_history.specs.declared.event.What.TheVariants.{Ready};
 ghost use Rattle.dom_history.specs.Events.{IsWhat, AreEffects};
 ghost use Rattle.dom_history.specs.Programs.{FitsWant};
 ghost use Rattle.dom_history.specs.declared.op.Want.TheVariants.{Phase};
@@ -14,6 +15,7 @@ ghost use Rattle.fault_handler.specs.Desks.{IsNode};
 ghost use Rattle.fault_handler.specs.Invariant.{IsProc};
 ghost use Rattle.node_runs.specs.Setups.{Given, ArePrograms};
 ghost use Rattle.node_runs.specs.NodeStates.{proc_of, first_proc, first_node, is_ended, is_at_end};
+ghost use Rattle.node_runs.specs.Incomings.Incoming.{Nothing};
 ghost use Rattle.node_runs.specs.Incomings.{tick_of, enabled, has_program as has, has_come, is_call, may_begin, may_go, may_notice, may_be_ready};
 ghost use Rattle.node_runs.specs.SentFrames.{IsIncoming};
 ghost use Rattle.node_runs.specs.Doings.{event_of};
@@ -22,6 +24,7 @@ ghost use Rattle.node_core.specs.Marks.{is_taken};
 ghost use Rattle.node_core.specs.Processes.{want_at, await_seen};
 ghost use Rattle.node_core.specs.Programs.{program_in, numbers_in, AreRising};
 ghost use Rattle.node_core.specs.Receivings.{seen};
+ghost use Rattle.node_core.specs.Starts.{starts_of};
 
 use crate::marks::Marks;
 use crate::processes::{Await, Proc, index_of};
@@ -38,18 +41,20 @@ use std::alloc::Global;
 use uid_names::{MAX_NODES, NODE_PROCESSES, NoMemory, NodeId, Opening, Place, ProcId};
 
 /// Whether what an operation waits for is there.
-fn has_come(desk: &Desk, awaits: Await) -> bool
-    ensures { (page : List ℕ) → result ≡ has_come desk.now (await_seen awaits page) }
+#[inline(always)]
+fn has_come(desk: &Desk, awaits: &Await) -> bool
+    ensures { (page : List ℕ) → result ≡ has_come desk.now (await_seen awaits.now page) }
 {
     match awaits {
         Await::Answer(_) => false,
-        Await::Page(uid, page) => !desk.in_transit(uid, page),
+        Await::Page(uid, page) => !desk.in_transit(*uid, *page),
     }
 }
 
 /// Whether an operation waits for the answer to the call of this number.
-fn is_call(number: u64, awaits: Await) -> bool
-    ensures { (page : List ℕ) → result ≡ is_call number (await_seen awaits page) }
+#[inline(always)]
+fn is_call(number: u64, awaits: &Await) -> bool
+    ensures { (page : List ℕ) → result ≡ is_call number (await_seen awaits.now page) }
 {
     match awaits {
         Await::Answer(call) => call.asking.fits(number),
@@ -233,6 +238,7 @@ impl<P: Program, G: Pages> Machine<P, G> {
     }
 
     /// Whether an event is enabled with what it receives. Takes no memory.
+    #[inline(always)]
     pub(crate) fn enabled(&self, what: &What, incoming: &Incoming) -> bool
         requires { ArePrograms (numbers_in self.now.programs.items) }
         ensures { result ≡ enabled (given_of self.now) (state_of self.now) what.now (seen incoming.now) }
@@ -241,8 +247,12 @@ impl<P: Program, G: Pages> Machine<P, G> {
             return false;
         }
         match (what, incoming) {
-            (What::Begin(p), Incoming::Nothing) => self.may_begin(*p),
-            (What::Go(p), Incoming::Nothing) => self.may_go(*p),
+            (What::Begin(p), Incoming::Nothing) => {
+                self.has_program(*p) && self.may_begin(self.proc(*p))
+            }
+            (What::Go(p), Incoming::Nothing) => {
+                self.has_program(*p) && self.may_go(self.proc(*p))
+            }
             (What::Take(from, _), Incoming::Frame(frame)) => self.may_take(*from, frame),
             (What::Notice(p, _, _, _), Incoming::Gone { number, .. }) => {
                 self.may_notice(*p, *number)
@@ -253,7 +263,29 @@ impl<P: Program, G: Pages> Machine<P, G> {
         }
     }
 
+    /// The event of a process that receives nothing, if one is enabled. It is asked last whether the process has a
+    /// program, since that takes the longest. Takes no memory.
+    #[inline(always)]
+    pub(crate) fn start(&self, p: u8) -> Option<What>
+        requires programs { ArePrograms (numbers_in self.now.programs.items) }
+        requires proc { IsProc p }
+        ensures { option_to_list result ≡ filter (λ what. enabled (given_of self.now) (state_of self.now) what Nothing) (starts_of p) }
+    {
+        let (ended, proc) = (self.has_ended(), self.proc(p));
+        if ended {
+            return None;
+        }
+        if self.may_begin(proc) && self.has_program(p) {
+            return Some(What::Begin(p));
+        }
+        if self.may_go(proc) && self.has_program(p) {
+            return Some(What::Go(p));
+        }
+        None
+    }
+
     /// Whether a process has a program.
+    #[inline(always)]
     fn has_program(&self, p: u8) -> bool
         requires { ArePrograms (numbers_in self.now.programs.items) }
         ensures value { result ≡ has (given_of self.now) p }
@@ -269,26 +301,21 @@ impl<P: Program, G: Pages> Machine<P, G> {
         self.phase < self.procs[index_of(proc)].phase
     }
 
-    fn may_begin(&self, p: u8) -> bool
-        requires { ArePrograms (numbers_in self.now.programs.items) }
-        ensures { result ≡ may_begin (given_of self.now) (state_of self.now) p }
+    /// Whether a process may begin, if it has a program.
+    #[inline(always)]
+    fn may_begin(&self, proc: ProcId) -> bool
+        ensures { result ≡ (is_none (proc_of (state_of self.now) proc.number).doing && not (is_at_end (state_of self.now) proc.number)) }
     {
-        if !self.has_program(p) {
-            return false;
-        }
-        let proc = self.proc(p);
         self.procs[index_of(proc)].doing().is_none() && !self.is_at_end(proc)
     }
 
-    fn may_go(&self, p: u8) -> bool
-        requires { ArePrograms (numbers_in self.now.programs.items) }
-        ensures { result ≡ (has (given_of self.now) p && may_go self.now.desk (proc_of (state_of self.now) p).doing) }
+    /// Whether a process may go on, if it has a program.
+    #[inline(always)]
+    fn may_go(&self, proc: ProcId) -> bool
+        ensures { result ≡ may_go self.now.desk (proc_of (state_of self.now) proc.number).doing }
     {
-        if !self.has_program(p) {
-            return false;
-        }
-        match self.procs[index_of(self.proc(p))].doing() {
-            Some(open) => has_come(&self.desk, open.awaits),
+        match self.procs[index_of(proc)].doing() {
+            Some(open) => has_come(&self.desk, &open.awaits),
             None => false,
         }
     }
@@ -307,9 +334,17 @@ impl<P: Program, G: Pages> Machine<P, G> {
             return false;
         }
         match self.procs[index_of(self.proc(p))].doing() {
-            Some(open) => is_call(number, open.awaits),
+            Some(open) => is_call(number, &open.awaits),
             None => false,
         }
+    }
+
+    /// Whether the event that sends the mark of its phase is enabled. Takes no memory.
+    pub(crate) fn may_send_mark(&self) -> bool
+        requires { ArePrograms (numbers_in self.now.programs.items) }
+        ensures { result ≡ enabled (given_of self.now) (state_of self.now) (Ready self.now.phase) Nothing }
+    {
+        !self.has_ended() && self.may_be_ready(self.phase)
     }
 
     fn may_be_ready(&self, phase: u32) -> bool

@@ -1,17 +1,21 @@
 //! A node of a domain, and its journal.
-ghost use Rattle.std.specs.Prelude.{◌≡◌, ◌≤◌, ◌<◌, ◌^◌, ◌++◌, true, false, [], ◌∷◌, ℕ, Option, IfSome, IfOk, OnOk, OnErr, option_copied};
+ghost use Rattle.std.specs.Prelude.{◌≡◌, ◌≤◌, ◌<◌, ◌^◌, ◌++◌, true, false, [], ◌∷◌, ℕ, filter, option_to_list, Option, IfSome, IfOk, OnOk, OnErr, option_copied};
 ghost use Rattle.uid_names.specs.Beginnings.{CanHomeBegin, at_home};
 ghost use Rattle.uid_names.specs.declared.limits.TheConstants.{MAX_PHASES};
 ghost use Rattle.page_frames.specs.declared.frame.TheConstants.{FEWEST_FRAMES, MOST_FRAMES};
 ghost use Rattle.page_store.specs.Volumes.{no_pages};
 ghost use Rattle.dom_history.specs.declared.op.Want.TheVariants.{Phase};
+ghost use Rattle.dom_history.specs.declared.event.What.TheVariants.{Ready};
 ghost use Rattle.dom_history.specs.Events.{IsWhat, AreEffects};
+ghost use Rattle.fault_handler.specs.Invariant.{IsProc};
 ghost use Rattle.node_runs.specs.Setups.{Given, ArePrograms};
 ghost use Rattle.node_runs.specs.NodeStates.{NodeState, first_node, is_ended};
+ghost use Rattle.node_runs.specs.Incomings.Incoming.{Nothing};
 ghost use Rattle.node_runs.specs.Incomings.{tick_of, enabled};
 ghost use Rattle.node_runs.specs.Outcomes.{Stepped};
 ghost use Rattle.node_core.specs.Programs.{program_in, numbers_in, AreRising};
 ghost use Rattle.node_core.specs.Receivings.{seen, indexed, mark_in};
+ghost use Rattle.node_core.specs.Starts.{starts_of};
 
 use crate::machine::Machine;
 use crate::programs::program_of;
@@ -137,12 +141,37 @@ impl<P: Program, G: Pages> Node<P, G> {
     }
 
     /// Whether an event is enabled with what it receives, as far as this node and that tell. Takes no memory.
+    #[inline(always)]
     pub fn enabled(&self, what: &What, incoming: &Incoming) -> bool
         ensures value { result ≡ is_enabled self.now what.now (seen incoming.now) }
         ensures stands { (made : ℕ → Option P) (g : Given) (n : NodeState) → Stands P.wants P.becomes made g self.now n →
             result ≡ enabled g n what.now (seen incoming.now) }
     {
         !self.spent && self.machine.enabled(what, incoming)
+    }
+
+    /// The event of a process that receives nothing, if one is enabled, as far as this node tells: the process begins, or
+    /// it goes on. Takes no memory.
+    #[inline(always)]
+    pub fn start(&self, proc: u8) -> Option<What>
+        requires proc { IsProc proc }
+        ensures value { option_to_list result ≡ filter (λ what. is_enabled self.now what Nothing) (starts_of proc) }
+        ensures stands { (made : ℕ → Option P) (g : Given) (n : NodeState) → Stands P.wants P.becomes made g self.now n →
+            option_to_list result ≡ filter (λ what. enabled g n what Nothing) (starts_of proc) }
+    {
+        if self.spent {
+            return None;
+        }
+        self.machine.start(proc)
+    }
+
+    /// Whether the event that sends the mark of its phase is enabled, as far as this node tells. Takes no memory.
+    pub fn ready(&self) -> bool
+        ensures value { result ≡ is_enabled self.now (Ready (state_of self.now).phase) Nothing }
+        ensures stands { (made : ℕ → Option P) (g : Given) (n : NodeState) → Stands P.wants P.becomes made g self.now n →
+            result ≡ enabled g n (Ready (state_of self.now).phase) Nothing }
+    {
+        !self.spent && self.machine.may_send_mark()
     }
 
     /// The tick of its last event, 0 before the first. Takes no memory.
