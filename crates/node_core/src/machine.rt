@@ -222,11 +222,11 @@ impl<P: Program, G: Pages> Machine<P, G> {
         requires fits { FitsWant (want_at self.old.procs proc.number) (option_copied last) }
         ensures { OnOk result (Told P.spent P.wants P.becomes self.old self.new proc.number phase (option_copied last.entry)) }
     {
-        let want = tell(alloc, &mut self.programs, proc.number(), last)?;
-        let proc = &mut self.procs[index_of(proc)];
-        proc.want = want;
-        proc.opened = None;
-        proc.phase = phase;
+        let at = index_of(proc);
+        let process = &mut self.procs[at];
+        tell(alloc, &mut self.programs, proc.number(), last, &mut process.want)?;
+        process.opened = None;
+        process.phase = phase;
         Ok(())
     }
 

@@ -41,14 +41,15 @@ pub(crate) fn has_program<P: Program>(programs: &[(u8, P)], proc: u8) -> bool
     program_of(programs, proc).is_some()
 }
 
-/// Tells a process's program a reply, or that a phase begins, and answers what it wants then. Without memory the program
-/// is spent.
+/// Tells a process's program a reply, or that a phase begins, and puts what it wants then in the place of what it wanted.
+/// Without memory the program is spent.
 pub(crate) fn tell<P: Program>(
     alloc: Global,
     programs: &mut Vec<(u8, P)>,
     proc: u8,
     last: Option<&Reply>,
-) -> Result<Want, NoMemory>
+    want: &mut Want,
+) -> Result<(), NoMemory>
     requires there { IsSome (program_in programs.old.items proc) }
     requires whole { IfSome (program_in programs.old.items proc) (λ x. P.spent x ≡ false) }
     requires fits { IfSome (program_in programs.old.items proc) (λ x. FitsWant (P.wants x) (option_copied last)) }
@@ -57,13 +58,13 @@ pub(crate) fn tell<P: Program>(
     ensures others { OnOk result ((q : ℕ) → q ≢ proc → program_in programs.new.items q ≡ program_in programs.old.items q) }
     ensures numbers { OnOk result (numbers_in programs.new.items ≡ numbers_in programs.old.items) }
     ensures whole { OnOk result (IfSome (program_in programs.new.items proc) (λ x. P.spent x ≡ false)) }
-    ensures want { IfOk result (λ want. IfSome (program_in programs.new.items proc) (λ x. P.wants x ≡ want)) }
-    ensures range { IfOk result IsWant }
+    ensures want { OnOk result (IfSome (program_in programs.new.items proc) (λ x. P.wants x ≡ want.new)) }
+    ensures range { OnOk result (IsWant want.new) }
 {
     match place_of(programs.as_slice(), proc) {
         Some(i) => {
-            let want = programs[i].1.next(alloc, last)?;
-            Ok(want)
+            *want = programs[i].1.next(alloc, last)?;
+            Ok(())
         }
         None => unreachable!(),
     }

@@ -36,15 +36,21 @@ impl Done {
     pub(crate) fn new(alloc: Global) -> Done
         ensures { result ≡ record { frame = None; effects = record { dropped = []; sent = None; ended = None } } }
     {
-        let effects = Effects {
-            dropped: Dropped::new(alloc),
-            sent: None,
-            ended: None,
-        };
         Done {
             frame: None,
-            effects,
+            effects: no_effects(alloc),
         }
+    }
+}
+
+/// None. Takes no memory.
+pub(crate) fn no_effects(alloc: Global) -> Effects
+    ensures { result ≡ record { dropped = []; sent = None; ended = None } }
+{
+    Effects {
+        dropped: Dropped::new(alloc),
+        sent: None,
+        ended: None,
     }
 }
 

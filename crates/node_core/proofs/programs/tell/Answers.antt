@@ -63,4 +63,4 @@ returns-clause-want g c =
     let bound = subst (λ (xs : List (ℕ × g.row.P.Denot)). c.in-Some.i < length xs) c.as_slice.ensures.value c.in-Some.ensures.bound in
     let number = first-number es c.args.proc c.in-Some.i c.index_mut.result.now there bound c.index_mut.ensures.value in
     let is = set-program es c.args.proc c.in-Some.i c.index_mut.result.now.0 c.next.new.self there bound number in
-    subst (λ o. IfSome o (λ x. g.P.Program.wants x ≡ c.in_ok-want-in-Some.want)) (sym is) (ap g.P.Program.wants c.in_ok-want-in-Some.ensures.after ∙ sym c.in_ok-want-in-Some.ensures.want)
+    subst (λ o. IfSome o (λ x. g.P.Program.wants x ≡ c.in_ok-want-in-Some.field-0)) (sym is) (ap g.P.Program.wants c.in_ok-want-in-Some.ensures.after ∙ sym c.in_ok-want-in-Some.ensures.want)

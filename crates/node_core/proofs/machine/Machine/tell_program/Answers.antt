@@ -33,27 +33,27 @@ pub returns : goal.returns
 returns g c =
     let m = c.args.self.now in
     let p = c.args.proc.number in
-    let i = c.index_of.result in
-    let d = c.index-self-index_of.result in
+    let i = c.index_of-at.result in
+    let d = c.index-self-at.result in
     let new = c.tell.new.programs.items in
     let old = m.programs.items in
     let is : c.number.result ≡ p = c.number.ensures.value in
     let proc : IsProcNumber p = subst IsProcNumber is (c.number.ensures.least, c.number.ensures.greatest) in
-    let inside : i < length m.procs = subst (λ n. i < n) (sym c.requires.four) c.index_of.ensures.bound in
+    let inside : i < length m.procs = subst (λ n. i < n) (sym c.requires.four) c.index_of-at.ensures.bound in
     let q = get_or m.procs i d in
-    let x : Proc = record { want = c.in_ok-want.want; opened = None; last = q.last; phase = c.args.phase; page = q.page } in
+    let x : Proc = record { want = c.tell.new.want; opened = None; last = q.last; phase = c.args.phase; page = q.page } in
     let seen : proc_seen x ≡ record (proc_seen q) { doing = None; phase = c.args.phase } = ap (λ (o : Option OpenOp). record { heard = (proc_seen q).heard; doing = o; last = q.last; phase = c.args.phase }) (doing-none x.want x.page.value) in
-    let put = put-seen m.procs i p d x (λ r. record r { doing = None; phase = c.args.phase }) c.index_of.ensures.value inside seen in
+    let put = put-seen m.procs i p d x (λ r. record r { doing = None; phase = c.args.phase }) c.index_of-at.ensures.value inside seen in
     record {
       state = ap (λ ps. record (state_of m) { procs = ps }) put;
-      program = subst (λ k. program_in new k ≡ option_map (λ y. g.P.Program.becomes y (option_copied c.args.last)) (program_in old k)) is c.in_ok-want.ensures.program;
-      others = subst (λ k. (r : ℕ) → r ≢ k → program_in new r ≡ program_in old r) is c.in_ok-want.ensures.others;
-      told = told-one g.P.Program.spent g.P.Program.wants old new m.procs i p x c.index_of.ensures.value inside proc c.requires.told
-          (subst (λ k. (r : ℕ) → r ≢ k → program_in new r ≡ program_in old r) is c.in_ok-want.ensures.others)
-          (there (program_in old p) (program_in new p) (λ y. g.P.Program.becomes y (option_copied c.args.last)) (subst (λ k. program_in new k ≡ option_map (λ y. g.P.Program.becomes y (option_copied c.args.last)) (program_in old k)) is c.in_ok-want.ensures.program) c.requires.there)
-          (subst (λ k. IfSome (program_in new k) (λ y. g.P.Program.spent y ≡ false)) is c.in_ok-want.ensures.whole)
-          (subst (λ k. IfSome (program_in new k) (λ y. g.P.Program.wants y ≡ c.in_ok-want.want)) is c.in_ok-want.ensures.want);
-      wanted = wanted-set m.procs i p x c.index_of.ensures.value inside c.in_ok-want.ensures.range c.requires.wanted;
-      numbers = c.in_ok-want.ensures.numbers;
+      program = subst (λ k. program_in new k ≡ option_map (λ y. g.P.Program.becomes y (option_copied c.args.last)) (program_in old k)) is c.in_ok-tell.ensures.program;
+      others = subst (λ k. (r : ℕ) → r ≢ k → program_in new r ≡ program_in old r) is c.in_ok-tell.ensures.others;
+      told = told-one g.P.Program.spent g.P.Program.wants old new m.procs i p x c.index_of-at.ensures.value inside proc c.requires.told
+          (subst (λ k. (r : ℕ) → r ≢ k → program_in new r ≡ program_in old r) is c.in_ok-tell.ensures.others)
+          (there (program_in old p) (program_in new p) (λ y. g.P.Program.becomes y (option_copied c.args.last)) (subst (λ k. program_in new k ≡ option_map (λ y. g.P.Program.becomes y (option_copied c.args.last)) (program_in old k)) is c.in_ok-tell.ensures.program) c.requires.there)
+          (subst (λ k. IfSome (program_in new k) (λ y. g.P.Program.spent y ≡ false)) is c.in_ok-tell.ensures.whole)
+          (subst (λ k. IfSome (program_in new k) (λ y. g.P.Program.wants y ≡ c.tell.new.want)) is c.in_ok-tell.ensures.want);
+      wanted = wanted-set m.procs i p x c.index_of-at.ensures.value inside c.in_ok-tell.ensures.range c.requires.wanted;
+      numbers = c.in_ok-tell.ensures.numbers;
       same = refl;
     }
