@@ -45,9 +45,6 @@ rising-front [] older rising = tt
 rising-front (x ∷ []) older rising = (refl, tt)
 rising-front (x ∷ y ∷ newer) older rising = (rising.0, rising-front (y ∷ newer) older rising.1)
 
-some-same : {A : Type 0} {r : Option A} {x y : A} → r ≡ Some x → r ≡ Some y → x ≡ y
-some-same h k = cc
-
 shifted : (c : ℕ) → suc c + 1 ≡ suc (c + 1)
 shifted c = omega arith
 

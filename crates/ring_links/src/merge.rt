@@ -1,8 +1,8 @@
 //! The events of several nodes in one list.
-ghost use Rattle.std.specs.Prelude.{◌≡◌, ◌+◌, ◌<◌, ◌++◌, ◌∷◌, [], IsSome, OnOk, slice_set, slice_index, ℕ, true, None, length, IfOk, IfSome, MatchOption, slice_get, All};
+ghost use Rattle.std.specs.Prelude.{◌≡◌, ◌+◌, ◌<◌, ◌++◌, ◌∷◌, [], IsSome, OnOk, slice_set, slice_index, slice_index_or, ℕ, true, None, length, IfOk, IfSome, MatchOption, slice_get, All};
 ghost use Rattle.std.specs.Option.{option_copied};
 ghost use Rattle.dom_history.specs.Histories.{place_lt};
-ghost use Rattle.ring_links.specs.Merged.{AreLogs, AreMerged, IsFirst, next_at};
+ghost use Rattle.ring_links.specs.Merged.{AreLogs, AreMerged, AreNext, IsLeast, next_at, place_of};
 
 use dom_history::{Event, EventList, NodeLog};
 use std::alloc::Global;
@@ -29,7 +29,35 @@ fn next_event<'a>(logs: &'a [NodeLog], came: &[usize], i: usize) -> Option<&'a E
     event_at(logs[i].events.items(), came[i])
 }
 
-/// Whether an event at this place comes before the next one of the first log so far, which stands with its place.
+/// The place of the event of the log at `i` that comes next.
+fn next_place(logs: &[NodeLog], came: &[usize], i: usize) -> Option<Place>
+    requires same { length came.now ≡ length logs.now }
+    requires within { i < length logs.now }
+    ensures { result ≡ place_of (next_at logs.now came.now i) }
+{
+    match next_event(logs, came, i) {
+        Some(event) => Some(event.place()),
+        None => None,
+    }
+}
+
+/// The place of each log's next event, where so many of each came.
+fn next_places(
+    alloc: Global,
+    logs: &[NodeLog],
+    came: &[usize],
+) -> Result<Vec<Option<Place>>, NoMemory>
+    requires same { length came.now ≡ length logs.now }
+    ensures { IfOk result (λ nexts. AreNext logs.now came.now nexts.items) }
+{
+    let mut nexts = Vec::with_capacity(alloc, logs.len())?;
+    for i in 0..logs.len() {
+        nexts.push(next_place(logs, came, i))?;
+    }
+    Ok(nexts)
+}
+
+/// Whether a place comes before the first one so far, which stands with the number of its log.
 fn is_first(first: &Option<(usize, Place)>, place: &Place) -> bool
     ensures { MatchOption first.now (result ≡ true) (λ f. result ≡ place_lt place.now f.1) }
 {
@@ -39,17 +67,15 @@ fn is_first(first: &Option<(usize, Place)>, place: &Place) -> bool
     }
 }
 
-/// The log whose next event comes first of all, where so many of each came.
-fn first_log(logs: &[NodeLog], came: &[usize]) -> Option<usize>
-    requires same { length came.now ≡ length logs.now }
-    ensures within { IfSome result (λ i. i < length logs.now) }
-    ensures first { MatchOption result ((j : ℕ) → next_at logs.now came.now j ≡ None) (IsFirst logs.now came.now) }
+/// The log whose next event comes first of all, by the places of all next events.
+fn first_log(nexts: &[Option<Place>]) -> Option<usize>
+    ensures within { IfSome result (λ i. i < length nexts.now) }
+    ensures first { MatchOption result ((j : ℕ) → slice_index_or nexts.now j None ≡ None) (IsLeast nexts.now) }
 {
     let mut first: Option<(usize, Place)> = None;
-    for i in 0..logs.len() {
-        match next_event(logs, came, i) {
-            Some(event) => {
-                let place = event.place();
+    for i in 0..nexts.len() {
+        match nexts[i] {
+            Some(place) => {
                 if is_first(&first, &place) {
                     first = Some((i, place));
                 }
@@ -122,10 +148,14 @@ pub fn by_place(alloc: Global, logs: &[NodeLog]) -> Result<EventList, NoMemory>
 {
     let mut came = none_came(alloc, logs)?;
     let total = total(logs).ok_or(NoMemory)?;
+    let mut nexts = next_places(alloc, logs, came.as_slice())?;
     let mut events = Vec::with_capacity(alloc, total)?;
     loop {
-        match first_log(logs, came.as_slice()) {
-            Some(i) => merge_next(alloc, logs, &mut came, &mut events, i)?,
+        match first_log(nexts.as_slice()) {
+            Some(i) => {
+                merge_next(alloc, logs, &mut came, &mut events, i)?;
+                nexts[i] = next_place(logs, came.as_slice(), i);
+            }
             None => return Ok(EventList::from_vec(events)),
         }
     }
