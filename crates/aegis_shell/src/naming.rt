@@ -1,5 +1,5 @@
 //! How commands on names and files begin.
-ghost use Rattle.std.specs.Prelude.{◌≡◌, true, false, None, Some, MatchOption, IfOk, IfSome, IsSome, unwrap_or};
+ghost use Rattle.std.specs.Prelude.{◌≡◌, true, false, None, Some, MatchOption, IfOk, IfSome, IsSome, option_map, unwrap_or};
 ghost use Rattle.uid_names.specs.Rooms.{IsRoom};
 ghost use Rattle.uid_names.specs.declared.mode.ObjKind.TheVariants.{File, Link};
 ghost use Rattle.naming_tree.specs.Additions.{IsText};
@@ -11,12 +11,13 @@ ghost use Rattle.aegis_shell.specs.Ranges.{IsRanged};
 ghost use Rattle.aegis_shell.specs.declared.errand.Errand.TheVariants.{Append as AppendErrand, Copy as CopyErrand};
 ghost use Rattle.aegis_shell.specs.Standing.{site_of};
 ghost use Rattle.aegis_shell.specs.Plans.{name_talk_of, seeking, talk_of, talks};
+ghost use Rattle.aegis_shell.specs.declared.talk.Talk.TheVariants.{Name};
 ghost use Rattle.aegis_shell.specs.declared.name_talk.NameTalk.TheVariants.{Walk as WalkTalk, List as ListTalk, Add as AddTalk, Drop as DropTalk};
 
 use crate::errand::{Errand, Target, Text};
 use crate::file_talk::FileTalk;
 use crate::name_talk::NameTalk;
-use crate::talk::Talk;
+use crate::talk::{Machine, Talk};
 use crate::work::Work;
 use crate::working::Working;
 use dom_history::NodeNames;
@@ -45,16 +46,25 @@ fn site(alloc: Global, work: &Work) -> Result<Site, NoMemory>
     })
 }
 
+/// The machine of a name.
+fn named(alloc: Global, talk: NameTalk) -> Result<Machine, NoMemory>
+    ensures { IfOk result (λ machine. machine ≡ Name talk) }
+{
+    Machine::new(alloc, Talk::Name(talk))
+}
+
 /// A walk along a path, at whose end a link is followed.
-fn walk(alloc: Global, work: &Work, dir: Uid, path: &[u8]) -> Result<NameTalk, NoMemory>
+#[inline(never)]
+fn walk(alloc: Global, work: &Work, dir: Uid, path: &[u8]) -> Result<Machine, NoMemory>
     requires { IsSome (route_of path.now) }
-    ensures { IfOk result (λ talk. talk ≡ WalkTalk (walk_of (site_of work.now) true (route_of path.now) dir)) }
+    ensures { IfOk result (λ talk. talk ≡ Name (WalkTalk (walk_of (site_of work.now) true (route_of path.now) dir))) }
 {
     let site = site(alloc, work)?;
-    Ok(NameTalk::Walk(Walk::new(alloc, site, path, dir, true)?))
+    named(alloc, NameTalk::Walk(Walk::new(alloc, site, path, dir, true)?))
 }
 
 /// The addition of a name with an object.
+#[inline(never)]
 fn add(
     alloc: Global,
     work: &Work,
@@ -63,15 +73,15 @@ fn add(
     kind: ObjKind,
     room: u32,
     text: Option<ByteList>,
-) -> Result<NameTalk, NoMemory>
+) -> Result<Machine, NoMemory>
     requires path { IsSome (route_of path.now) }
     requires room { IsRoom room }
     requires text { IsText kind text }
-    ensures { IfOk result (λ talk. talk ≡ AddTalk (add_name_of (site_of work.now) (route_of path.now) dir kind room text)) }
+    ensures { IfOk result (λ talk. talk ≡ Name (AddTalk (add_name_of (site_of work.now) (route_of path.now) dir kind room text))) }
 {
     let site = site(alloc, work)?;
     let machine = AddName::new(alloc, site, path, dir, kind, room, text)?;
-    Ok(NameTalk::Add(machine))
+    named(alloc, NameTalk::Add(machine))
 }
 
 /// The addition of a file; where no room is said it is that of a file.
@@ -82,10 +92,10 @@ fn add_file(
     dir: Uid,
     path: &[u8],
     room: Option<u32>,
-) -> Result<NameTalk, NoMemory>
+) -> Result<Machine, NoMemory>
     requires path { IsSome (route_of path.now) }
     requires room { IfSome room IsRoom }
-    ensures { IfOk result (λ talk. talk ≡ AddTalk (add_name_of (site_of work.now) (route_of path.now) dir File (unwrap_or room 16) None)) }
+    ensures { IfOk result (λ talk. talk ≡ Name (AddTalk (add_name_of (site_of work.now) (route_of path.now) dir File (unwrap_or room 16) None))) }
 {
     let room = room.unwrap_or(FILE_ROOM);
     add(alloc, work, dir, path, ObjKind::File, room, None)
@@ -98,44 +108,54 @@ fn add_link(
     dir: Uid,
     path: &[u8],
     target: &ByteList,
-) -> Result<NameTalk, NoMemory>
+) -> Result<Machine, NoMemory>
     requires path { IsSome (route_of path.now) }
     requires target { IsSome (route_of target.now) }
-    ensures { IfOk result (λ talk. talk ≡ AddTalk (add_name_of (site_of work.now) (route_of path.now) dir Link 1 (Some target.now))) }
+    ensures { IfOk result (λ talk. talk ≡ Name (AddTalk (add_name_of (site_of work.now) (route_of path.now) dir Link 1 (Some target.now)))) }
 {
     let text = Some(target.copy(alloc)?);
     add(alloc, work, dir, path, ObjKind::Link, LINK_ROOM, text)
 }
 
 /// The removal of a name.
-fn drop_name(alloc: Global, work: &Work, dir: Uid, path: &[u8]) -> Result<NameTalk, NoMemory>
+#[inline(never)]
+fn drop_name(alloc: Global, work: &Work, dir: Uid, path: &[u8]) -> Result<Machine, NoMemory>
     requires { IsSome (route_of path.now) }
-    ensures { IfOk result (λ talk. talk ≡ DropTalk (drop_name_of (site_of work.now) (route_of path.now) dir)) }
+    ensures { IfOk result (λ talk. talk ≡ Name (DropTalk (drop_name_of (site_of work.now) (route_of path.now) dir))) }
 {
     let site = site(alloc, work)?;
-    Ok(NameTalk::Drop(DropName::new(alloc, site, path, dir)?))
+    named(alloc, NameTalk::Drop(DropName::new(alloc, site, path, dir)?))
 }
 
 /// The list of a directory.
-fn list_dir(alloc: Global, work: &Work, dir: Uid, path: &[u8]) -> Result<NameTalk, NoMemory>
+#[inline(never)]
+fn list_dir(alloc: Global, work: &Work, dir: Uid, path: &[u8]) -> Result<Machine, NoMemory>
     requires { IsSome (route_of path.now) }
-    ensures { IfOk result (λ talk. talk ≡ ListTalk (list_dir_of (site_of work.now) (route_of path.now) dir)) }
+    ensures { IfOk result (λ talk. talk ≡ Name (ListTalk (list_dir_of (site_of work.now) (route_of path.now) dir))) }
 {
     let site = site(alloc, work)?;
-    Ok(NameTalk::List(ListDir::new(alloc, site, path, dir)?))
+    named(alloc, NameTalk::List(ListDir::new(alloc, site, path, dir)?))
 }
 
 /// The walk to the file of an errand.
-fn seek(alloc: Global, work: &Work, dir: Uid, path: &[u8], errand: Errand) -> Result<Talk, NoMemory>
+#[inline(never)]
+fn seek(
+    alloc: Global,
+    work: &Work,
+    dir: Uid,
+    path: &[u8],
+    errand: Errand,
+) -> Result<Machine, NoMemory>
     requires { IsSome (route_of path.now) }
     ensures { IfOk result (λ talk. talk ≡ seeking work.now dir path.now errand) }
 {
     let site = site(alloc, work)?;
     let walk = Walk::new(alloc, site, path, dir, true)?;
-    Ok(Talk::File(Some(FileTalk::Seeks(walk, errand))))
+    Machine::new(alloc, Talk::File(Some(FileTalk::Seeks(walk, errand))))
 }
 
 /// The errand of a text that is put behind the bytes of a file.
+#[inline(never)]
 fn append_errand(alloc: Global, text: &ByteList) -> Result<Errand, NoMemory>
     requires { IsStreamText text.now }
     ensures { IfOk result (λ errand. errand ≡ AppendErrand text.now) }
@@ -144,6 +164,7 @@ fn append_errand(alloc: Global, text: &ByteList) -> Result<Errand, NoMemory>
 }
 
 /// The errand of a copy to this path.
+#[inline(never)]
 fn copy_errand(alloc: Global, work: &Work, dir: Uid, target: &ByteList) -> Result<Errand, NoMemory>
     requires { IsSome (route_of target.now) }
     ensures { IfOk result (λ errand. errand ≡ CopyErrand (record { site = site_of work.now; dir = dir; path = target.now })) }
@@ -158,9 +179,9 @@ fn name_talk(
     work: &Work,
     dir: Uid,
     command: &Command,
-) -> Result<Option<NameTalk>, NoMemory>
+) -> Result<Option<Machine>, NoMemory>
     requires { IsRanged command.now }
-    ensures { IfOk result (λ found. found ≡ name_talk_of work.now dir command.now) }
+    ensures { IfOk result (λ found. found ≡ option_map Name (name_talk_of work.now dir command.now)) }
 {
     match command {
         Command::Bind { var: _, path } => Ok(Some(walk(alloc, work, dir, path.bytes())?)),
@@ -192,7 +213,7 @@ pub fn talk(
     work: &Work,
     working: &Working,
     command: &Command,
-) -> Result<Option<Talk>, NoMemory>
+) -> Result<Option<Machine>, NoMemory>
     requires { IsRanged command.now }
     ensures { IfOk result (λ found. MatchOption found (talks command.now ≡ false) (λ talk. (talks command.now ≡ true) × (talk ≡ talk_of work.now working.now command.now))) }
 {
@@ -209,7 +230,7 @@ pub fn talk(
             Ok(Some(seek(alloc, work, dir, path.bytes(), errand)?))
         }
         _ => match name_talk(alloc, work, dir, command)? {
-            Some(talk) => Ok(Some(Talk::Name(talk))),
+            Some(machine) => Ok(Some(machine)),
             None => Ok(None),
         },
     }

@@ -1,6 +1,6 @@
 //! How far a process is in its next command.
 use crate::outcome::Outcome;
-use crate::talk::Talk;
+use crate::talk::Machine;
 use dom_history::{Op, Reply};
 use uid_names::{ByteList, NodeId, ProcId, Uid};
 
@@ -14,7 +14,7 @@ pub enum Stage {
     /// Its second operation is open; the first one had this reply.
     Second(Reply),
     /// A machine's operation is open.
-    Talks(Talk),
+    Talks(Machine),
     /// A list of the locks of a home behind a row is open, and this is the answer so far.
     Lists(NodeId, Option<(Uid, ProcId)>, ByteList),
 }

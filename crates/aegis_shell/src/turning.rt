@@ -12,7 +12,7 @@ use crate::file_talk::{FileTalk, FileTurn};
 use crate::name_talk::NameTalk;
 use crate::outcome::Outcome;
 use crate::stage::{Stage, Turn};
-use crate::talk::{Step, Talk};
+use crate::talk::{Machine, Step, Talk};
 use dom_history::Reply;
 use naming_tree::NameStep;
 use std::alloc::Global;
@@ -67,8 +67,19 @@ impl Talk {
     }
 }
 
+impl Machine {
+    /// Tells it the reply to its operation; nothing at the first call.
+    fn next(&mut self, alloc: Global, last: Option<&Reply>) -> Result<Step, NoMemory>
+        requires { MayBeTold self.old (option_copied last) }
+        ensures turn { IfOk result (λ step. Some (turn_by step self.new) ≡ talk_turn self.old (option_copied last.entry)) }
+        ensures asks { IfOk result (λ step. (list : Option (List Op)) → AsksIn list (turn_by step self.new)) }
+    {
+        self.talk.next(alloc, last)
+    }
+}
+
 /// A machine that is told this.
-pub fn turn_of(alloc: Global, mut talk: Talk, last: Option<&Reply>) -> Result<Turn, NoMemory>
+pub fn turn_of(alloc: Global, mut talk: Machine, last: Option<&Reply>) -> Result<Turn, NoMemory>
     requires { MayBeTold talk (option_copied last) }
     ensures turn { IfOk result (λ turn. going turn ≡ talk_goes talk (option_copied last.entry)) }
     ensures asks { IfOk result (λ turn. (list : Option (List Op)) → AsksIn list turn) }

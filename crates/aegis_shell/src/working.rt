@@ -72,6 +72,7 @@ impl Working {
     }
 
     /// The text of the directory to which a path leads from this one.
+    #[inline(never)]
     pub fn text_at(&self, alloc: Global, work: &Work, path: &[u8]) -> Result<ByteList, NoMemory>
         ensures { IfOk result (λ text. text ≡ text_at work.now self.now path.now) }
     {
