@@ -20,12 +20,11 @@ ghost use Rattle.node_core.specs.Starts.{starts_of};
 use crate::machine::Machine;
 use crate::programs::program_of;
 use crate::setup::{Emitted, Incoming, NodeSetup};
-use crate::turns::{Done, no_effects};
+use crate::turns::Done;
 use dom_history::{Event, EventList, NodeLog, Program, What};
 use page_store::Pages;
 use std::alloc::Global;
 use std::marker::Model;
-use std::mem;
 use uid_names::{NoMemory, Opening, Place};
 
 // A journal has one of these for each event.
@@ -44,30 +43,29 @@ fn mark_in(what: &What) -> Option<u32>
 /// Writes the line of the journal, and answers what the event emits. The node is spent no more; without memory it stays
 /// so, and the journal is as it was.
 fn write(
-    alloc: Global,
     log: &mut NodeLog,
     spent: &mut bool,
     place: Place,
     what: What,
-    done: &mut Done,
+    done: Done,
 ) -> Result<Emitted, NoMemory>
     requires what { IsWhat what }
-    requires effects { AreEffects done.old.effects }
-    ensures emits { IfOk result (λ emitted. emitted ≡ record { frame = indexed done.old.frame done.old.effects.sent; mark = mark_in what }) }
-    ensures events { OnOk result (log.new.events ≡ log.old.events ++ record { place = place; what = what; effects = done.old.effects } ∷ []) }
+    requires effects { AreEffects done.effects }
+    ensures emits { IfOk result (λ emitted. emitted ≡ record { frame = indexed done.frame done.effects.sent; mark = mark_in what }) }
+    ensures events { OnOk result (log.new.events ≡ log.old.events ++ record { place = place; what = what; effects = done.effects } ∷ []) }
     ensures node { log.new.node ≡ log.old.node }
     ensures whole { OnOk result (spent.new ≡ false) }
     ensures err { OnErr result (log.new ≡ log.old) }
     ensures err_spent { OnErr result (spent.new ≡ spent.old) }
 {
-    let (sent, mark) = (done.effects.sent, mark_in(&what));
-    let effects = mem::replace(&mut done.effects, no_effects(alloc));
+    let Done { frame, effects } = done;
+    let (sent, mark) = (effects.sent, mark_in(&what));
     log.events.push(Event::new(place, what, effects))?;
     *spent = false;
-    // The frame stays where the event put it until it is moved, once, to where it is returned.
-    match sent {
-        Some(sent) => match done.frame.take() {
-            Some(frame) => Ok(Emitted {
+    // Each answer is made where it is returned, so that the frame is moved once.
+    match frame {
+        Some(frame) => match sent {
+            Some(sent) => Ok(Emitted {
                 frame: Some((sent.index, frame)),
                 mark,
             }),
@@ -241,6 +239,6 @@ impl<P: Program, G: Pages> Node<P, G> {
         self.machine.happen(alloc, &what, incoming, &mut done)?;
         let place = self.machine.place();
         let (log, spent) = (&mut self.log, &mut self.spent);
-        write(alloc, log, spent, place, what, &mut done)
+        write(log, spent, place, what, done)
     }
 }

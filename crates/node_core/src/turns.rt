@@ -36,21 +36,15 @@ impl Done {
     pub(crate) fn new(alloc: Global) -> Done
         ensures { result ≡ record { frame = None; effects = record { dropped = []; sent = None; ended = None } } }
     {
+        let effects = Effects {
+            dropped: Dropped::new(alloc),
+            sent: None,
+            ended: None,
+        };
         Done {
             frame: None,
-            effects: no_effects(alloc),
+            effects,
         }
-    }
-}
-
-/// None. Takes no memory.
-pub(crate) fn no_effects(alloc: Global) -> Effects
-    ensures { result ≡ record { dropped = []; sent = None; ended = None } }
-{
-    Effects {
-        dropped: Dropped::new(alloc),
-        sent: None,
-        ended: None,
     }
 }
 
