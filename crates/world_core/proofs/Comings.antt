@@ -1,14 +1,23 @@
 -- The enabled ones of candidates, part by part.
-use Rattle.std.proofs.Common.{◌≡◌, ℕ, ◌+◌, ◌<◌, List, [], ◌∷◌, ◌++◌, map, drop, length, get_or, sym, ap, ◌∙◌}
-use Rattle.std.specs.Prelude.{filter, flat_map}
+use Rattle.std.proofs.Common.{◌≡◌, ℕ, zero, suc, ◌+◌, ◌<◌, Option, List, [], ◌∷◌, ◌++◌, map, drop, length, get_or, sym, ap, ◌∙◌}
+use Rattle.std.specs.Prelude.{filter, option_to_list}
 use Rattle.std.proofs.lemmas.List.{map-append, append_assoc, append-nil, drop_more}
 use Rattle.std.proofs.lemmas.List.Elements.{filter-append}
-use Rattle.fault_handler.specs.Desks.{procs}
-use Rattle.node_core.specs.Nodes.{Noted}
+use Rattle.std.proofs.lemmas.Simd.{map-map}
+use Rattle.uid_names.proofs.ListLemmas.{filter-map}
+use Rattle.dom_history.specs.declared.event.What.{What}
+use Rattle.node_runs.specs.Incomings.Incoming.{Nothing}
+use Rattle.node_core.specs.Nodes.{Noted, is_enabled}
+use Rattle.node_core.specs.Starts as started
 use Rattle.world_core.specs.declared.coming.Coming.{Coming}
 use Rattle.world_core.specs.declared.notices.Notice.{Notice}
 use Rattle.world_core.specs.declared.station.LinkFrom.{LinkFrom}
-use Rattle.world_core.specs.Stations.{Candidate, notice_at, starts_of, noticed, oldest_of, oldest, passes, comings}
+use Rattle.world_core.specs.Stations.{Candidate, start, notice_at, starts_of, noticed, oldest_of, oldest, passes, comings}
+
+-- the events of the processes up to this one
+abbrev pub starts_up_to : ℕ → List Candidate
+starts_up_to zero = []
+starts_up_to (suc p) = starts_up_to p ++ starts_of (p + 1)
 
 module _ {P : Type 0} where
   pub comings_append : (node : Noted P) (xs ys : List Candidate) → comings node (xs ++ ys) ≡ comings node xs ++ comings node ys
@@ -24,10 +33,13 @@ module _ {P : Type 0} where
   put_more node l m n xs ys h k =
       k ∙ ap (λ (cs : List Coming). cs ++ comings node ys) h ∙ append_assoc l (comings node xs) (comings node ys) ∙ ap (λ (cs : List Coming). l ++ cs) (sym (comings_append node xs ys))
 
-  pub put_four : (node : Noted P) (l a b c d : List Coming) → a ≡ l ++ comings node (starts_of 1) → b ≡ a ++ comings node (starts_of 2) → c ≡ b ++ comings node (starts_of 3) → d ≡ c ++ comings node (starts_of 4)
-      → d ≡ l ++ comings node (flat_map starts_of procs)
-  put_four node l a b c d h i j k =
-      put_more node l c d ((starts_of 1 ++ starts_of 2) ++ starts_of 3) (starts_of 4) (put_more node l b c (starts_of 1 ++ starts_of 2) (starts_of 3) (put_more node l a b (starts_of 1) (starts_of 2) h i) j) k
+  -- which event of a process is put
+  pub put_started : (node : Noted P) (l m : List Coming) (p : ℕ) (o : Option What) → option_to_list o ≡ filter (λ what. is_enabled node what Nothing) (started.starts_of p)
+      → m ≡ l ++ map (λ what. (start what).coming) (option_to_list o) → m ≡ l ++ comings node (starts_of p)
+  put_started node l m p o enabled put =
+      put ∙ ap (λ (cs : List Coming). l ++ cs)
+      (ap (map (λ (what : What). (start what).coming)) enabled ∙ sym (map-map (λ (c : Candidate). c.coming) start (filter (λ what. is_enabled node what Nothing) (started.starts_of p)))
+      ∙ ap (map (λ (c : Candidate). c.coming)) (sym (filter-map start (passes node) (started.starts_of p))))
 
   -- one notice more
   pub noticed_step : (node : Noted P) (notices : List Notice) (i : ℕ) (x : Notice) → i < length notices → get_or notices i x ≡ x

@@ -2,11 +2,11 @@
 ghost use Rattle.std.specs.Prelude.{◌≡◌, ◌≤◌, ◌++◌, ◌∷◌, [], ℕ, true, false, map, take, drop, is_some, OnOk, IfOk, length, slice_get};
 ghost use Rattle.dom_history.specs.declared.event.What.TheVariants as events;
 ghost use Rattle.fault_handler.specs.Desks.{procs};
+ghost use Rattle.fault_handler.specs.Invariant.{IsProc};
 ghost use Rattle.std.specs.List.{flat_map};
 ghost use Rattle.std.specs.Option.{option_copied};
 ghost use Rattle.node_core.specs.Receivings.{seen};
 ghost use Rattle.node_core.specs.Nodes.{state_of};
-ghost use Rattle.node_runs.specs.Incomings.Incoming.{Nothing as received_nothing};
 ghost use Rattle.world_core.specs.Before.{is_before, count_before, before_link, behind_link};
 ghost use Rattle.world_core.specs.Firsts.{first_links};
 ghost use Rattle.world_core.specs.Stations.{comings, candidates, start, starts_of, notice_at, noticed, oldest, oldest_of, what_of, is_open_notice, open_ones};
@@ -41,6 +41,7 @@ fn taking(from: NodeId, waiting: Waiting) -> What
 }
 
 /// Puts an event last, if it is enabled.
+#[inline(always)]
 fn put_enabled<P: Program, G: Pages>(
     node: &Node<P, G>,
     list: &mut Vec<Coming>,
@@ -55,48 +56,53 @@ fn put_enabled<P: Program, G: Pages>(
     Ok(())
 }
 
-/// The same of an event that receives nothing, which is made once for all: it has room for a frame.
-fn put_start<P: Program, G: Pages>(
-    node: &Node<P, G>,
-    list: &mut Vec<Coming>,
-    what: What,
-    nothing: &Incoming,
-) -> Result<(), NoMemory>
-    requires { seen nothing.now ≡ received_nothing }
-    ensures { OnOk result (list.new.items ≡ list.old.items ++ comings node.now (start what ∷ [])) }
-{
-    let source = Source::Nothing;
-    put_enabled(node, list, Coming { what, source }, nothing)
-}
-
-/// The events of a process.
-#[tactic(auto, using(crate::proofs::Comings::comings_cons))]
+/// The event of a process that receives nothing, if one is enabled.
+#[inline(always)]
 fn put_process<P: Program, G: Pages>(
     node: &Node<P, G>,
     list: &mut Vec<Coming>,
     p: u8,
-    nothing: &Incoming,
 ) -> Result<(), NoMemory>
-    requires { seen nothing.now ≡ received_nothing }
+    requires { IsProc p }
     ensures { OnOk result (list.new.items ≡ list.old.items ++ comings node.now (starts_of p)) }
 {
-    put_start(node, list, What::Begin(p), nothing)?;
-    put_start(node, list, What::Go(p), nothing)
+    match node.start(p) {
+        Some(what) => {
+            let source = Source::Nothing;
+            list.push(Coming { what, source })?;
+            Ok(())
+        }
+        None => Ok(()),
+    }
 }
 
 /// The events of all processes.
+#[inline(always)]
 fn put_starts<P: Program, G: Pages>(
     node: &Node<P, G>,
     list: &mut Vec<Coming>,
-    nothing: &Incoming,
 ) -> Result<(), NoMemory>
-    requires { seen nothing.now ≡ received_nothing }
     ensures { OnOk result (list.new.items ≡ list.old.items ++ comings node.now (flat_map starts_of procs)) }
 {
-    put_process(node, list, 1, nothing)?;
-    put_process(node, list, 2, nothing)?;
-    put_process(node, list, 3, nothing)?;
-    put_process(node, list, 4, nothing)
+    for i in 0..4 {
+        put_process(node, list, i + 1)?;
+    }
+    Ok(())
+}
+
+/// The node's own mark of its phase, if it is enabled.
+#[inline(always)]
+fn put_ready<P: Program, G: Pages>(
+    node: &Node<P, G>,
+    list: &mut Vec<Coming>,
+) -> Result<(), NoMemory>
+    ensures { OnOk result (list.new.items ≡ list.old.items ++ comings node.now (start (events.Ready (state_of node.now).phase) ∷ [])) }
+{
+    if node.ready() {
+        let (what, source) = (What::Ready(node.phase()), Source::Nothing);
+        list.push(Coming { what, source })?;
+    }
+    Ok(())
 }
 
 /// The notice at a place.
@@ -113,7 +119,9 @@ fn is_open<P: Program, G: Pages>(node: &Node<P, G>, notice: &Notice) -> bool
     node.enabled(&notice.what(), &notice.incoming())
 }
 
-/// A notice, which is the one at this place.
+/// A notice, which is the one at this place. Not inlined, as below: notices are few, and what they need would be blanked
+/// at each event.
+#[inline(never)]
 fn put_notice<P: Program, G: Pages>(
     node: &Node<P, G>,
     list: &mut Vec<Coming>,
@@ -263,6 +271,15 @@ impl<P: Program, G: Pages> Station<P, G> {
         if self.notices.is_empty() {
             return Ok(());
         }
+        self.drop_closed(alloc)
+    }
+
+    /// The same of one notice and more.
+    #[inline(never)]
+    fn drop_closed(&mut self, alloc: Global) -> Result<(), NoMemory>
+        ensures notices { OnOk result (self.new.notices.items ≡ open_ones self.old.node self.old.notices.items) }
+        ensures others { IsKept self.old self.new }
+    {
         let notices = replace(&mut self.notices, Vec::new(alloc));
         for notice in notices {
             if is_open(&self.node, &notice) {
@@ -280,16 +297,10 @@ impl<P: Program, G: Pages> Station<P, G> {
     {
         self.keep_open(alloc)?;
         self.enabled.clear();
-        let nothing = Incoming::Nothing;
-        put_starts(&self.node, &mut self.enabled, &nothing)?;
+        put_starts(&self.node, &mut self.enabled)?;
         put_notices(&self.node, &mut self.enabled, self.notices.as_slice())?;
         put_links(&self.node, &mut self.enabled, self.ins.as_slice())?;
-        put_start(
-            &self.node,
-            &mut self.enabled,
-            What::Ready(self.node.phase()),
-            &nothing,
-        )
+        put_ready(&self.node, &mut self.enabled)
     }
 
     /// A notice comes. The events are listed anew, unless the event that sends the frame is the node's own.

@@ -1,4 +1,4 @@
-use Rattle.std.proofs.Common.{◌≡◌, ◌++◌, [], ◌∷◌, List, OnOk, ap, subst, ◌∙◌}
+use Rattle.std.proofs.Common.{◌++◌, [], ◌∷◌, List, ap, ◌∙◌}
 use Rattle.std.specs.Prelude.{flat_map}
 use Rattle.dom_history.specs.declared.event.What.TheVariants.{Ready}
 use Rattle.fault_handler.specs.Desks.{procs}
@@ -16,10 +16,10 @@ returns-clause-enabled g c =
     let starts = c.put_starts.new.list.items in
     let notices = c.put_notices.new.list.items in
     let links = c.put_links.new.list.items in
-    on_ok c.put_start.result
-    (put_all x.node c.clear.new.self.items starts notices links c.put_start.new.list.items
+    on_ok c.put_ready.result
+    (put_all x.node c.clear.new.self.items starts notices links c.put_ready.new.list.items
     (flat_map starts_of procs) (noticed 0 x.notices.items) (oldest 0 x.ins.items) (start (Ready (state_of x.node).phase) ∷ [])
     c.clear.ensures.items c.in_ok-put_starts.ensures
     (c.in_ok-put_notices.ensures ∙ ap (λ (xs : List Notice). starts ++ comings x.node (noticed 0 xs)) c.as_slice.ensures.value)
     (c.in_ok-put_links.ensures ∙ ap (λ (ls : List LinkFrom). notices ++ comings x.node (oldest 0 ls)) c.as_slice-2.ensures.value))
-    (subst (λ k. OnOk c.put_start.result (c.put_start.new.list.items ≡ links ++ comings x.node (start (Ready k) ∷ []))) c.phase.ensures c.put_start.ensures)
+    c.put_ready.ensures
