@@ -60,7 +60,10 @@ fn walk(alloc: Global, work: &Work, dir: Uid, path: &[u8]) -> Result<Machine, No
     ensures { IfOk result (λ talk. talk ≡ Name (WalkTalk (walk_of (site_of work.now) true (route_of path.now) dir))) }
 {
     let site = site(alloc, work)?;
-    named(alloc, NameTalk::Walk(Walk::new(alloc, site, path, dir, true)?))
+    named(
+        alloc,
+        NameTalk::Walk(Walk::new(alloc, site, path, dir, true)?),
+    )
 }
 
 /// The addition of a name with an object.
@@ -124,7 +127,10 @@ fn drop_name(alloc: Global, work: &Work, dir: Uid, path: &[u8]) -> Result<Machin
     ensures { IfOk result (λ talk. talk ≡ Name (DropTalk (drop_name_of (site_of work.now) (route_of path.now) dir))) }
 {
     let site = site(alloc, work)?;
-    named(alloc, NameTalk::Drop(DropName::new(alloc, site, path, dir)?))
+    named(
+        alloc,
+        NameTalk::Drop(DropName::new(alloc, site, path, dir)?),
+    )
 }
 
 /// The list of a directory.
