@@ -27,12 +27,13 @@ found_in P (e ∷ es) p all = by_number (e.0 == p) (found_in P es p (All-tail (�
     by_number true rest = All-head (λ x. P x.1) e es all
     by_number false rest = rest
 
-pub team_of_four : (a b c d : Round) → IsReady a → IsReady b → IsReady c → IsReady d → IsTeam ((1, a) ∷ (2, b) ∷ (3, c) ∷ (4, d) ∷ [])
-team_of_four a b c d is_a is_b is_c is_d = record {
+-- four programs that are ready are a team
+pub team_of_four : (team : List (ℕ × Round)) (a b c d : Round) → team ≡ (1, a) ∷ (2, b) ∷ (3, c) ∷ (4, d) ∷ [] → IsReady a → IsReady b → IsReady c → IsReady d → IsTeam team
+team_of_four team a b c d is is_a is_b is_c is_d = subst IsTeam (sym is) (record {
   numbers = four_programs;
   ready = All-cons (λ (e : ℕ × Round). IsReady e.1) (1, a) ((2, b) ∷ (3, c) ∷ (4, d) ∷ []) is_a (All-cons (λ (e : ℕ × Round). IsReady e.1) (2, b) ((3, c) ∷ (4, d) ∷ []) is_b
       (All-cons (λ (e : ℕ × Round). IsReady e.1) (3, c) ((4, d) ∷ []) is_c (All-cons (λ (e : ℕ × Round). IsReady e.1) (4, d) [] is_d (All-nil (λ (e : ℕ × Round). IsReady e.1)))));
-}
+})
 
 pub team_whole : (team : List (ℕ × Round)) (p : ℕ) → IsTeam team → IfSome (program_in team p) (λ r. r.spent ≡ false)
 team_whole team p is = found_in (λ r. r.spent ≡ false) team p (All-weaker (λ e. IsReady e.1) (λ e. e.1.spent ≡ false) (λ e h. h.whole) team is.ready)

@@ -153,6 +153,7 @@ fn program(
 }
 
 /// The programs of a node.
+#[tactic(auto, using(crate::proofs::Making::team_of_four))]
 pub(crate) fn team(
     alloc: Global,
     work: Work,

@@ -1,2 +1,0 @@
-use Rattle.measure.proofs.FourPrograms.{four_programs}
-use Rattle.measure.proofs.teams.team.Goals as goal
