@@ -6,8 +6,8 @@ use Rattle.world_core.specs.Stations.{start}
 use Rattle.world_core.proofs.Comings.{put_started}
 use Rattle.world_core.proofs.station.put_process.Goals as goal
 
-pub returns-in-Some : goal.returns-in-Some
-returns-in-Some g c =
+pub returns-in_ok-push-in-Some : goal.returns-in_ok-push-in-Some
+returns-in_ok-push-in-Some g c =
     let old = c.args.list.now.items in
     put_started c.args.node.now old c.push.new.self.items c.args.p c.start.result c.start.ensures.value
     (c.in_ok-push.ensures.items ∙ ap (λ (o : Option What). old ++ map (λ (what : What). (start what).coming) (option_to_list o)) (sym c.in-Some.is))
