@@ -10,7 +10,7 @@ pub returns-in_ok-push-in-Some : goal.returns-in_ok-push-in-Some
 returns-in_ok-push-in-Some g c =
     let old = c.args.list.now.items in
     put_started c.args.node.now old c.push.new.self.items c.args.p c.start.result c.start.ensures.value
-    (c.in_ok-push.ensures.items ∙ ap (λ (o : Option What). old ++ map (λ (what : What). (start what).coming) (option_to_list o)) (sym c.in-Some.is))
+    (c.in_ok-push-in-Some.ensures.items ∙ ap (λ (o : Option What). old ++ map (λ (what : What). (start what).coming) (option_to_list o)) (sym c.in-Some.is))
 
 pub returns-in-None : goal.returns-in-None
 returns-in-None g c =

@@ -14,9 +14,11 @@ loop-i-preserved g c =
     let new = c.put_process.new.list.items in
     let i = c.loop-i.i in
     let more : suc i ≡ i + 1 = omega arith in
-    let test = c.loop-i-test.true in
-    (subst (λ k. new ≡ old ++ comings node (starts_up_to k)) more
-      (put_more node old c.loop-i.list.items new (starts_up_to i) (starts_of (i + 1)) c.loop-i.invariant.0 c.in_ok-put_process.ensures), omega (arith, test))
+    let test = c.loop-i-test.true in (
+      subst (λ k. new ≡ old ++ comings node (starts_up_to k)) more
+          (put_more node old c.loop-i.list.items new (starts_up_to i) (starts_of (i + 1)) c.loop-i.invariant.0 c.in_ok-put_process.ensures),
+      omega (arith, test),
+    )
 
 pub returns : goal.returns
 returns g c =
