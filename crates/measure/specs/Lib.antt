@@ -1,3 +1,1 @@
 pub mod Repeating
-pub mod Rounds
-pub mod Teams

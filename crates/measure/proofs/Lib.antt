@@ -1,3 +1,0 @@
-pub mod FourPrograms
-pub mod Making
-pub mod SettingUp
