@@ -224,7 +224,13 @@ impl<P: Program, G: Pages> Machine<P, G> {
     {
         let at = index_of(proc);
         let process = &mut self.procs[at];
-        tell(alloc, &mut self.programs, proc.number(), last, &mut process.want)?;
+        tell(
+            alloc,
+            &mut self.programs,
+            proc.number(),
+            last,
+            &mut process.want,
+        )?;
         process.opened = None;
         process.phase = phase;
         Ok(())
