@@ -4,12 +4,6 @@ use Rattle.std.proofs.Math.Seq.{take-add}
 use Rattle.std.proofs.lemmas.List.{take_at}
 use Rattle.itoa.proofs.Decimal.{length_one, length_two, length_pair}
 
-pub one_digit : (n : ℕ) → n < 10 → length (decimal n) ≡ 1
-one_digit n h = length_one n h
-
-pub two_digits : (n : ℕ) → 10 ≤ n → n < 100 → length (decimal n) ≡ 2
-two_digits n low high = length_two n low high
-
 pub three_digits : (n : ℕ) → 100 ≤ n → n < 1000 → length (decimal n) ≡ 3
 three_digits n low high =
     let front = length_one (n / 100) (omega arith) in

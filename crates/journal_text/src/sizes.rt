@@ -20,7 +20,7 @@ fn sum_of(lengths: &[usize]) -> Option<usize>
 }
 
 /// How many digits a number below 10,000 has.
-#[tactic(auto, using(crate::proofs::Digits::one_digit, crate::proofs::Digits::two_digits, crate::proofs::Digits::three_digits, crate::proofs::Digits::four_digits))]
+#[tactic(auto, using(itoa::proofs::Decimal::length_one, itoa::proofs::Decimal::length_two, crate::proofs::Digits::three_digits, crate::proofs::Digits::four_digits))]
 #[inline(always)]
 fn short_len(n: u64) -> usize
     requires { n < 10000 }
