@@ -235,9 +235,6 @@ pub fn talk(
             let errand = copy_errand(alloc, work, dir, target)?;
             Ok(Some(seek(alloc, work, dir, path.bytes(), errand)?))
         }
-        _ => match name_talk(alloc, work, dir, command)? {
-            Some(machine) => Ok(Some(machine)),
-            None => Ok(None),
-        },
+        _ => name_talk(alloc, work, dir, command),
     }
 }
