@@ -11,6 +11,7 @@ use Rattle.ring_links.specs.declared.entry.Entry.{Entry}
 use Rattle.node_core.specs.declared.setup.Incoming as code
 use Rattle.node_core.specs.Receivings.{seen}
 use Rattle.node_core.specs.Nodes.{Noted, state_of, is_enabled}
+use Rattle.node_core.specs.Starts.{starts_of as events_of}
 use Rattle.world_core.specs.declared.coming.Coming.{Coming}
 use Rattle.world_core.specs.declared.coming.Source.TheVariants as sources
 use Rattle.world_core.specs.declared.notices.Notice.{Notice}
@@ -25,8 +26,9 @@ pub record Candidate : Type 0 where
 abbrev pub start : What → Candidate
 start what = record { coming = record { what = what; source = sources.Nothing }; incoming = Incoming.Nothing }
 
+-- those of a process
 abbrev pub starts_of : ℕ → List Candidate
-starts_of p = start (events.Begin p) ∷ start (events.Go p) ∷ []
+starts_of p = map start (events_of p)
 
 -- the notice of a frame with this number on its link
 abbrev pub notice_for : Message → ℕ → Notice
