@@ -1,4 +1,6 @@
 pub mod Filling
+pub mod NamesMarked
+pub mod SameNames
 pub mod Pieces
 pub mod NodeNames
 pub mod NodesNamed

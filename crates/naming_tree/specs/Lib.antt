@@ -2,6 +2,7 @@ pub mod Wholes
 pub mod Dialogues
 pub mod Components
 pub mod Padding
+pub mod Marks
 pub mod Records
 pub mod Directories
 pub mod Paths

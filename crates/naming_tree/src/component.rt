@@ -1,12 +1,16 @@
 //! The names that stand in directories.
-ghost use Rattle.std.specs.Prelude.{◌≡◌, ◌≤◌, length, IsTrue, IfSome, IfNone, ◌≢◌, true, false, MatchOption};
+ghost use Rattle.std.specs.Prelude.{◌≡◌, ◌≤◌, ◌<◌, length, IsTrue, IfSome, IfNone, ◌≢◌, true, false, MatchOption, bytes_eq};
 ghost use Rattle.std.specs.List.{list_all};
 ghost use Rattle.naming_tree.specs.Components.{is_component_byte as may_stand, is_component, filled as filled_up};
+ghost use Rattle.naming_tree.specs.Marks.{word_at, stirred as stirred_in, mark_of};
 
 use std::marker::Model;
 
 /// The most bytes of a name.
 pub const COMPONENT_BYTES: usize = 32;
+
+/// How many marks there are.
+pub(crate) const MARKS: usize = 1024;
 
 /// A name of a directory's record: 1 to 32 letters, digits, `_`, `$` and `.`.
 #[derive(Clone, Copy, Debug, PartialEq, Eq, PartialOrd, Ord)]
@@ -36,7 +40,10 @@ impl Model for Component {
 fn is_component_byte(byte: u8) -> bool
     ensures { result ≡ may_stand byte }
 {
-    matches!(byte, b'a'..=b'z' | b'A'..=b'Z' | b'0'..=b'9' | b'_' | b'$' | b'.')
+    byte.is_ascii_lowercase()
+        || byte.is_ascii_digit()
+        || byte.is_ascii_uppercase()
+        || matches!(byte, b'_' | b'$' | b'.')
 }
 
 /// Whether each byte may stand in a name.
@@ -44,6 +51,25 @@ fn are_component_bytes(name: &[u8]) -> bool
     ensures { result ≡ list_all may_stand name.now }
 {
     name.iter().all(|b| is_component_byte(*b))
+}
+
+/// Eight of these bytes, as a number.
+fn word(bytes: &[u8; COMPONENT_BYTES], start: usize) -> u64
+    requires { start ≤ 24 }
+    ensures { result ≡ word_at start bytes.now }
+{
+    let mut word = [0; 8];
+    word.copy_from_slice(&bytes[start..start + 8]);
+    u64::from_le_bytes(word)
+}
+
+/// A word stirred into what the words before it gave.
+fn stirred(before: u64, word: u64) -> u64
+    ensures { result ≡ stirred_in before word }
+{
+    before
+        .wrapping_add(word)
+        .wrapping_mul(0x9e37_79b9_7f4a_7c15)
 }
 
 impl Component {
@@ -69,6 +95,31 @@ impl Component {
     {
         &self.bytes[..self.size as usize]
     }
+
+    /// Whether it is the same name. Takes no memory.
+    #[inline(always)]
+    pub(crate) fn is(&self, other: &Component) -> bool
+        ensures { result ≡ bytes_eq self.now other.now }
+    {
+        let (own, others) = (self.filled(), other.filled());
+        // Names that differ mostly do so in their first word.
+        if word(own, 0) != word(others, 0) {
+            return false;
+        }
+        self.size == other.size && *own == *others
+    }
+
+    /// A number that the name determines; that of another name is mostly another. Takes no memory.
+    pub(crate) fn mark(&self) -> usize
+        ensures value { result ≡ mark_of self.now }
+        ensures few { result < MARKS }
+    {
+        let bytes = self.filled();
+        let front = stirred(stirred(0, word(bytes, 0)), word(bytes, 8));
+        let all = stirred(stirred(front, word(bytes, 16)), word(bytes, 24));
+        (all >> 54) as usize
+    }
+
     /// Its bytes, filled up with zeros. Takes no memory.
     pub fn filled(&self) -> &[u8; COMPONENT_BYTES]
         ensures { result.now ≡ filled_up self.now }

@@ -5,7 +5,7 @@ ghost use Rattle.naming_tree.specs.declared.directory.DirFault.TheVariants as fa
 ghost use Rattle.naming_tree.specs.declared.directory.TheConstants.{MOST_RECORDS};
 ghost use Rattle.naming_tree.specs.Directories.{slots_of, has_name as has_this_name, is_new as is_new_among, are_apart as names_are_apart, directory_of, rows_of, rows_in, row_named, placed_row, first_free};
 
-use crate::component::Component;
+use crate::component::{Component, MARKS};
 use crate::row::{DirRow, RECORD_BYTES};
 use crate::slot::{Slot, slot};
 use std::alloc::{AllocError, AllocFailed, Global};
@@ -74,7 +74,7 @@ fn has_name(slot: &Slot, name: &Component) -> bool
     ensures { result ≡ has_this_name name.now slot.now }
 {
     match slot {
-        Some(row) => row.name.bytes() == name.bytes(),
+        Some(row) => row.name.is(name),
         None => false,
     }
 }
@@ -91,23 +91,22 @@ fn is_taken(slots: &[Slot], name: &Component) -> bool
     false
 }
 
-/// Whether no other record has the name of a record.
-fn is_new(record: &Slot, others: &[Slot]) -> bool
-    ensures { result ≡ is_new_among record.now others.now }
-{
-    match record {
-        Some(row) => !is_taken(others, &row.name),
-        None => true,
-    }
-}
-
 /// Whether no two records have one name.
 fn are_apart(slots: &[Slot]) -> bool
     ensures { result ≡ names_are_apart slots.now }
 {
-    for i in 0..slots.len() {
-        if !is_new(&slots[i], &slots[i + 1..]) {
-            return false;
+    // The marks of the names that were passed.
+    let mut marked = [false; MARKS];
+    let mut i = slots.len();
+    while 0 < i {
+        i -= 1;
+        if let Some(row) = &slots[i] {
+            let mark = row.name.mark();
+            // A name is looked for among them only where one of them has its mark.
+            if marked[mark] && is_taken(&slots[i + 1..], &row.name) {
+                return false;
+            }
+            marked[mark] = true;
         }
     }
     true
@@ -149,9 +148,9 @@ fn placed(slots: &[Slot], name: &Component) -> Option<(usize, DirRow)>
     ensures within { IfSome result (λ placed. placed.0 < length slots.now) }
 {
     for i in 0..slots.len() {
-        if let Some(row) = slots[i] {
-            if row.name.bytes() == name.bytes() {
-                return Some((i, row));
+        if let Some(row) = &slots[i] {
+            if row.name.is(name) {
+                return Some((i, *row));
             }
         }
     }

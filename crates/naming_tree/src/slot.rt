@@ -70,7 +70,8 @@ fn row_spelled(record: &[u8; RECORD_BYTES]) -> Option<DirRow>
 pub(crate) fn slot(record: &[u8; RECORD_BYTES]) -> Option<Slot>
     ensures { result ≡ slot_of record.now }
 {
-    if *record == [0; RECORD_BYTES] {
+    // The first byte of a row is no zero.
+    if record[0] == 0 && *record == [0; RECORD_BYTES] {
         return Some(None);
     }
     Some(Some(row_spelled(record)?))

@@ -1,7 +1,17 @@
-use Rattle.std.proofs.Common.{◌≡◌, drop}
+use Rattle.std.proofs.Common.{◌≡◌, ◌≤◌, true, drop, length}
+use Rattle.naming_tree.specs.declared.component.TheConstants.{MARKS}
 use Rattle.naming_tree.specs.Directories.{are_apart}
+use Rattle.naming_tree.proofs.NamesMarked.{AreMarked}
 use Rattle.naming_tree.proofs.directory.are_apart.Given as goal
 
--- those so far are apart from each other and from those to come
 abbrev pub invariant-loop-i : goal.invariant-loop-i
-invariant-loop-i l = are_apart l.slots ≡ are_apart (drop l.i l.slots)
+invariant-loop-i l = record {
+  within : l.i ≤ length l.slots;
+  size : length l.marked ≡ MARKS;
+  -- those that were passed are apart from each other
+  apart : are_apart (drop l.i l.slots) ≡ true;
+  marked : AreMarked l.marked (drop l.i l.slots);
+}
+
+abbrev pub decreases-loop-i : goal.decreases-loop-i
+decreases-loop-i l = l.i
