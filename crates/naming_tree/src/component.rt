@@ -40,10 +40,7 @@ impl Model for Component {
 fn is_component_byte(byte: u8) -> bool
     ensures { result ≡ may_stand byte }
 {
-    byte.is_ascii_lowercase()
-        || byte.is_ascii_digit()
-        || byte.is_ascii_uppercase()
-        || matches!(byte, b'_' | b'$' | b'.')
+    byte.is_ascii_alphanumeric() || matches!(byte, b'_' | b'$' | b'.')
 }
 
 /// Whether each byte may stand in a name.

@@ -3,7 +3,7 @@ ghost use Rattle.std.specs.Prelude.{◌≡◌, ◌≢◌, ◌≤◌, ◌<◌, �
 ghost use Rattle.std.specs.List.{list_any};
 ghost use Rattle.naming_tree.specs.declared.directory.DirFault.TheVariants as faults;
 ghost use Rattle.naming_tree.specs.declared.directory.TheConstants.{MOST_RECORDS};
-ghost use Rattle.naming_tree.specs.Directories.{slots_of, has_name as has_this_name, is_new as is_new_among, are_apart as names_are_apart, directory_of, rows_of, rows_in, row_named, placed_row, first_free};
+ghost use Rattle.naming_tree.specs.Directories.{slots_of, has_name as has_this_name, are_apart as names_are_apart, directory_of, rows_of, rows_in, row_named, placed_row, first_free};
 
 use crate::component::{Component, MARKS};
 use crate::row::{DirRow, RECORD_BYTES};

@@ -1,4 +1,4 @@
-use Rattle.std.proofs.Common.{◌≡◌, length, ap, sym, ◌∙◌}
+use Rattle.std.proofs.Common.{sym, ◌∙◌}
 use Rattle.std.proofs.lemmas.Bool.{ne_eqb}
 use Rattle.naming_tree.proofs.SameNames.{length_is, by_filled, by_words, by_lengths}
 use Rattle.naming_tree.proofs.component.Component.is.Goals as goal
