@@ -4,6 +4,7 @@ use Rattle.std.proofs.Common.{◌≡◌, ℕ, ◌+◌, ◌<◌, ◌≤◌, nat_l
 use Rattle.std.specs.Prelude.{not, ◌&&◌}
 use Rattle.std.specs.List.{list_any}
 use Rattle.std.specs.Option.{unwrap_or}
+use Rattle.std.proofs.lemmas.Bool.{and_parts}
 use Rattle.std.proofs.lemmas.Bool.Decides.{nat_tests}
 use Rattle.std.proofs.lemmas.List.{length-take}
 use Rattle.uid_names.specs.Names.{ObjectName}
@@ -18,7 +19,7 @@ use Rattle.dom_history.specs.Fitting.{Fits}
 use Rattle.dom_history.specs.Replies.{may_write}
 use Rattle.page_cache.specs.Caches.{Resident, page_at, free_count}
 use Rattle.page_cache.specs.Changes.{without_page}
-use Rattle.page_cache.specs.Victims.{is_dirty_choice, oldest}
+use Rattle.page_cache.specs.Victims.{oldest}
 use Rattle.page_cache.proofs.PageLemmas.{page_at-oldest}
 use Rattle.uid_names.proofs.Finds.{find-passes}
 use Rattle.uid_names.proofs.ListLemmas.{by_cases}
@@ -34,13 +35,12 @@ use Rattle.fault_handler.specs.declared.tasks.Task.{Task}
 use Rattle.fault_handler.specs.Entries.{grant_in, keeps, keeps_writing}
 use Rattle.fault_handler.specs.Transits.{coming, going}
 use Rattle.fault_handler.specs.Tasks.{page_of, start_of, size_of}
-use Rattle.fault_handler.specs.ShownPages.{is_in_transit}
 use Rattle.fault_handler.specs.Desks.{DeskState, IsNode, entry_at, any_keeps, any_writes, open_call_of, task_of, moving_of, others_fetch, grant_among, writing_grant, base_of}
 use Rattle.fault_handler.specs.Changes.{with_used, with_stored, with_dropped, with_end, with_fetch, with_eviction}
 use Rattle.fault_handler.specs.Outcomes.{Moved, ended, waiting}
-use Rattle.fault_handler.specs.Victims.{Victim, MayMakeRoom, is_idle_page}
+use Rattle.fault_handler.specs.Victims.{Victim, MayMakeRoom, is_idle_dirty}
 use Rattle.fault_handler.specs.Accesses.{page_out, performed, fetched, room_made, frame_by, missed_by, page_by, page_access}
-use Rattle.fault_handler.specs.Invariant.{IsProc, is_dirty, is_marked, IsAllowed, IsLockEntryState, IsLockEntry, IsDesk}
+use Rattle.fault_handler.specs.Invariant.{IsProc, is_dirty, IsAllowed, IsLockEntryState, IsLockEntry, IsDesk}
 use Rattle.fault_handler.specs.Conditions.{IsIdle}
 use Rattle.fault_handler.specs.Ready.{IsReady, IsReadyAt}
 use Rattle.fault_handler.specs.Next.{IsTaskOf, IsCallOf, IsRequest, MayGoOn}
@@ -48,7 +48,7 @@ use Rattle.fault_handler.proofs.Fours.{first, second, third, fourth, at-put_same
 use Rattle.fault_handler.proofs.PageLists.{is_same, same-uid, same-page, page_at-without_same, page_at-without_other}
 use Rattle.fault_handler.proofs.PageKeeps.{IsDesk-with_dropped}
 use Rattle.fault_handler.proofs.TransitKeeps.{keeps_writing-keeps, any_writes-keeps, dirty-writes}
-use Rattle.fault_handler.proofs.Choice.{named-there, victim-there}
+use Rattle.fault_handler.proofs.Choice.{idle-still, named-there, victim-there}
 use Rattle.fault_handler.proofs.Outcomes.{IsAfter, IsServed, Holds}
 
 -- what holds after a load or store whose local tests passed
@@ -151,11 +151,6 @@ absent-without pages u k v j none =
     (λ same. rw (same-uid v j u k same, same-page v j u k same) (page_at-without_same pages u k))
     (λ differ. page_at-without_other pages u k v j differ ∙ none)
 
--- an idle page is not on its way home
-pub idle-still : (o : Option Resident) → is_idle_page o ≡ true → is_marked o ≡ false
-idle-still None is = absurd (cc)
-idle-still (Some r) is = grind (arith, nat_tests, is)
-
 module _ (d : DeskState) (p : ℕ) (task : Task) (is : IsDesk d) (proc : IsProc p) (idle : IsIdle d p) (allowed : IsAllowed d.entries p task) (op : Op) (of : IsTaskOf op (Some task)) where
   -- at its page
   pub performed-after : (work : Work) (r : Resident) → task.work ≡ work → length r.bytes ≡ PAGE_BYTES → IsDoneAfter d.node d.nodes p op (performed d task work r)
@@ -201,8 +196,8 @@ module _ (d : DeskState) (p : ℕ) (task : Task) (is : IsDesk d) (proc : IsProc 
 -- room is made, and the page is asked for
 module _ (d : DeskState) (p : ℕ) (task : Task) (is : IsDesk d) (proc : IsProc p) (idle : IsIdle d p) (allowed : IsAllowed d.entries p task) (op : Op) (of : IsTaskOf op (Some task))
     (absent : page_at d.cache.pages task.uid (page_of task) ≡ None) (alone : others_fetch d.moving p task.uid (page_of task) ≡ false) where
-  evicted-after : (r : Resident) → page_at d.cache.pages r.uid r.page ≡ Some r → r.flags.dirty ≡ true → is_in_transit r ≡ false → IsDoneAfter d.node d.nodes p op (room_made d p task (Victim.SendsHome r))
-  evicted-after r found dirty still =
+  evicted-after : (r : Resident) → page_at d.cache.pages r.uid r.page ≡ Some r → r.flags.dirty ≡ true → IsDoneAfter d.node d.nodes p op (room_made d p task (Victim.SendsHome r))
+  evicted-after r found dirty =
       let is_dirty_there : is_dirty (page_at d.cache.pages r.uid r.page) ≡ true = rw found dirty in
       let shown = rw found at (is.pages.each r.uid r.page) in
       let writes = dirty-writes d p is proc r.uid r.page is_dirty_there in
@@ -223,28 +218,21 @@ module _ (d : DeskState) (p : ℕ) (task : Task) (is : IsDesk d) (proc : IsProc 
         tt,
       )
 
-  room_made-after : (victim : Victim) → MayMakeRoom d.cache.pages victim → IsDoneAfter d.node d.nodes p op (room_made d p task victim)
+  room_made-after : (victim : Victim) → MayMakeRoom d victim → IsDoneAfter d.node d.nodes p op (room_made d p task victim)
   room_made-after (Victim.Drops u k) may =
-      fetched-after (with_dropped d u k) p task (IsDesk-with_dropped d u k is (idle-still (page_at d.cache.pages u k) may)) proc
+      fetched-after (with_dropped d u k) p task (IsDesk-with_dropped d u k is (idle-still d u k may)) proc
       (record { no_call = idle.no_call; no_page = idle.no_page; keeping = idle.keeping }) allowed op of
       (absent-without d.cache.pages u k task.uid (page_of task) absent) alone ((u, k) ∷ [])
   room_made-after (Victim.SendsHome r) may =
-      let chosen : is_dirty_choice r ≡ true = dirty-passes d.cache.pages r may.1 in
-      evicted-after r (page_at-oldest d.cache.pages is.pages.once is_dirty_choice r may.1) (choice-dirty r chosen) (choice-still r chosen)
+      evicted-after r (page_at-oldest d.cache.pages is.pages.once (is_idle_dirty d.moving) r may.1) (choice-dirty r (find-passes (is_idle_dirty d.moving) (reverse d.cache.pages) r may.1))
     where
-      dirty-passes : (pages : List Resident) (x : Resident) → oldest is_dirty_choice pages ≡ Some x → is_dirty_choice x ≡ true
-      dirty-passes pages x found = find-passes is_dirty_choice (reverse pages) x found
-
-      choice-dirty : (x : Resident) → is_dirty_choice x ≡ true → x.flags.dirty ≡ true
-      choice-dirty x chosen = grind (arith, nat_tests, chosen)
-
-      choice-still : (x : Resident) → is_dirty_choice x ≡ true → is_in_transit x ≡ false
-      choice-still x chosen = grind (arith, nat_tests, chosen)
+      choice-dirty : (x : Resident) → is_idle_dirty d.moving x ≡ true → x.flags.dirty ≡ true
+      choice-dirty x chosen = (and_parts x.flags.dirty _ chosen).0
 
   frame_by-after : (free : Bool) → nat_lt 0 (free_count d.cache) ≡ free → Holds p (IsDoneAfter d.node d.nodes p op) (frame_by d p task free)
   frame_by-after true some = fetched-after d p task is proc idle allowed op of absent alone []
   frame_by-after false full = (
-    named-there d.cache.pages (victim-there d p is proc idle.no_page (grind (arith, nat_tests, full))),
+    named-there d (victim-there d p is proc idle.no_page (grind (arith, nat_tests, full))),
     is.pages.once,
     room_made-after,
   )

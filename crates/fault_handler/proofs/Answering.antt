@@ -30,14 +30,13 @@ use Rattle.fault_handler.specs.Accesses.{page_out}
 use Rattle.fault_handler.specs.PageReplies.{PageAnswer, answer_inward, answer_outward, answer_by, page_answer, page_by_stamp, room_taken, room_sent_again, page_came_of, failed_way, access_failed_of}
 use Rattle.fault_handler.specs.LockCalls.{LockCall, lock_call, fits_call, fits_by, answers}
 use Rattle.fault_handler.specs.Unseen.{fits_way, fits_lock, said_to}
-use Rattle.fault_handler.specs.Invariant.{IsProc, IsAllowed, is_access, is_marked, is_dirty, IsOpenTask, IsDesk}
+use Rattle.fault_handler.specs.Invariant.{IsProc, IsAllowed, is_access, is_dirty, IsOpenTask, IsDesk}
 use Rattle.fault_handler.specs.Conditions.{IsIdle, IsAccessing}
 use Rattle.fault_handler.specs.Next.{IsTaskOf, IsCallOf, IsRequest, IsOpen}
 use Rattle.fault_handler.proofs.PageLists.{found-uid, found-page}
 use Rattle.fault_handler.proofs.Moves.{moving-uid, moving-page}
-use Rattle.fault_handler.proofs.PageKeeps.{marked-there}
 use Rattle.fault_handler.proofs.KnownKeeps.{IsDesk-with_raised}
-use Rattle.fault_handler.proofs.TransitKeeps.{open_task, going-marked, dirty-writes, IsDesk-with_arrival, IsDesk-with_loss, IsDesk-with_room_settled, IsIdle-with_arrival, IsIdle-with_loss, IsIdle-with_room_settled}
+use Rattle.fault_handler.proofs.TransitKeeps.{there_is, open_task, going-resident, dirty-writes, IsDesk-with_arrival, IsDesk-with_loss, IsDesk-with_room_settled, IsIdle-with_arrival, IsIdle-with_loss, IsIdle-with_room_settled}
 use Rattle.fault_handler.proofs.Outcomes.{Holds, each-some}
 use Rattle.fault_handler.proofs.Accessing.{IsDoneAfter, stamp-seen, home-kept, home-written, ready-open, page_out-asked, performed-after, page_access-after}
 
@@ -129,7 +128,7 @@ module _ (d : DeskState) (p : ℕ) (is : IsDesk d) (proc : IsProc p) (access : I
 
     -- the page that goes home is there
     going-there : t.inward ≡ false → (r : Resident) × (page_at d.cache.pages t.uid t.page ≡ Some r)
-    going-there goes = let found = marked-there (page_at d.cache.pages t.uid t.page) (going-marked d p is proc t.uid t.page (going-own goes)).0 in (found.0, found.1)
+    going-there goes = there_is (page_at d.cache.pages t.uid t.page) (going-resident d p is proc t.uid t.page (going-own goes)).0
 
     other-fits : (answer : Answer) → (answer_inward task answer ≡ None) → ((o : Option Resident) → answer_outward task o answer ≡ None) → fits_call d p (open_call_of d p) answer ≡ false
     other-fits answer inward outward = fits-by answer ∙ by_way t.inward
@@ -228,7 +227,7 @@ module _ (d : DeskState) (p : ℕ) (is : IsDesk d) (proc : IsProc p) (access : I
         performed-after (with_arrival raised_desk p task.uid (page_of task) bytes) p task arrived proc idle come.allowed op (task-op task come.there) task.work (fresh_page task.uid (page_of task) bytes) refl come.whole
 
     pub sent-seen : (task : Task) (r : Resident) (stamp : ℕ) → IsSent d p task r stamp → IsSome (stamp_of r.uid d.seen)
-    sent-seen task r stamp sent = stamp-seen d is r.uid (going-marked d p is proc r.uid r.page sent.goes).1
+    sent-seen task r stamp sent = stamp-seen d is r.uid (going-resident d p is proc r.uid r.page sent.goes).1
 
     room_taken-after : (task : Task) (r : Resident) (stamp : ℕ) → IsSent d p task r stamp → Holds p (IsDoneAfter d.node d.nodes p op) (page_came_of d p (PageAnswer.Taken task r stamp))
     room_taken-after task r stamp sent =
@@ -242,7 +241,6 @@ module _ (d : DeskState) (p : ℕ) (is : IsDesk d) (proc : IsProc p) (access : I
     room_sent_again-after : (task : Task) (r : Resident) (stamp : ℕ) → IsSent d p task r stamp → IsDoneAfter d.node d.nodes p op (room_sent_again (with_raised d r.uid stamp) r)
     room_sent_again-after task r stamp sent =
         let is_raised : IsDesk (with_raised d r.uid stamp) = IsDesk-with_raised d r.uid stamp is (sent-seen task r stamp sent) sent.least in
-        let marked : is_marked (page_at d.cache.pages r.uid r.page) ≡ true = (going-marked d p is proc r.uid r.page sent.goes).0 in
         let writes : any_writes d.entries r.uid ≡ true = dirty-writes d p is proc r.uid r.page sent.dirty in
         let shown = rw sent.found at (is.pages.each r.uid r.page) in (
           record {

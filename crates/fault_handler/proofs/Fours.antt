@@ -3,7 +3,7 @@ use Rattle.std.proofs.Common.{◌≡◌, ◌≢◌, ℕ, zero, suc, ◌+◌, ◌
 use Rattle.std.specs.Prelude.{◌==◌, not, ◌&&◌}
 use Rattle.std.proofs.lemmas.Bool.{cases_eq}
 use Rattle.std.proofs.lemmas.Bool.Decides.{nat_tests}
-use Rattle.std.proofs.lemmas.List.{get_or-set_same, get_or-set_other, length-set}
+use Rattle.std.proofs.lemmas.List.{get_or-set_same, get_or-set_other, set-get_or, length-set}
 use Rattle.std.specs.List.{list_any}
 use Rattle.uid_names.proofs.ListLemmas.{by_cases}
 use Rattle.fault_handler.specs.declared.transits.Transit.{Transit}
@@ -40,6 +40,10 @@ at-put_same kept p new none four is = let a = is.0 in let b = is.1 in get_or-set
 pub at-put_other : {A : Type 0} (kept : List A) (p q : ℕ) (new none : A) → IsProc p → IsProc q → q ≢ p → at (put_at kept p new) q none ≡ at kept q none
 at-put_other kept p q new none is other differs =
     let a = is.0 in let b = other.0 in get_or-set_other kept (p - 1) (q - 1) new none (λ same. differs (omega arith))
+
+-- nothing changes where it stood there
+pub put-same : {A : Type 0} (kept : List A) (p : ℕ) (new none : A) → at kept p none ≡ new → put_at kept p new ≡ kept
+put-same kept p new none is = ap (put_at kept p) (sym is) ∙ set-get_or kept (p - 1) none
 
 -- there are as many as before
 pub length-put : {A : Type 0} (kept : List A) (p : ℕ) (new : A) → length kept ≡ 4 → length (put_at kept p new) ≡ 4

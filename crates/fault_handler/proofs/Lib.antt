@@ -6,6 +6,7 @@ pub mod Moves
 pub mod PageKeeps
 pub mod KnownKeeps
 pub mod Shown
+pub mod Marks
 pub mod EntryLists
 pub mod TransitKeeps
 pub mod LockKeeps
@@ -17,6 +18,5 @@ pub mod Answering
 pub mod Reached
 pub mod Replying
 pub mod SeenRows
-pub mod Movers
 pub mod Idle
 pub mod Nothing

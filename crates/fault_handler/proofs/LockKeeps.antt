@@ -200,7 +200,7 @@ module _ (d : DeskState) (new : List (List LockEntry)) (is : IsDesk d) where
       frames = is.frames;
       maps = is.maps;
       pages = record { once = is.pages.once; each = λ v k. shown v k (page_at d.cache.pages v k) refl (is.pages.each v k) };
-      moved = record { reserved = is.moved.reserved; marked = is.moved.marked; each = λ q proc. fits q proc (moving_of d q) refl (is.moved.each q proc); apart = is.moved.apart };
+      moved = record { reserved = is.moved.reserved; each = λ q proc. fits q proc (moving_of d q) refl (is.moved.each q proc); apart = is.moved.apart };
       calls = opened;
       entries = entries;
       known = record { rows = is.known.rows; stamps = is.known.stamps; kept = stamped; both = is.known.both };
@@ -398,7 +398,6 @@ IsDesk-empty_desk node nodes frames least = record {
   pages = record { once = λ u k. omega arith; each = λ u k. tt };
   moved = record {
     reserved = refl;
-    marked = refl;
     each = by_proc (λ q. FitsTransit [] (empty_desk node nodes frames).entries q (at (empty_desk node nodes frames).moving q None)) tt tt tt tt;
     apart = λ q r one two u k own_q moves. absurd (nothing q one u k own_q);
   };

@@ -5,16 +5,16 @@ use Rattle.std.proofs.lemmas.Bool.{cases_eq}
 use Rattle.std.proofs.lemmas.Bool.Decides.{nat_tests}
 use Rattle.uid_names.specs.Names.{ObjectName}
 use Rattle.page_cache.specs.Caches.{Resident, page_at}
+use Rattle.uid_names.proofs.ListLemmas.{none_is_no_some}
 use Rattle.fault_handler.specs.declared.entries.LockEntry.{LockEntry}
 use Rattle.fault_handler.specs.declared.transits.Transit.{Transit}
 use Rattle.fault_handler.specs.declared.tasks.Task.{Task}
 use Rattle.fault_handler.specs.declared.open_call.OpenCall.{OpenCall}
 use Rattle.fault_handler.specs.declared.open_call.OpenCall.TheVariants.{Access, Lock, PageOut, AttrOut, Unlock, Remove}
-use Rattle.fault_handler.specs.ShownPages.{is_in_transit}
-use Rattle.fault_handler.specs.Transits.{is_moving, is_coming, inward_count, outward_count, going}
+use Rattle.fault_handler.specs.Transits.{is_moving, is_coming, inward_count, going}
 use Rattle.fault_handler.specs.Entries.{keeps}
 use Rattle.fault_handler.specs.Desks.{at, put_at, entry_at, count_of, others_fetch}
-use Rattle.fault_handler.specs.Invariant.{IsProc, is_marked, FitsWay, FitsTransit, AreApart, AreMoved, is_access, IsOpenTask, FitsOpen, AreOpen}
+use Rattle.fault_handler.specs.Invariant.{IsProc, FitsWay, FitsTransit, AreApart, AreMoved, is_access, IsOpenTask, FitsOpen, AreOpen}
 use Rattle.fault_handler.proofs.Fours.{at-put_same, at-put_other, each-put, any-not, count_of-put}
 use Rattle.fault_handler.proofs.PageLists.{same-uid, same-page}
 use Rattle.fault_handler.proofs.Alike.{AreAlike, FitsTransit-alike, FitsOpen-alike}
@@ -57,58 +57,53 @@ AreApart-put moving p new four is apart alone q r one two u k =
 pub AreMoved-put : (frames after : ℕ) (old new : List Resident) (entries : List (List LockEntry)) (moving : List (Option Transit)) (p : ℕ) (t : Option Transit)
     → length moving ≡ 4 → IsProc p → AreMoved frames old entries moving
     → after + inward_count (at moving p None) ≡ frames + inward_count t
-    → count_by is_in_transit new + outward_count (at moving p None) ≡ count_by is_in_transit old + outward_count t
     → FitsTransit new entries p t
     → ((q : ℕ) → IsProc q → q ≢ p → AreAlike old new (at moving q None))
     → ((q : ℕ) → IsProc q → q ≢ p → (u : ObjectName) (k : ℕ) → is_moving u k t ≡ true → is_moving u k (at moving q None) ≡ true → ⊥)
     → AreMoved after new entries (put_at moving p t)
-AreMoved-put frames after old new entries moving p t four is moved reserved marked here alike alone = record {
+AreMoved-put frames after old new entries moving p t four is moved reserved here alike alone = record {
   reserved =
       let a : frames ≡ count_of inward_count moving = moved.reserved in
       let b : count_of inward_count (put_at moving p t) + inward_count (at moving p None) ≡ count_of inward_count moving + inward_count t = count_of-put inward_count moving p t four is in omega arith;
-  marked =
-      let a : count_by is_in_transit old ≡ count_of outward_count moving = moved.marked in
-      let b : count_of outward_count (put_at moving p t) + outward_count (at moving p None) ≡ count_of outward_count moving + outward_count t = count_of-put outward_count moving p t four is in omega arith;
   each = each-put (FitsTransit new entries) moving p t None four is here (λ q proc differs. FitsTransit-alike old new entries q (at moving q None) (alike q proc differs) (moved.each q proc));
   apart = AreApart-put moving p t four is moved.apart alone;
 }
 
 -- nothing moves, while pages change that no process moves
 pub AreMoved-alike : (frames : ℕ) (old new : List Resident) (entries : List (List LockEntry)) (moving : List (Option Transit)) → AreMoved frames old entries moving
-    → count_by is_in_transit new ≡ count_by is_in_transit old → ((q : ℕ) → IsProc q → AreAlike old new (at moving q None)) → AreMoved frames new entries moving
-AreMoved-alike frames old new entries moving moved same alike = record {
+    → ((q : ℕ) → IsProc q → AreAlike old new (at moving q None)) → AreMoved frames new entries moving
+AreMoved-alike frames old new entries moving moved alike = record {
   reserved = moved.reserved;
-  marked = same ∙ moved.marked;
   each = λ q proc. FitsTransit-alike old new entries q (at moving q None) (alike q proc) (moved.each q proc);
   apart = moved.apart;
 }
 
-pub AreOpen-alike : (frames : ℕ) (old new : List Resident) (entries : List (List LockEntry)) (calls : List (Option OpenCall)) (tasks : List (Option Task)) (moving : List (Option Transit)) → AreMoved frames old entries moving → AreOpen old entries calls tasks moving
+pub AreOpen-alike : (old new : List Resident) (entries : List (List LockEntry)) (calls : List (Option OpenCall)) (tasks : List (Option Task)) (moving : List (Option Transit)) → AreOpen old entries calls tasks moving
     → ((q : ℕ) → IsProc q → AreAlike old new (at moving q None)) → AreOpen new entries calls tasks moving
-AreOpen-alike frames old new entries calls tasks moving moved open_ones alike q proc =
-    FitsOpen-alike old new entries q (is_access (at calls q None)) (at tasks q None) (at moving q None) (alike q proc) (moved.each q proc) (open_ones q proc)
+AreOpen-alike old new entries calls tasks moving open_ones alike q proc =
+    FitsOpen-alike old new entries q (is_access (at calls q None)) (at tasks q None) (at moving q None) (alike q proc) (open_ones q proc)
 
 -- a process opens or ends a load or store
-pub AreOpen-put : (frames : ℕ) (old new : List Resident) (entries : List (List LockEntry)) (calls : List (Option OpenCall)) (tasks : List (Option Task)) (moving : List (Option Transit))
+pub AreOpen-put : (old new : List Resident) (entries : List (List LockEntry)) (calls : List (Option OpenCall)) (tasks : List (Option Task)) (moving : List (Option Transit))
     (p : ℕ) (call : Option OpenCall) (task : Option Task) (t : Option Transit) → length calls ≡ 4 → length tasks ≡ 4 → length moving ≡ 4 → IsProc p
-    → AreMoved frames old entries moving → AreOpen old entries calls tasks moving
+    → AreOpen old entries calls tasks moving
     → FitsOpen new entries p (is_access call) task t
     → ((q : ℕ) → IsProc q → q ≢ p → AreAlike old new (at moving q None))
     → AreOpen new entries (put_at calls p call) (put_at tasks p task) (put_at moving p t)
-AreOpen-put frames old new entries calls tasks moving p call task t fc ft fm is moved open_ones here alike =
+AreOpen-put old new entries calls tasks moving p call task t fc ft fm is open_ones here alike =
     each-put_three (λ q c x m. FitsOpen new entries q (is_access c) x m) calls tasks moving p call None task None t None fc ft fm is here
-    (λ q proc differs. FitsOpen-alike old new entries q (is_access (at calls q None)) (at tasks q None) (at moving q None) (alike q proc differs) (moved.each q proc) (open_ones q proc))
+    (λ q proc differs. FitsOpen-alike old new entries q (is_access (at calls q None)) (at tasks q None) (at moving q None) (alike q proc differs) (open_ones q proc))
 
 -- a process of which no load or store is open moves another page
-pub AreOpen-moved : (frames : ℕ) (old new : List Resident) (entries : List (List LockEntry)) (calls : List (Option OpenCall)) (tasks : List (Option Task)) (moving : List (Option Transit))
+pub AreOpen-moved : (old new : List Resident) (entries : List (List LockEntry)) (calls : List (Option OpenCall)) (tasks : List (Option Task)) (moving : List (Option Transit))
     (p : ℕ) (t : Option Transit) → length moving ≡ 4 → IsProc p
-    → AreMoved frames old entries moving → AreOpen old entries calls tasks moving
+    → AreOpen old entries calls tasks moving
     → FitsOpen new entries p (is_access (at calls p None)) (at tasks p None) t
     → ((q : ℕ) → IsProc q → q ≢ p → AreAlike old new (at moving q None))
     → AreOpen new entries calls tasks (put_at moving p t)
-AreOpen-moved frames old new entries calls tasks moving p t fm is moved open_ones here alike =
+AreOpen-moved old new entries calls tasks moving p t fm is open_ones here alike =
     each-put (λ q m. FitsOpen new entries q (is_access (at calls q None)) (at tasks q None) m) moving p t None fm is here
-    (λ q proc differs. FitsOpen-alike old new entries q (is_access (at calls q None)) (at tasks q None) (at moving q None) (alike q proc differs) (moved.each q proc) (open_ones q proc))
+    (λ q proc differs. FitsOpen-alike old new entries q (is_access (at calls q None)) (at tasks q None) (at moving q None) (alike q proc differs) (open_ones q proc))
 
 -- a page that is moved has the name of the transit
 pub moving-uid : (u : ObjectName) (k : ℕ) (t : Transit) → is_moving u k (Some t) ≡ true → t.uid ≡ u
@@ -129,16 +124,7 @@ module _ (pages : List Resident) (entries : List (List LockEntry)) (q : ℕ) (u 
     where
       by_way : (b : Bool) → t.inward ≡ b → FitsWay b pages entries q u k → (t.inward && is_moving u k (Some t)) ≡ true
       by_way true way fits = rw way is
-      by_way false way fits = absurd (let h : is_marked None ≡ true = rw none at fits.0 in cc)
-
-  -- a page that is resident and moved is marked
-  pub moving-marked : (t : Option Transit) (r : Resident) → page_at pages u k ≡ Some r → FitsTransit pages entries q t → is_moving u k t ≡ true → is_marked (page_at pages u k) ≡ true
-  moving-marked None r there fits is = absurd (cc)
-  moving-marked (Some t) r there fits is = by_way t.inward (FitsWay-named t is fits)
-    where
-      by_way : (b : Bool) → FitsWay b pages entries q u k → is_marked (page_at pages u k) ≡ true
-      by_way true fits = absurd (let a : page_at pages u k ≡ None = fits.0 in cc)
-      by_way false fits = fits.0
+      by_way false way fits = absurd (none_is_no_some (page_at pages u k) fits.0 none)
 
 -- a call that is not a load's or store's
 pub not_access : (call : Option OpenCall) → call ≢ Some Access → is_access call ≡ false

@@ -11,12 +11,14 @@ use Rattle.uid_names.proofs.ListLemmas.{by_cases}
 use Rattle.fault_handler.specs.declared.lengths.Known.{Known}
 use Rattle.fault_handler.specs.declared.transits.Transit.{Transit}
 use Rattle.fault_handler.specs.Lengths.{is_changed, changed_length, length_of}
-use Rattle.fault_handler.specs.Transits.{is_moving, moved_page, going}
-use Rattle.fault_handler.specs.Desks.{DeskState, at, any_keeps, moving_of, other_transit}
-use Rattle.fault_handler.specs.Invariant.{IsProc, is_marked, is_dirty, IsDesk}
-use Rattle.fault_handler.proofs.Fours.{by_proc, first}
-use Rattle.fault_handler.proofs.TransitKeeps.{any_writes-keeps, dirty-writes, going-marked}
-use Rattle.fault_handler.proofs.Movers.{moved-by}
+use Rattle.fault_handler.specs.Entries.{keeps}
+use Rattle.fault_handler.specs.Transits.{is_moving, moved_page}
+use Rattle.fault_handler.specs.Desks.{DeskState, at, entry_at, any_keeps, moving_of, other_transit, is_in_transit_there}
+use Rattle.fault_handler.specs.Invariant.{IsProc, FitsWay, FitsTransit, is_dirty, IsDesk}
+use Rattle.fault_handler.proofs.Fours.{by_proc, first, any-at}
+use Rattle.fault_handler.proofs.Moves.{moving-uid}
+use Rattle.fault_handler.proofs.Marks.{none-moves}
+use Rattle.fault_handler.proofs.TransitKeeps.{any_writes-keeps, dirty-writes}
 
 -- what a test for None tells
 pub nothing : {A : Type 0} (o : Option A) (b : Bool) → is_some o ≡ not b → b ≡ true → o ≡ None
@@ -77,20 +79,9 @@ none-moved moving p u none =
 pub none-changed : (o : Option Known) → changed_length o ≡ None → is_changed o ≡ false
 none-changed o none = by_cases (is_changed o) (is_changed o ≡ false) (λ changed. absurd (let h : Some (length_of o) ≡ None = rw changed at none in cc)) (λ h. h)
 
--- a page is on its way home only where a process moves it
-pub unmoved-unmarked : (d : DeskState) → IsDesk d → (u : ObjectName) (k : ℕ) → ((q : ℕ) → IsProc q → is_moving u k (moving_of d q) ≡ false) → is_marked (page_at d.cache.pages u k) ≡ false
-unmoved-unmarked d is u k none =
-    by_cases
-    (is_marked (page_at d.cache.pages u k))
-    (is_marked (page_at d.cache.pages u k) ≡ false)
-    (λ marked.
-    let found = moved-by d is u k marked in
-    absurd (let own : is_moving u k (going u k) ≡ true = grind (arith, nat_tests) in let e : true ≡ false = sym own ∙ ap (is_moving u k) (sym found.2) ∙ none found.0 found.1 in cc))
-    (λ h. h)
-
--- where a process moves no page, and no other one a page of the object, none of it is on its way home
-pub none-marked : (d : DeskState) (p : ℕ) (u : ObjectName) → IsDesk d → moving_of d p ≡ None → other_transit d.moving p u ≡ None → (k : ℕ) → is_marked (page_at d.cache.pages u k) ≡ false
-none-marked d p u is own none k = unmoved-unmarked d is u k each
+-- where a process moves no page, and no other one a page of the object, none of it is in transit
+pub none-there : (d : DeskState) (p : ℕ) (u : ObjectName) → moving_of d p ≡ None → other_transit d.moving p u ≡ None → (k : ℕ) → is_in_transit_there d.moving u k ≡ false
+none-there d p u own none k = none-moves d.moving u k each
   where
     each : (q : ℕ) → IsProc q → is_moving u k (moving_of d q) ≡ false
     each q proc = elim (cases_eq q p) [
@@ -98,7 +89,7 @@ none-marked d p u is own none k = unmoved-unmarked d is u k each
       | inr differs ↦ none-moved d.moving p u none q proc differs k
     ]
 
--- where no process keeps an object, none of its pages is dirty or on its way home
+-- where no process keeps an object, none of its pages is dirty or goes home
 module _ (d : DeskState) (u : ObjectName) (is : IsDesk d) (none : any_keeps d.entries u ≡ false) where
   pub unkept-clean : (k : ℕ) → is_dirty (page_at d.cache.pages u k) ≡ false
   unkept-clean k =
@@ -108,12 +99,22 @@ module _ (d : DeskState) (u : ObjectName) (is : IsDesk d) (none : any_keeps d.en
       (λ dirty. absurd (let kept : any_keeps d.entries u ≡ true = any_writes-keeps d.entries u (dirty-writes d 1 is first u k dirty) in let e : true ≡ false = sym kept ∙ none in cc))
       (λ h. h)
 
-  pub unkept-unmarked : (k : ℕ) → is_marked (page_at d.cache.pages u k) ≡ false
-  unkept-unmarked k =
-      by_cases
-      (is_marked (page_at d.cache.pages u k))
-      (is_marked (page_at d.cache.pages u k) ≡ false)
-      (λ marked.
-      let found = moved-by d is u k marked in
-      absurd (let kept : any_keeps d.entries u ≡ true = (going-marked d found.0 is found.1 u k found.2).1 in let e : true ≡ false = sym kept ∙ none in cc))
-      (λ h. h)
+  -- or comes
+  pub unkept-still : (k : ℕ) → is_in_transit_there d.moving u k ≡ false
+  unkept-still k = none-moves d.moving u k each
+    where
+      kept : (q : ℕ) → IsProc q → (t : Option Transit) → FitsTransit d.cache.pages d.entries q t → is_moving u k t ≡ true → any_keeps d.entries u ≡ true
+      kept q proc None fits moves = absurd (cc)
+      kept q proc (Some t) fits moves = subst (λ (v : ObjectName). any_keeps d.entries v ≡ true) (moving-uid u k t moves) (by_way t.inward fits)
+        where
+          by_way : (b : Bool) → FitsWay b d.cache.pages d.entries q t.uid t.page → any_keeps d.entries t.uid ≡ true
+          by_way true comes = any-at (λ r. keeps (entry_at d.entries r t.uid)) q proc comes.1
+          by_way false goes = goes.1
+
+      each : (q : ℕ) → IsProc q → is_moving u k (moving_of d q) ≡ false
+      each q proc =
+          by_cases
+          (is_moving u k (moving_of d q))
+          (is_moving u k (moving_of d q) ≡ false)
+          (λ moves. absurd (let e : true ≡ false = sym (kept q proc (moving_of d q) (is.moved.each q proc) moves) ∙ none in cc))
+          (λ h. h)

@@ -35,7 +35,7 @@ IsServed (Turn.Waits u k) = Unit {0}
 -- what holds however room is made; and a page is named that makes it, each page being resident once
 abbrev pub Holds : ℕ → (Moved → Type 0) → Accessed → Type 0
 Holds p P (Accessed.Settled m) = P m
-Holds p P (Accessed.NeedsRoom d task) = IsSome (named_victim d.cache.pages) × AreOnce d.cache.pages × ((victim : Victim) → MayMakeRoom d.cache.pages victim → P (room_made d p task victim))
+Holds p P (Accessed.NeedsRoom d task) = IsSome (named_victim d) × AreOnce d.cache.pages × ((victim : Victim) → MayMakeRoom d victim → P (room_made d p task victim))
 
 pub Holds-always : (p : ℕ) (P : Moved → Type 0) (a : Accessed) → Holds p P a → Always p P a
 Holds-always p P (Accessed.Settled m) holds = holds
@@ -48,11 +48,11 @@ Holds-more p P Q (Accessed.NeedsRoom d task) more holds = (holds.0, holds.1, λ 
 -- what the code gives is what an access comes to, of which it holds
 pub come : (p : ℕ) (P Q : Moved → Type 0) (R : Type 0) (a : Accessed) → Holds p P a → Comes p Q a → ((m : Moved) → P m → Q m → R) → R
 come p P Q R (Accessed.Settled m) holds comes use_it = use_it m holds comes
-come p P Q R (Accessed.NeedsRoom d task) holds comes use_it = by_victim (named_victim d.cache.pages) refl holds.0
+come p P Q R (Accessed.NeedsRoom d task) holds comes use_it = by_victim (named_victim d) refl holds.0
   where
-    by_victim : (o : Option Victim) → named_victim d.cache.pages ≡ o → IsSome o → R
+    by_victim : (o : Option Victim) → named_victim d ≡ o → IsSome o → R
     by_victim None none there = absurd (cc)
-    by_victim (Some v) named there = use_it (room_made d p task v) (holds.2 v (named-may d.cache.pages v holds.1 named)) (comes v named)
+    by_victim (Some v) named there = use_it (room_made d p task v) (holds.2 v (named-may d v holds.1 named)) (comes v named)
 
 -- the outcome is seen in the access
 pub access-seen : (turn : Turn) (dropped : List (ObjectName × ℕ)) → seen_access (as_access turn dropped) ≡ Some (record { turn = turn; dropped = dropped })

@@ -10,25 +10,26 @@ use Rattle.uid_names.proofs.ListLemmas.{by_cases, count_by-filter-le}
 use Rattle.uid_names.proofs.Orders.{same_uid_is}
 use Rattle.fault_handler.specs.declared.entries.LockEntry.{LockEntry}
 use Rattle.fault_handler.specs.Entries.{keeps_writing}
-use Rattle.fault_handler.specs.ShownPages.{changed_page, written, as_sent, is_in_transit}
-use Rattle.fault_handler.specs.Desks.{DeskState, entry_at, any_writes}
+use Rattle.fault_handler.specs.ShownPages.{changed_page, written, as_sent}
+use Rattle.fault_handler.specs.Transits.{is_moving}
+use Rattle.fault_handler.specs.Desks.{DeskState, at, entry_at, any_writes, moving_of, is_in_transit_there}
 use Rattle.fault_handler.specs.Changes.{with_pages, with_used, with_stored, with_dropped, with_no_page, with_sent_again}
-use Rattle.fault_handler.specs.Invariant.{IsProc, IsShownPage, ArePages, is_marked, IsDesk}
-use Rattle.fault_handler.proofs.Fours.{any-at}
-use Rattle.fault_handler.proofs.PageLists.{is_same, AreOnce, says, found-uid, same-uid, same-page, page_at-used, count_by-used, page_at-without_same, page_at-without_other, page_at-without_object_same, page_at-without_object_other, count_by-without, count_by-without_object, count_by-changed, count_by-changed_one}
+use Rattle.fault_handler.specs.Invariant.{IsProc, IsShownPage, ArePages, IsDesk}
+use Rattle.fault_handler.proofs.Fours.{any-at, any-not}
+use Rattle.fault_handler.proofs.PageLists.{is_same, AreOnce, found-uid, same-uid, same-page, page_at-used, count_by-used, page_at-without_same, page_at-without_other, page_at-without_object_same, page_at-without_object_other}
 use Rattle.fault_handler.proofs.Alike.{Alike, Alike-same, ArePages-changed, Alike-changed}
 use Rattle.fault_handler.proofs.Moves.{AreMoved-alike, AreOpen-alike}
 
 -- other pages, where those that processes move are alike
-pub IsDesk-pages : (d : DeskState) (new : List Resident) → IsDesk d → ArePages new d.entries → count_by is_in_transit new ≡ count_by is_in_transit d.cache.pages
-    → ((v : ObjectName) (j : ℕ) → Alike d.cache.pages new v j) → IsDesk (with_pages d new)
-IsDesk-pages d new is are same alike = record {
+pub IsDesk-pages : (d : DeskState) (new : List Resident) → IsDesk d → ArePages new d.entries
+    → ((q : ℕ) → IsProc q → (v : ObjectName) (j : ℕ) → is_moving v j (moving_of d q) ≡ true → Alike d.cache.pages new v j) → IsDesk (with_pages d new)
+IsDesk-pages d new is are alike = record {
   four = record { entries = is.four.entries; maps = is.four.maps; calls = is.four.calls; tasks = is.four.tasks; moving = is.four.moving };
   frames = is.frames;
   maps = is.maps;
   pages = are;
-  moved = AreMoved-alike d.cache.reserved d.cache.pages new d.entries d.moving is.moved same (λ q proc v j moves. alike v j);
-  calls = AreOpen-alike d.cache.reserved d.cache.pages new d.entries d.calls d.tasks d.moving is.moved is.calls (λ q proc v j moves. alike v j);
+  moved = AreMoved-alike d.cache.reserved d.cache.pages new d.entries d.moving is.moved alike;
+  calls = AreOpen-alike d.cache.pages new d.entries d.calls d.tasks d.moving is.calls alike;
   entries = is.entries;
   known = is.known;
   lengths = is.lengths;
@@ -43,8 +44,7 @@ IsDesk-with_used d u k is =
       once = λ v j. rw (count_by-used d.cache.pages u k is.pages.once (is_page v j)) (is.pages.once v j);
       each = λ v j. subst (λ (o : Option Resident). IfSome o (IsShownPage d.entries)) (sym (page_at-used d.cache.pages u k v j)) (is.pages.each v j);
     })
-    (count_by-used d.cache.pages u k is.pages.once is_in_transit)
-    (λ v j. Alike-same d.cache.pages (used d.cache.pages u k) v j (page_at-used d.cache.pages u k v j))
+    (λ q proc v j moves. Alike-same d.cache.pages (used d.cache.pages u k) v j (page_at-used d.cache.pages u k v j))
 
 -- bytes that are put among others leave as many
 pub length-spliced : (old : List ℕ) (offset : ℕ) (bytes : List ℕ) → offset + length bytes ≤ length old → length (spliced old offset bytes) ≡ length old
@@ -57,20 +57,19 @@ length-spliced old offset bytes within =
       length-drop (offset + length bytes) old,
     )
 
--- a page changed in its place, which stays as marked and as dirty
+-- a page changed in its place, which stays as dirty
 IsDesk-changed : (d : DeskState) (u : ObjectName) (k : ℕ) (change : Resident → Resident) → IsDesk d → ((v : ObjectName) (j : ℕ) (r : Resident) → is_page v j (change r) ≡ is_page v j r)
-    → ((r : Resident) → is_in_transit (change r) ≡ is_in_transit r) → ((r : Resident) → r.flags.dirty ≡ true → (change r).flags.dirty ≡ true)
+    → ((r : Resident) → r.flags.dirty ≡ true → (change r).flags.dirty ≡ true)
     → ((r : Resident) → page_at d.cache.pages u k ≡ Some r → IsShownPage d.entries r → IsShownPage d.entries (change r)) → IsDesk (with_pages d (changed_page u k change d.cache.pages))
-IsDesk-changed d u k change is names marks dirt after =
+IsDesk-changed d u k change is names dirt after =
     IsDesk-pages d (changed_page u k change d.cache.pages) is
     (ArePages-changed u k change names d.cache.pages d.entries is.pages after)
-    (count_by-changed u k change is_in_transit marks d.cache.pages)
-    (Alike-changed u k change names d.cache.pages (λ r h. marks r ∙ h) dirt)
+    (λ q proc v j moves. Alike-changed u k change names d.cache.pages dirt v j)
 
 -- bytes were stored in a page, by a process that keeps the object in a mode that writes
 pub IsDesk-with_stored : (d : DeskState) (u : ObjectName) (k offset : ℕ) (bytes : List ℕ) (p : ℕ) → IsDesk d → IsProc p → offset + length bytes ≤ PAGE_BYTES → keeps_writing (entry_at d.entries p u) ≡ true → IsDesk (with_stored d u k offset bytes)
 IsDesk-with_stored d u k offset bytes p is proc within writes =
-    IsDesk-changed (with_used d u k) u k (written offset bytes) (IsDesk-with_used d u k is) (λ v j r. refl) (λ r. refl) (λ r h. refl) after
+    IsDesk-changed (with_used d u k) u k (written offset bytes) (IsDesk-with_used d u k is) (λ v j r. refl) (λ r h. refl) after
   where
     after : (r : Resident) → page_at (used d.cache.pages u k) u k ≡ Some r → IsShownPage d.entries r → IsShownPage d.entries (written offset bytes r)
     after r found shown = record {
@@ -79,73 +78,46 @@ IsDesk-with_stored d u k offset bytes p is proc within writes =
       written = λ dirty. subst (λ (v : ObjectName). any_writes d.entries v ≡ true) (sym (found-uid (used d.cache.pages u k) u k r found)) (any-at (λ q. keeps_writing (entry_at d.entries q u)) p proc writes);
     }
 
--- a marked page is there
-pub marked-there : (o : Option Resident) → is_marked o ≡ true → (r : Resident) × (o ≡ Some r) × (is_in_transit r ≡ true)
-marked-there None is = absurd (cc)
-marked-there (Some r) is = (r, refl, is)
-
 -- a page that is sent is shown as before
 pub IsShownPage-sent : (entries : List (List LockEntry)) (r : Resident) → IsShownPage entries r → IsShownPage entries (as_sent r)
 IsShownPage-sent entries r shown = record { page = shown.page; bytes = shown.bytes; written = shown.written }
 
--- as many pages are marked where one is sent again
-pub count_by-sent_again : (pages : List Resident) (u : ObjectName) (k : ℕ) → AreOnce pages → is_marked (page_at pages u k) ≡ true → count_by is_in_transit (changed_page u k as_sent pages) ≡ count_by is_in_transit pages
-count_by-sent_again pages u k once marked =
-    let there = marked-there (page_at pages u k) marked in
-    let one = rw there.2 at (count_by-changed_one u k as_sent is_in_transit pages there.0 once there.1) in
-    omega arith
+-- a page was sent again
+pub IsDesk-with_sent_again : (d : DeskState) (u : ObjectName) (k : ℕ) → IsDesk d → IsDesk (with_sent_again d u k)
+IsDesk-with_sent_again d u k is = IsDesk-changed d u k as_sent is (λ v j r. refl) (λ r h. h) (λ r found shown. IsShownPage-sent d.entries r shown)
 
--- a page that is on its way home was sent again
-pub IsDesk-with_sent_again : (d : DeskState) (u : ObjectName) (k : ℕ) → IsDesk d → is_marked (page_at d.cache.pages u k) ≡ true → IsDesk (with_sent_again d u k)
-IsDesk-with_sent_again d u k is marked =
-    IsDesk-pages d (changed_page u k as_sent d.cache.pages) is
-    (ArePages-changed u k as_sent (λ v j r. refl) d.cache.pages d.entries is.pages (λ r found shown. IsShownPage-sent d.entries r shown))
-    (count_by-sent_again d.cache.pages u k is.pages.once marked)
-    (Alike-changed u k as_sent (λ v j r. refl) d.cache.pages (λ r h. refl) (λ r h. h))
-
--- a page is as it was, or it was dropped and not on its way home
-abbrev Left : List Resident → List Resident → ObjectName → ℕ → Type 0
-Left old new v j = (page_at new v j ≡ page_at old v j) ⊎ ((page_at new v j ≡ None) × (is_marked (page_at old v j) ≡ false))
+-- a page is as it was, or it was dropped and no process moves it
+abbrev Left : DeskState → List Resident → ObjectName → ℕ → Type 0
+Left d new v j = (page_at new v j ≡ page_at d.cache.pages v j) ⊎ ((page_at new v j ≡ None) × (is_in_transit_there d.moving v j ≡ false))
 
 -- fewer pages
-IsDesk-fewer : (d : DeskState) (new : List Resident) → IsDesk d → AreOnce new → count_by is_in_transit new ≡ count_by is_in_transit d.cache.pages → ((v : ObjectName) (j : ℕ) → Left d.cache.pages new v j) → IsDesk (with_pages d new)
-IsDesk-fewer d new is once same left = IsDesk-pages d new is (record { once = once; each = λ v j. shown v j (left v j) }) same (λ v j. alike v j (left v j))
+IsDesk-fewer : (d : DeskState) (new : List Resident) → IsDesk d → AreOnce new → ((v : ObjectName) (j : ℕ) → Left d new v j) → IsDesk (with_pages d new)
+IsDesk-fewer d new is once left = IsDesk-pages d new is (record { once = once; each = λ v j. shown v j (left v j) }) (λ q proc v j moves. alike q proc v j moves (left v j))
   where
-    shown : (v : ObjectName) (j : ℕ) → Left d.cache.pages new v j → IfSome (page_at new v j) (IsShownPage d.entries)
+    shown : (v : ObjectName) (j : ℕ) → Left d new v j → IfSome (page_at new v j) (IsShownPage d.entries)
     shown v j (inl as_before) = subst (λ (o : Option Resident). IfSome o (IsShownPage d.entries)) (sym as_before) (is.pages.each v j)
     shown v j (inr gone) = subst (λ (o : Option Resident). IfSome o (IsShownPage d.entries)) (sym gone.0) tt
 
-    alike : (v : ObjectName) (j : ℕ) → Left d.cache.pages new v j → Alike d.cache.pages new v j
-    alike v j (inl as_before) = Alike-same d.cache.pages new v j as_before
-    alike v j (inr gone) = record {
-      absent = λ h. gone.0;
-      marks = λ h. absurd (let e : true ≡ false = sym h ∙ gone.1 in cc);
-      dirt = λ h g. absurd (let e : true ≡ false = sym h ∙ gone.1 in cc);
-    }
+    alike : (q : ℕ) → IsProc q → (v : ObjectName) (j : ℕ) → is_moving v j (moving_of d q) ≡ true → Left d new v j → Alike d.cache.pages new v j
+    alike q proc v j moves (inl as_before) = Alike-same d.cache.pages new v j as_before
+    alike q proc v j moves (inr gone) = absurd (let still : is_moving v j (moving_of d q) ≡ false = any-not (λ r. is_moving v j (at d.moving r None)) gone.1 q proc in let e : true ≡ false = sym moves ∙ still in cc)
 
--- what is not marked does not pass as in transit
-still-says : (o : Option Resident) → is_marked o ≡ false → says is_in_transit o ≡ false
-still-says None h = refl
-still-says (Some r) h = h
-
--- a page was dropped that is not on its way home
-pub IsDesk-with_dropped : (d : DeskState) (u : ObjectName) (k : ℕ) → IsDesk d → is_marked (page_at d.cache.pages u k) ≡ false → IsDesk (with_dropped d u k)
+-- a page was dropped that is not in transit
+pub IsDesk-with_dropped : (d : DeskState) (u : ObjectName) (k : ℕ) → IsDesk d → is_in_transit_there d.moving u k ≡ false → IsDesk (with_dropped d u k)
 IsDesk-with_dropped d u k is still =
     IsDesk-fewer d (without_page d.cache.pages u k) is
     (λ v j. omega (arith, count_by-filter-le (is_page v j) (λ r. not (is_page u k r)) d.cache.pages, is.pages.once v j))
-    (count_by-without is_in_transit d.cache.pages u k is.pages.once (still-says (page_at d.cache.pages u k) still))
-    (λ v j. by_cases (is_same v j u k) (Left d.cache.pages (without_page d.cache.pages u k) v j) (gone v j) (λ differ. inl (page_at-without_other d.cache.pages u k v j differ)))
+    (λ v j. by_cases (is_same v j u k) (Left d (without_page d.cache.pages u k) v j) (gone v j) (λ differ. inl (page_at-without_other d.cache.pages u k v j differ)))
   where
-    gone : (v : ObjectName) (j : ℕ) → is_same v j u k ≡ true → Left d.cache.pages (without_page d.cache.pages u k) v j
+    gone : (v : ObjectName) (j : ℕ) → is_same v j u k ≡ true → Left d (without_page d.cache.pages u k) v j
     gone v j same = inr (rw (same-uid v j u k same, same-page v j u k same) (page_at-without_same d.cache.pages u k, still))
 
--- no page of an object is left, where none was on its way home
-pub IsDesk-with_no_page : (d : DeskState) (u : ObjectName) → IsDesk d → ((k : ℕ) → is_marked (page_at d.cache.pages u k) ≡ false) → IsDesk (with_no_page d u)
+-- no page of an object is left, where none was in transit
+pub IsDesk-with_no_page : (d : DeskState) (u : ObjectName) → IsDesk d → ((k : ℕ) → is_in_transit_there d.moving u k ≡ false) → IsDesk (with_no_page d u)
 IsDesk-with_no_page d u is still =
     IsDesk-fewer d (without_object d.cache.pages u) is
     (λ v j. omega (arith, count_by-filter-le (is_page v j) (λ r. not (is_of u r)) d.cache.pages, is.pages.once v j))
-    (count_by-without_object is_in_transit d.cache.pages u is.pages.once (λ k. still-says (page_at d.cache.pages u k) (still k)))
-    (λ v j. by_cases (same_uid v u) (Left d.cache.pages (without_object d.cache.pages u) v j) (gone v j) (λ differ. inl (page_at-without_object_other d.cache.pages u v j differ)))
+    (λ v j. by_cases (same_uid v u) (Left d (without_object d.cache.pages u) v j) (gone v j) (λ differ. inl (page_at-without_object_other d.cache.pages u v j differ)))
   where
-    gone : (v : ObjectName) (j : ℕ) → same_uid v u ≡ true → Left d.cache.pages (without_object d.cache.pages u) v j
+    gone : (v : ObjectName) (j : ℕ) → same_uid v u ≡ true → Left d (without_object d.cache.pages u) v j
     gone v j same = inr (rw (same_uid_is v u same) (page_at-without_object_same d.cache.pages u j, still j))

@@ -148,7 +148,7 @@ module _ (u : ObjectName) (k : ℕ) (change : Resident → Resident) where
   changing r = changed_if (is_page u k r) change r
 
   -- nothing changes where the page is not resident
-  changed_page-none : (pages : List Resident) → count_by (is_page u k) pages ≡ 0 → changed_page u k change pages ≡ pages
+  pub changed_page-none : (pages : List Resident) → count_by (is_page u k) pages ≡ 0 → changed_page u k change pages ≡ pages
   changed_page-none [] none = refl
   changed_page-none (r ∷ pages) none =
       by_cases

@@ -27,9 +27,9 @@ use Rattle.fault_handler.specs.Changes.{with_used, with_raised, with_arrival, wi
 use Rattle.fault_handler.specs.Accesses.{performed, page_by, page_access, page_out}
 use Rattle.fault_handler.specs.PageReplies.{PageAnswer, answer_outward, answer_by, answer_with, page_by_stamp, page_came_of, room_taken, room_sent_again}
 use Rattle.fault_handler.specs.Conditions.{IsIdle, IsAccessing, MayWantAt}
-use Rattle.fault_handler.specs.Invariant.{IsProc, IsDesk, IsAllowed, is_marked}
+use Rattle.fault_handler.specs.Invariant.{IsProc, IsDesk, IsAllowed}
 use Rattle.fault_handler.proofs.PageLists.{found-uid, found-page, without_page-none}
-use Rattle.fault_handler.proofs.TransitKeeps.{open_task, page-comes, coming-absent, going-marked}
+use Rattle.fault_handler.proofs.TransitKeeps.{open_task, page-comes, coming-absent, going-resident}
 use Rattle.fault_handler.proofs.Accessing.{stamp-seen}
 
 -- what holds of the load or store that is open holds of it, whichever it is
@@ -149,10 +149,10 @@ module _ (d : DeskState) (p : ℕ) (is : IsDesk d) (proc : IsProc p) (u : Object
   -- a page went home
   module _ (access : IsAccessing d p) (goes : moving_of d p ≡ going u k) where
     pub seen-going : IsSome (stamp_of u d.seen)
-    seen-going = stamp-seen d is u (going-marked d p is proc u k goes).1
+    seen-going = stamp-seen d is u (going-resident d p is proc u k goes).1
 
-    pub marked-going : is_marked (page_at d.cache.pages u k) ≡ true
-    marked-going = (going-marked d p is proc u k goes).0
+    pub there-going : IsSome (page_at d.cache.pages u k)
+    there-going = (going-resident d p is proc u k goes).0
 
     pub gives-again : (new : DeskState) (stamp home : ℕ) (body : Body) (dropped : List (ObjectName × ℕ)) → new ≡ with_sent_again (with_raised d u stamp) u k → home ≡ u.home
         → option_map (λ r. body_of_ask (page_out (with_raised d u stamp) u k r.bytes)) (page_at d.cache.pages u k) ≡ Some body → dropped ≡ []

@@ -18,18 +18,18 @@ use Rattle.fault_handler.specs.declared.tasks.Task.{Task}
 use Rattle.fault_handler.specs.declared.open_call.OpenCall.{OpenCall}
 use Rattle.fault_handler.specs.declared.open_call.OpenCall.TheVariants.{Access}
 use Rattle.fault_handler.specs.Entries.{keeps, keeps_writing}
-use Rattle.fault_handler.specs.ShownPages.{fresh_page, changed_page, as_sent, settled, is_in_transit}
-use Rattle.fault_handler.specs.Transits.{is_moving, inward_count, outward_count, coming, going}
+use Rattle.fault_handler.specs.ShownPages.{fresh_page, changed_page, as_sent, settled}
+use Rattle.fault_handler.specs.Transits.{is_moving, inward_count, coming, going}
 use Rattle.fault_handler.specs.Tasks.{page_of}
-use Rattle.fault_handler.specs.Desks.{DeskState, at, put_at, entry_at, any_keeps, any_writes, open_call_of, task_of, moving_of, others_fetch, count_of}
+use Rattle.fault_handler.specs.Desks.{DeskState, at, put_at, entry_at, any_keeps, any_writes, open_call_of, task_of, moving_of, others_fetch, is_in_transit_there, count_of}
 use Rattle.fault_handler.specs.Changes.{with_fetch, with_sent_page, with_eviction, with_arrival, with_loss, with_room_settled, settled_by, with_page_done}
-use Rattle.fault_handler.specs.Invariant.{IsProc, IsShownPage, ArePages, is_marked, is_dirty, FitsTransit, is_access, IsAllowed, KeepsAll, IsOpenTask, FitsOpen, IsCallAtNode, IsDesk}
+use Rattle.fault_handler.specs.Invariant.{IsProc, IsShownPage, ArePages, is_dirty, FitsTransit, is_access, IsAllowed, KeepsAll, IsOpenTask, FitsOpen, IsCallAtNode, IsDesk}
 use Rattle.fault_handler.specs.Conditions.{IsIdle, IsAccessing, IsNotAccessing}
-use Rattle.fault_handler.proofs.Fours.{at-put_same, count_of-at, any-at, any-more, each-put, length-put}
-use Rattle.fault_handler.proofs.PageLists.{is_same, AreOnce, same-uid, same-page, found-uid, page_at-changed_same, count_by-changed_one}
+use Rattle.fault_handler.proofs.Fours.{at-put_same, count_of-at, any-at, any-not, any-more, each-put, length-put}
+use Rattle.fault_handler.proofs.PageLists.{is_same, AreOnce, same-uid, same-page, found-uid, page_at-changed_same}
 use Rattle.fault_handler.proofs.Alike.{Alike-same, AreAlike, ArePages-changed, Alike-other, Alike-changed}
-use Rattle.fault_handler.proofs.Moves.{AreMoved-put, AreOpen-put, AreOpen-moved, moving-uid, moving-page, moving-marked, not_access, is_access-is, access-is, FitsOpen-goes, FitsOpen-going, FitsOpen-still, FitsOpen-task, FitsOpen-comes, alone-absent}
-use Rattle.fault_handler.proofs.PageKeeps.{marked-there, IsShownPage-sent, count_by-sent_again}
+use Rattle.fault_handler.proofs.Moves.{AreMoved-put, AreOpen-put, AreOpen-moved, moving-uid, moving-page, not_access, is_access-is, access-is, FitsOpen-goes, FitsOpen-going, FitsOpen-still, FitsOpen-task, FitsOpen-comes, alone-absent}
+use Rattle.fault_handler.proofs.PageKeeps.{IsShownPage-sent}
 
 -- what is there
 pub there_is : {A : Type 0} (o : Option A) → IsSome o → (x : A) × (o ≡ Some x)
@@ -63,12 +63,11 @@ module _ (d : DeskState) (p : ℕ) (is : IsDesk d) (proc : IsProc p) where
   -- a process opens or ends a load or store, and moves another page than before
   IsDesk-opened : (reserved : ℕ) (new : List Resident) (call : Option OpenCall) (task : Option Task) (t : Option Transit) → ArePages new d.entries
       → reserved + inward_count (moving_of d p) ≡ d.cache.reserved + inward_count t
-      → count_by is_in_transit new + outward_count (moving_of d p) ≡ count_by is_in_transit d.cache.pages + outward_count t
       → FitsTransit new d.entries p t → FitsOpen new d.entries p (is_access call) task t → IfSome call (IsCallAtNode d.nodes)
       → ((q : ℕ) → IsProc q → q ≢ p → AreAlike d.cache.pages new (at d.moving q None))
       → ((q : ℕ) → IsProc q → q ≢ p → (v : ObjectName) (j : ℕ) → is_moving v j t ≡ true → is_moving v j (at d.moving q None) ≡ true → ⊥)
       → IsDesk (record d { cache = record d.cache { reserved = reserved; pages = new }; calls = put_at d.calls p call; tasks = put_at d.tasks p task; moving = put_at d.moving p t })
-  IsDesk-opened reserved new call task t are inward outward fits opened located alike alone = record {
+  IsDesk-opened reserved new call task t are inward fits opened located alike alone = record {
     four = record {
       entries = is.four.entries;
       maps = is.four.maps;
@@ -79,8 +78,8 @@ module _ (d : DeskState) (p : ℕ) (is : IsDesk d) (proc : IsProc p) where
     frames = is.frames;
     maps = is.maps;
     pages = are;
-    moved = AreMoved-put d.cache.reserved reserved d.cache.pages new d.entries d.moving p t is.four.moving proc is.moved inward outward fits alike alone;
-    calls = AreOpen-put d.cache.reserved d.cache.pages new d.entries d.calls d.tasks d.moving p call task t is.four.calls is.four.tasks is.four.moving proc is.moved is.calls opened alike;
+    moved = AreMoved-put d.cache.reserved reserved d.cache.pages new d.entries d.moving p t is.four.moving proc is.moved inward fits alike alone;
+    calls = AreOpen-put d.cache.pages new d.entries d.calls d.tasks d.moving p call task t is.four.calls is.four.tasks is.four.moving proc is.calls opened alike;
     entries = is.entries;
     known = is.known;
     lengths = is.lengths;
@@ -93,18 +92,17 @@ module _ (d : DeskState) (p : ℕ) (is : IsDesk d) (proc : IsProc p) where
   -- a process moves another page than before
   IsDesk-moved : (new : List Resident) (t : Option Transit) → ArePages new d.entries
       → d.cache.reserved + inward_count (moving_of d p) ≡ d.cache.reserved + inward_count t
-      → count_by is_in_transit new + outward_count (moving_of d p) ≡ count_by is_in_transit d.cache.pages + outward_count t
       → FitsTransit new d.entries p t → FitsOpen new d.entries p (is_access (open_call_of d p)) (task_of d p) t
       → ((q : ℕ) → IsProc q → q ≢ p → AreAlike d.cache.pages new (at d.moving q None))
       → ((q : ℕ) → IsProc q → q ≢ p → (v : ObjectName) (j : ℕ) → is_moving v j t ≡ true → is_moving v j (at d.moving q None) ≡ true → ⊥)
       → IsDesk (record d { cache = record d.cache { pages = new }; moving = put_at d.moving p t })
-  IsDesk-moved new t are inward outward fits opened alike alone = record {
+  IsDesk-moved new t are inward fits opened alike alone = record {
     four = record { entries = is.four.entries; maps = is.four.maps; calls = is.four.calls; tasks = is.four.tasks; moving = length-put d.moving p t is.four.moving };
     frames = is.frames;
     maps = is.maps;
     pages = are;
-    moved = AreMoved-put d.cache.reserved d.cache.reserved d.cache.pages new d.entries d.moving p t is.four.moving proc is.moved inward outward fits alike alone;
-    calls = AreOpen-moved d.cache.reserved d.cache.pages new d.entries d.calls d.tasks d.moving p t is.four.moving proc is.moved is.calls opened alike;
+    moved = AreMoved-put d.cache.reserved d.cache.reserved d.cache.pages new d.entries d.moving p t is.four.moving proc is.moved inward fits alike alone;
+    calls = AreOpen-moved d.cache.pages new d.entries d.calls d.tasks d.moving p t is.four.moving proc is.calls opened alike;
     entries = is.entries;
     known = is.known;
     lengths = is.lengths;
@@ -140,7 +138,7 @@ module _ (d : DeskState) (p : ℕ) (is : IsDesk d) (proc : IsProc p) where
   pub IsDesk-with_fetch : (task : Task) → IsIdle d p → page_at d.cache.pages task.uid (page_of task) ≡ None → others_fetch d.moving p task.uid (page_of task) ≡ false → IsAllowed d.entries p task → IsDesk (with_fetch d p task)
   IsDesk-with_fetch task idle absent alone allowed =
       IsDesk-opened (d.cache.reserved + 1) d.cache.pages (Some Access) (Some task) (coming task.uid (page_of task)) is.pages
-      (rw idle.no_page (omega arith)) (rw idle.no_page refl) (absent, allowed.kept)
+      (rw idle.no_page (omega arith)) (absent, allowed.kept)
       (record { allowed = allowed; keeping = idle.keeping; comes = λ e. grind (arith, nat_tests); goes = λ e. absurd (cc) })
       tt
       (λ q other differs v j moves. Alike-same d.cache.pages d.cache.pages v j refl)
@@ -149,26 +147,17 @@ module _ (d : DeskState) (p : ℕ) (is : IsDesk d) (proc : IsProc p) where
       (subst (λ (w : ObjectName). is_moving w (page_of task) (at d.moving q None) ≡ true) (sym (same-uid task.uid (page_of task) v j own))
       (subst (λ (n : ℕ). is_moving v n (at d.moving q None) ≡ true) (sym (same-page task.uid (page_of task) v j own)) moves)))
 
-  -- a page that is resident and not marked is moved by no process
-  unmoved : (u : ObjectName) (k : ℕ) → IsSome (page_at d.cache.pages u k) → is_marked (page_at d.cache.pages u k) ≡ false → (q : ℕ) → IsProc q → (v : ObjectName) (j : ℕ) → is_moving v j (going u k) ≡ true → is_moving v j (at d.moving q None) ≡ true → ⊥
-  unmoved u k there still q other v j own moves =
-      let r = there_is (page_at d.cache.pages u k) there in
+  -- a page that is not in transit is moved by no process
+  unmoved : (u : ObjectName) (k : ℕ) → is_in_transit_there d.moving u k ≡ false → (q : ℕ) → IsProc q → (v : ObjectName) (j : ℕ) → is_moving v j (going u k) ≡ true → is_moving v j (at d.moving q None) ≡ true → ⊥
+  unmoved u k still q other v j own moves =
       let here : is_moving u k (at d.moving q None) ≡ true = subst (λ (w : ObjectName). is_moving w k (at d.moving q None) ≡ true) (sym (same-uid u k v j own)) (subst (λ (n : ℕ). is_moving v n (at d.moving q None) ≡ true) (sym (same-page u k v j own)) moves) in
-      let marked : is_marked (page_at d.cache.pages u k) ≡ true = moving-marked d.cache.pages d.entries q u k (at d.moving q None) r.0 r.1 (is.moved.each q other) here in
-      let e : true ≡ false = sym marked ∙ still in
+      let none : is_moving u k (at d.moving q None) ≡ false = any-not (λ r. is_moving u k (at d.moving r None)) still q other in
+      let e : true ≡ false = sym here ∙ none in
       cc
 
-  -- how many pages are marked where one more is sent
-  count_by-sent : (u : ObjectName) (k : ℕ) → IsSome (page_at d.cache.pages u k) → is_marked (page_at d.cache.pages u k) ≡ false → count_by is_in_transit (changed_page u k as_sent d.cache.pages) ≡ count_by is_in_transit d.cache.pages + 1
-  count_by-sent u k there still =
-      let r = there_is (page_at d.cache.pages u k) there in
-      let away : r.0.flags.transit ≡ false = rw r.1 at still in
-      let one = rw away at (count_by-changed_one u k as_sent is_in_transit d.cache.pages r.0 is.pages.once r.1) in
-      omega arith
-
-  -- a page that is sent is marked, and as dirty as it was
-  sent-marked : (u : ObjectName) (k : ℕ) → IsSome (page_at d.cache.pages u k) → is_marked (page_at (changed_page u k as_sent d.cache.pages) u k) ≡ true
-  sent-marked u k there = let r = there_is (page_at d.cache.pages u k) there in rw (page_at-changed_same u k as_sent (λ v j s. refl) d.cache.pages, r.1) refl
+  -- a page that is sent is resident, and as dirty as it was
+  sent-there : (u : ObjectName) (k : ℕ) → IsSome (page_at d.cache.pages u k) → IsSome (page_at (changed_page u k as_sent d.cache.pages) u k)
+  sent-there u k there = let r = there_is (page_at d.cache.pages u k) there in rw (page_at-changed_same u k as_sent (λ v j s. refl) d.cache.pages, r.1) refl
 
   sent-dirty : (u : ObjectName) (k : ℕ) → is_dirty (page_at d.cache.pages u k) ≡ true → is_dirty (page_at (changed_page u k as_sent d.cache.pages) u k) ≡ true
   sent-dirty u k dirty = rw (page_at-changed_same u k as_sent (λ v j s. refl) d.cache.pages) (by_found (page_at d.cache.pages u k) dirty)
@@ -177,9 +166,9 @@ module _ (d : DeskState) (p : ℕ) (is : IsDesk d) (proc : IsProc p) where
       by_found None h = h
       by_found (Some r) h = h
 
-  -- a page that a process sends home is marked, and a process keeps its object
-  pub going-marked : (u : ObjectName) (k : ℕ) → moving_of d p ≡ going u k → (is_marked (page_at d.cache.pages u k) ≡ true) × (any_keeps d.entries u ≡ true)
-  going-marked u k goes = subst (FitsTransit d.cache.pages d.entries p) goes (is.moved.each p proc)
+  -- a page that a process sends home is resident, and a process keeps its object
+  pub going-resident : (u : ObjectName) (k : ℕ) → moving_of d p ≡ going u k → IsSome (page_at d.cache.pages u k) × (any_keeps d.entries u ≡ true)
+  going-resident u k goes = subst (FitsTransit d.cache.pages d.entries p) goes (is.moved.each p proc)
 
   -- one that comes is not resident, and the process keeps its object
   pub coming-absent : (u : ObjectName) (k : ℕ) → moving_of d p ≡ coming u k → (page_at d.cache.pages u k ≡ None) × (keeps (entry_at d.entries p u) ≡ true)
@@ -187,26 +176,22 @@ module _ (d : DeskState) (p : ℕ) (is : IsDesk d) (proc : IsProc p) where
 
   -- a process sends a page home, or sends it again
   pub IsDesk-with_sent_page : (u : ObjectName) (k : ℕ) → keeps (entry_at d.entries p u) ≡ true → IsNotAccessing d p → (moving_of d p ≡ None) ⊎ (moving_of d p ≡ going u k) → IsSome (page_at d.cache.pages u k)
-      → (moving_of d p ≡ None → is_marked (page_at d.cache.pages u k) ≡ false) → IsDesk (with_sent_page d p u k)
+      → (moving_of d p ≡ None → is_in_transit_there d.moving u k ≡ false) → IsDesk (with_sent_page d p u k)
   IsDesk-with_sent_page u k keeping other ready there still =
       IsDesk-moved (changed_page u k as_sent d.cache.pages) (going u k)
       (ArePages-changed u k as_sent (λ v j r. refl) d.cache.pages d.entries is.pages (λ r found shown. IsShownPage-sent d.entries r shown))
-      (inward ready) (outward ready)
-      (sent-marked u k there, any-at (λ q. keeps (entry_at d.entries q u)) p proc keeping)
+      (inward ready)
+      (sent-there u k there, any-at (λ q. keeps (entry_at d.entries q u)) p proc keeping)
       (FitsOpen-going d.cache.pages d.entries p (changed_page u k as_sent d.cache.pages) (is_access (open_call_of d p)) (task_of d p) (moving_of d p) u k (not_access (open_call_of d p) other) keeping (is.calls p proc))
-      (λ q proc_q differs v j moves. Alike-changed u k as_sent (λ v j r. refl) d.cache.pages (λ r h. refl) (λ r h. h) v j)
+      (λ q proc_q differs v j moves. Alike-changed u k as_sent (λ v j r. refl) d.cache.pages (λ r h. h) v j)
       (alone ready)
     where
       inward : (moving_of d p ≡ None) ⊎ (moving_of d p ≡ going u k) → d.cache.reserved + inward_count (moving_of d p) ≡ d.cache.reserved + inward_count (going u k)
       inward (inl none) = rw none refl
       inward (inr goes) = rw goes refl
 
-      outward : (moving_of d p ≡ None) ⊎ (moving_of d p ≡ going u k) → count_by is_in_transit (changed_page u k as_sent d.cache.pages) + outward_count (moving_of d p) ≡ count_by is_in_transit d.cache.pages + outward_count (going u k)
-      outward (inl none) = let one = count_by-sent u k there (still none) in rw none (omega arith)
-      outward (inr goes) = let same = count_by-sent_again d.cache.pages u k is.pages.once (going-marked u k goes).0 in rw goes (omega arith)
-
       alone : (moving_of d p ≡ None) ⊎ (moving_of d p ≡ going u k) → (q : ℕ) → IsProc q → q ≢ p → (v : ObjectName) (j : ℕ) → is_moving v j (going u k) ≡ true → is_moving v j (at d.moving q None) ≡ true → ⊥
-      alone (inl none) q proc_q differs v j own moves = unmoved u k there (still none) q proc_q v j own moves
+      alone (inl none) q proc_q differs v j own moves = unmoved u k (still none) q proc_q v j own moves
       alone (inr goes) q proc_q differs v j own moves = differs (is.moved.apart q p proc_q proc v j moves (subst (λ (t : Option Transit). is_moving v j t ≡ true) (sym goes) own))
 
   -- a dirty page is of an object that a process of the node keeps in a mode that writes
@@ -223,18 +208,17 @@ module _ (d : DeskState) (p : ℕ) (is : IsDesk d) (proc : IsProc p) where
   dirty-there (Some r) is = refl
 
   -- a process sends a dirty page home, to make room for that of its load or store
-  pub IsDesk-with_eviction : (task : Task) (u : ObjectName) (k : ℕ) → IsIdle d p → is_dirty (page_at d.cache.pages u k) ≡ true → is_marked (page_at d.cache.pages u k) ≡ false → IsAllowed d.entries p task → IsDesk (with_eviction d p task u k)
+  pub IsDesk-with_eviction : (task : Task) (u : ObjectName) (k : ℕ) → IsIdle d p → is_dirty (page_at d.cache.pages u k) ≡ true → is_in_transit_there d.moving u k ≡ false → IsAllowed d.entries p task → IsDesk (with_eviction d p task u k)
   IsDesk-with_eviction task u k idle dirty still allowed =
       let there = dirty-there (page_at d.cache.pages u k) dirty in
       IsDesk-opened d.cache.reserved (changed_page u k as_sent d.cache.pages) (Some Access) (Some task) (going u k)
       (ArePages-changed u k as_sent (λ v j r. refl) d.cache.pages d.entries is.pages (λ r found shown. IsShownPage-sent d.entries r shown))
       (rw idle.no_page refl)
-      (let one = count_by-sent u k there still in rw idle.no_page (omega arith))
-      (sent-marked u k there, any_writes-keeps d.entries u (dirty-writes u k dirty))
+      (sent-there u k there, any_writes-keeps d.entries u (dirty-writes u k dirty))
       (record { allowed = allowed; keeping = idle.keeping; comes = λ e. absurd (cc); goes = λ e. sent-dirty u k dirty })
       tt
-      (λ q other differs v j moves. Alike-changed u k as_sent (λ v j r. refl) d.cache.pages (λ r h. refl) (λ r h. h) v j)
-      (λ q other differs v j own moves. unmoved u k there still q other v j own moves)
+      (λ q other differs v j moves. Alike-changed u k as_sent (λ v j r. refl) d.cache.pages (λ r h. h) v j)
+      (λ q other differs v j own moves. unmoved u k still q other v j own moves)
 
   -- a page comes to the load or store that needs it
   pub page-comes : (u : ObjectName) (k : ℕ) → moving_of d p ≡ coming u k → (a : Task) × (task_of d p ≡ Some a) × (a.uid ≡ u) × (page_of a ≡ k) × (k < MAX_ROOM) × IsAllowed d.entries p a × KeepsAll d.entries p
@@ -263,7 +247,6 @@ module _ (d : DeskState) (p : ℕ) (is : IsDesk d) (proc : IsProc p) where
       IsDesk-opened (d.cache.reserved - 1) (fresh_page u k bytes ∷ d.cache.pages) None None None
       (record { once = once; each = shown })
       (let one = reserved-least u k comes in rw comes (omega arith))
-      (let same = count_by-cons_fails is_in_transit (fresh_page u k bytes) d.cache.pages refl in rw comes (omega arith))
       tt tt tt
       (λ q other differs v j moves. Alike-same d.cache.pages (fresh_page u k bytes ∷ d.cache.pages) v j (rw (apart-from q other differs v j moves) refl))
       (λ q other differs v j own moves. absurd (cc))
@@ -300,19 +283,12 @@ module _ (d : DeskState) (p : ℕ) (is : IsDesk d) (proc : IsProc p) where
   IsDesk-with_loss u k comes =
       IsDesk-opened (d.cache.reserved - 1) d.cache.pages None None None is.pages
       (let one = reserved-least u k comes in rw comes (omega arith))
-      (rw comes refl)
       tt tt tt
       (λ q other differs v j moves. Alike-same d.cache.pages d.cache.pages v j refl)
       (λ q other differs v j own moves. absurd (cc))
 
-  -- a page that is marked, and no other that a process moves, is on its way no more
+  -- a page that the process sent home is on its way no more
   module _ (u : ObjectName) (k : ℕ) (taken : Bool) (goes : moving_of d p ≡ going u k) where
-    count_by-settled : count_by is_in_transit (changed_page u k (settled taken) d.cache.pages) + 1 ≡ count_by is_in_transit d.cache.pages
-    count_by-settled =
-        let there = marked-there (page_at d.cache.pages u k) (going-marked u k goes).0 in
-        let one = rw there.2 at (count_by-changed_one u k (settled taken) is_in_transit d.cache.pages there.0 is.pages.once there.1) in
-        omega arith
-
     ArePages-settled : ArePages (changed_page u k (settled taken) d.cache.pages) d.entries
     ArePages-settled = ArePages-changed u k (settled taken) (λ v j r. refl) d.cache.pages d.entries is.pages (λ r found shown. IsShownPage-settled d.entries taken r shown)
 
@@ -324,13 +300,13 @@ module _ (d : DeskState) (p : ℕ) (is : IsDesk d) (proc : IsProc p) where
     -- the page that made room is on its way no more
     pub IsDesk-with_room_settled : IsDesk (with_room_settled d p u k taken)
     IsDesk-with_room_settled =
-        IsDesk-opened d.cache.reserved (changed_page u k (settled taken) d.cache.pages) None None None ArePages-settled (rw goes refl) (let one = count_by-settled in rw goes (omega arith)) tt tt tt alike-settled
+        IsDesk-opened d.cache.reserved (changed_page u k (settled taken) d.cache.pages) None None None ArePages-settled (rw goes refl) tt tt tt alike-settled
         (λ q other differs v j own moves. absurd (cc))
 
     -- the page that a process sent home is on its way no more
     IsDesk-sent_settled : IsNotAccessing d p → IsDesk (record d { cache = record d.cache { pages = changed_page u k (settled taken) d.cache.pages }; moving = put_at d.moving p None })
     IsDesk-sent_settled other =
-        IsDesk-moved (changed_page u k (settled taken) d.cache.pages) None ArePages-settled (rw goes refl) (let one = count_by-settled in rw goes (omega arith)) tt
+        IsDesk-moved (changed_page u k (settled taken) d.cache.pages) None ArePages-settled (rw goes refl) tt
         (FitsOpen-still d.cache.pages d.entries p (changed_page u k (settled taken) d.cache.pages) (is_access (open_call_of d p)) (task_of d p) (moving_of d p) (not_access (open_call_of d p) other) (is.calls p proc))
         alike-settled
         (λ q other_q differs v j own moves. absurd (cc))
@@ -347,7 +323,7 @@ module _ (d : DeskState) (p : ℕ) (is : IsDesk d) (proc : IsProc p) where
     where
       by_moving : (o : Option Transit) → moving_of d p ≡ o → IsDesk (record d { cache = record d.cache { pages = settled_by o taken d.cache.pages }; moving = put_at d.moving p None })
       by_moving None moves =
-          IsDesk-moved d.cache.pages None is.pages (rw moves refl) (rw moves refl) tt
+          IsDesk-moved d.cache.pages None is.pages (rw moves refl) tt
           (FitsOpen-still d.cache.pages d.entries p d.cache.pages (is_access (open_call_of d p)) (task_of d p) (moving_of d p) (not_access (open_call_of d p) other) (is.calls p proc))
           (λ q other_q differs v j moved. Alike-same d.cache.pages d.cache.pages v j refl)
           (λ q other_q differs v j own moved. absurd (cc))

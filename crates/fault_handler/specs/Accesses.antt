@@ -164,9 +164,9 @@ access_of d p (DeskOp.Unmaps u) = unmap_by d p u (is_some (mapping_of u (maps_of
 -- what holds of what an access comes to, where room is made as the cache names it
 abbrev pub Comes : ℕ → (Moved → Type 0) → Accessed → Type 0
 Comes p P (Accessed.Settled m) = P m
-Comes p P (Accessed.NeedsRoom d task) = ForSome (named_victim d.cache.pages) (λ victim. P (room_made d p task victim))
+Comes p P (Accessed.NeedsRoom d task) = ForSome (named_victim d) (λ victim. P (room_made d p task victim))
 
 -- what holds of it however room is made
 abbrev pub Always : ℕ → (Moved → Type 0) → Accessed → Type 0
 Always p P (Accessed.Settled m) = P m
-Always p P (Accessed.NeedsRoom d task) = (victim : Victim) → MayMakeRoom d.cache.pages victim → P (room_made d p task victim)
+Always p P (Accessed.NeedsRoom d task) = (victim : Victim) → MayMakeRoom d victim → P (room_made d p task victim)

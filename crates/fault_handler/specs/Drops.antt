@@ -20,7 +20,7 @@ pub record DropsOnly (old new : List Resident) (dropped : List (ObjectName × �
 -- nothing is dropped, or, where no frame is free, one page that is clean and not in transit
 abbrev pub MayDrop : DeskState → List (ObjectName × ℕ) → Type 0
 MayDrop d [] = Unit {0}
-MayDrop d (name ∷ []) = (free_count d.cache ≡ 0) × (is_idle_page (page_at d.cache.pages name.0 name.1) ≡ true)
+MayDrop d (name ∷ []) = (free_count d.cache ≡ 0) × (is_idle_page d name.0 name.1 ≡ true)
 MayDrop d (name ∷ other ∷ names) = ⊥
 
 -- the desk on which an access is made anew after its answer: once the page that makes room was taken

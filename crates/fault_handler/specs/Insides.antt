@@ -7,12 +7,12 @@ desk_of d =
     record {
       node = d.node;
       nodes = d.nodes;
-      cache = d.pages;
+      cache = d.pages.cache;
       seen = d.seen;
       known = d.known;
       entries = d.entries;
       maps = d.maps;
       calls = d.calls;
       tasks = d.tasks;
-      moving = d.moving;
+      moving = d.pages.moving;
     }

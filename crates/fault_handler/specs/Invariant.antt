@@ -22,8 +22,7 @@ use Rattle.fault_handler.specs.declared.open_call.OpenCall.{OpenCall}
 use Rattle.fault_handler.specs.declared.open_call.OpenCall.TheVariants.{Access, Lock, PageOut, AttrOut, Unlock, Remove}
 use Rattle.fault_handler.specs.Entries.{state_in, keeps, keeps_writing}
 use Rattle.fault_handler.specs.Lengths.{known_of, is_changed}
-use Rattle.fault_handler.specs.ShownPages.{is_in_transit}
-use Rattle.fault_handler.specs.Transits.{is_moving, inward_count, outward_count}
+use Rattle.fault_handler.specs.Transits.{is_moving, inward_count}
 use Rattle.fault_handler.specs.Tasks.{page_of, IsTask}
 use Rattle.fault_handler.specs.Desks.{DeskState, IsNode, at, entry_at, any_keeps, any_writes, count_of}
 
@@ -42,21 +41,16 @@ pub record ArePages (pages : List Resident) (entries : List (List LockEntry)) : 
   pub once : (u : ObjectName) (k : ℕ) → count_by (is_page u k) pages ≤ 1
   pub each : (u : ObjectName) (k : ℕ) → IfSome (page_at pages u k) (IsShownPage entries)
 
--- resident, and marked as on its way home
-abbrev pub is_marked : Option Resident → Bool
-is_marked None = false
-is_marked (Some r) = is_in_transit r
-
 -- resident, and changed since it came from its home or was last taken there
 abbrev pub is_dirty : Option Resident → Bool
 is_dirty None = false
 is_dirty (Some r) = r.flags.dirty
 
--- a page that comes is not resident, and its process keeps the object; one that goes home is resident and marked,
--- and a process of the node keeps its object
+-- a page that comes is not resident, and its process keeps the object; one that goes home is resident, and a process of
+-- the node keeps its object
 abbrev pub FitsWay : Bool → List Resident → List (List LockEntry) → ℕ → ObjectName → ℕ → Type 0
 FitsWay true pages entries q u k = (page_at pages u k ≡ None) × (keeps (entry_at entries q u) ≡ true)
-FitsWay false pages entries q u k = (is_marked (page_at pages u k) ≡ true) × (any_keeps entries u ≡ true)
+FitsWay false pages entries q u k = IsSome (page_at pages u k) × (any_keeps entries u ≡ true)
 
 abbrev pub FitsTransit : List Resident → List (List LockEntry) → ℕ → Option Transit → Type 0
 FitsTransit pages entries q None = Unit {0}
@@ -68,10 +62,9 @@ AreApart moving =
     (q r : ℕ) → IsProc q → IsProc r → (u : ObjectName) (k : ℕ)
     → is_moving u k (at moving q None) ≡ true → is_moving u k (at moving r None) ≡ true → q ≡ r
 
--- a frame is reserved for each page that comes, and each page that goes home is marked, but no other
+-- a frame is reserved for each page that comes
 pub record AreMoved (frames : ℕ) (pages : List Resident) (entries : List (List LockEntry)) (moving : List (Option Transit)) : Type 0 where
   pub reserved : frames ≡ count_of inward_count moving
-  pub marked : count_by is_in_transit pages ≡ count_of outward_count moving
   pub each : (q : ℕ) → IsProc q → FitsTransit pages entries q (at moving q None)
   pub apart : AreApart moving
 

@@ -1,5 +1,5 @@
 -- The resident pages as a desk shows them: by their objects and numbers, the last used first. Which frame a page
--- is in is not told.
+-- is in is not told, and that it is in transit is said by the process that moves it.
 use Rattle.std.specs.Prelude.{ℕ, Bool, true, false, not, ◌&&◌, List, map}
 use Rattle.uid_names.specs.Names.{ObjectName}
 use Rattle.page_frames.specs.Pools.{no_flags}
@@ -19,21 +19,17 @@ abbrev pub written : ℕ → List ℕ → Resident → Resident
 written offset bytes r =
     record r {
       bytes = spliced r.bytes offset bytes;
-      flags = record { dirty = true; sent = false; transit = r.flags.transit };
+      flags = record r.flags { dirty = true; sent = false };
     }
 
 -- the pages after a store, which used this one last
 abbrev pub stored : ObjectName → ℕ → ℕ → List ℕ → List Resident → List Resident
 stored u k offset bytes pages = changed_page u k (written offset bytes) (used pages u k)
 
--- on its way home, and not changed since it was sent
+-- sent home, and not changed since
 abbrev pub as_sent : Resident → Resident
-as_sent r = record r { flags = record { dirty = r.flags.dirty; sent = true; transit = true } }
+as_sent r = record r { flags = record r.flags { sent = true } }
 
 -- no longer on its way; clean where its home took it and it was not changed since it was sent
 abbrev pub settled : Bool → Resident → Resident
-settled taken r =
-    record r { flags = record { dirty = r.flags.dirty && not (taken && r.flags.sent); sent = r.flags.sent; transit = false } }
-
-abbrev pub is_in_transit : Resident → Bool
-is_in_transit r = r.flags.transit
+settled taken r = record r { flags = record r.flags { dirty = r.flags.dirty && not (taken && r.flags.sent) } }

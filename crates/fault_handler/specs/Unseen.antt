@@ -1,5 +1,7 @@
 -- What only private functions and the views of private parts are said by: no public clause cites it.
-use Rattle.std.specs.Prelude.{◌≡◌, ℕ, Bool, false, not, is_some, [], Option, Some, None, List, map, take, drop}
+use Rattle.std.specs.Prelude.{◌≡◌, ℕ, Bool, true, false, not, is_some, length, [], Option, Some, None, List, map, take, drop}
+use Rattle.std.specs.List.{All}
+use Rattle.uid_names.specs.declared.limits.TheConstants.{NODE_PROCESSES}
 use Rattle.page_cache.specs.Caches.{Resident, Cached, page_at}
 use Rattle.fault_handler.specs.declared.tasks.Work.{Work}
 use Rattle.fault_handler.specs.declared.tasks.Work.TheVariants.{Load, Store}
@@ -7,8 +9,10 @@ use Rattle.fault_handler.specs.declared.access.Access.{Access}
 use Rattle.fault_handler.specs.declared.access.Access.TheVariants.{Hit, Refuse}
 use Rattle.fault_handler.specs.declared.access.Local.{Local}
 use Rattle.fault_handler.specs.declared.access.Local.TheVariants.{Done, Refused, Misses}
+use Rattle.fault_handler.specs.declared.transits.Transit.{Transit}
 use Rattle.fault_handler.specs.Tasks.{page_of}
-use Rattle.fault_handler.specs.Desks.{DeskState}
+use Rattle.fault_handler.specs.ShownPages.{settled}
+use Rattle.fault_handler.specs.Desks.{DeskState, is_in_transit_there}
 use Rattle.fault_handler.specs.Outcomes.{Moved, Gives, as_access}
 use Rattle.fault_handler.specs.Accesses.{Accessed, DeskOp, Comes, page_by}
 use Rattle.fault_handler.specs.Invariant.{IsAllowed}
@@ -18,12 +22,45 @@ use Rattle.ring_messages.specs.declared.body.Body.TheVariants.{Page, Stored, Sta
 use Rattle.fault_handler.specs.LockCalls.{LockCall, lock_answer}
 use Rattle.fault_handler.specs.PageReplies.{PageAnswer, page_answer}
 
--- the pages as a desk shows them: which frame each is in is not told
-abbrev pub unframed : Resident → Resident
-unframed r = record r { frame = 0 }
+-- a page as a desk shows it: which frame it is in is not told, nor the frame's mark that it is in transit
+abbrev pub bare : Resident → Resident
+bare r = record r { frame = 0; flags = record r.flags { transit = false } }
 
 abbrev pub shown : Cached → Cached
-shown c = record c { pages = map unframed c.pages }
+shown c = record c { pages = map bare c.pages }
+
+-- the shown pages, and the page that each process moves
+pub record Paged : Type 0 where
+  pub cache : Cached
+  pub moving : List (Option Transit)
+
+abbrev pub paged : Cached → List (Option Transit) → Paged
+paged c moving = record { cache = shown c; moving = moving }
+
+-- with other resident pages
+abbrev pub repaged : Paged → List Resident → Paged
+repaged p pages = record p { cache = record p.cache { pages = pages } }
+
+-- the mark of a page's frame says whether a process moves it
+abbrev pub IsMarkedBy : List (Option Transit) → Resident → Type 0
+IsMarkedBy moving r = r.flags.transit ≡ is_in_transit_there moving r.uid r.page
+
+-- each page is marked so
+abbrev pub AreMarked : List Resident → List (Option Transit) → Type 0
+AreMarked pages moving = All (IsMarkedBy moving) pages
+
+-- the same, of what is moved by the four processes
+pub record AreFour (pages : List Resident) (moving : List (Option Transit)) : Type 0 where
+  pub four : length moving ≡ NODE_PROCESSES
+  pub marked : AreMarked pages moving
+
+-- sent home: a mark is set
+abbrev pub marked_sent : Resident → Resident
+marked_sent r = record r { flags = record r.flags { sent = true; transit = true } }
+
+-- no longer on its way: it is taken away
+abbrev pub marked_settled : Bool → Resident → Resident
+marked_settled taken r = record r { flags = record (settled taken r).flags { transit = false } }
 
 -- the bytes that a load takes from its page; a store takes none
 abbrev pub loaded_from : List ℕ → ℕ → Work → Option (List ℕ)

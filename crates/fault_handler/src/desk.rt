@@ -23,7 +23,6 @@ use crate::lengths::Known;
 use crate::open_call::OpenCall;
 use crate::pages::ResidentPages;
 use crate::tasks::Task;
-use crate::transits::Transit;
 use address_map::AddressMap;
 use dom_history::LockState;
 use page_frames::{FEWEST_FRAMES, MOST_FRAMES};
@@ -49,7 +48,6 @@ pub struct Desk {
     maps: [AddressMap; NODE_PROCESSES],
     calls: [Option<OpenCall>; NODE_PROCESSES],
     tasks: [Option<Task>; NODE_PROCESSES],
-    moving: [Option<Transit>; NODE_PROCESSES],
 }
 
 impl Model for Desk {
@@ -95,7 +93,6 @@ impl Desk {
             ],
             calls: [None; NODE_PROCESSES],
             tasks: [None, None, None, None],
-            moving: [None; NODE_PROCESSES],
         })
     }
 
@@ -114,7 +111,9 @@ impl Desk {
         ensures { result ≡ is_idle self.now proc.number }
     {
         let at = index_of(proc);
-        self.calls[at].is_none() && self.moving[at].is_none() && self.entries[at].keeps_all()
+        self.calls[at].is_none()
+            && self.pages.moving()[at].is_none()
+            && self.entries[at].keeps_all()
     }
 
     /// The node. Takes no memory.
@@ -176,14 +175,14 @@ impl Desk {
         ensures value { result ≡ other_transit self.now.moving proc.number uid }
         ensures kept { IsDesk self.now }
     {
-        other_transit(&self.moving, proc.number(), uid)
+        other_transit(self.pages.moving(), proc.number(), uid)
     }
 
     /// Whether a process of the node has a page in transit, either way. Takes no memory.
     pub fn in_transit(&self, uid: Uid, page: u32) -> bool
         ensures { result ≡ is_in_transit_there self.now.moving uid page }
     {
-        in_transit(&self.moving, uid, page)
+        in_transit(self.pages.moving(), uid, page)
     }
 
     /// Whether a body is an answer to the open call of a process. Takes no memory.
@@ -206,7 +205,7 @@ impl Desk {
         if !call.is_access() {
             return call.takes(body);
         }
-        match transit_of(&self.moving, proc) {
+        match transit_of(self.pages.moving(), proc) {
             Some(transit) => transit.takes(body),
             None => unreachable!(),
         }

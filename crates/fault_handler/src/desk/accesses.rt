@@ -4,15 +4,14 @@ ghost use Rattle.std.specs.Option.{ForSome, option_map};
 ghost use Rattle.dom_history.specs.Locks.{is_held};
 ghost use Rattle.dom_history.specs.Ranges.{IsOp};
 ghost use Rattle.page_cache.specs.Caches.{IsResident, page_at, free_count};
-ghost use Rattle.page_cache.specs.Victims.{victim_of};
 ghost use Rattle.address_map.specs.Mappings.{mapping_of};
 ghost use Rattle.ring_messages.specs.Bodies.{body_of_ask};
 ghost use Rattle.fault_handler.specs.Tasks.{page_of};
 ghost use Rattle.fault_handler.specs.Unseen.{ComesTo, GivesTo, IsLocal, MayMiss};
-ghost use Rattle.fault_handler.specs.Desks.{state_of, maps_of, others_fetch};
-ghost use Rattle.fault_handler.specs.Invariant.{IsAllowed, is_marked, is_dirty};
+ghost use Rattle.fault_handler.specs.Desks.{state_of, maps_of, others_fetch, is_in_transit_there};
+ghost use Rattle.fault_handler.specs.Invariant.{IsAllowed, is_dirty};
 ghost use Rattle.fault_handler.specs.Outcomes.{as_access, seen_access, Gives};
-ghost use Rattle.fault_handler.specs.Victims.{Victim};
+ghost use Rattle.fault_handler.specs.Victims.{Victim, named_page};
 ghost use Rattle.fault_handler.specs.Accesses.{Accessed, DeskOp, Comes, desk_op, page_by, load_at, store_at, length_by, map_by, unmap_by, access_of, target_of, page_out, fetched, room_made};
 ghost use Rattle.fault_handler.specs.Conditions.{IsOf, IsIdle, MayWant};
 ghost use Rattle.fault_handler.specs.Ready.{IsReady};
@@ -217,7 +216,7 @@ impl Desk {
     {
         let uid = task.uid;
         let page = task.page();
-        if others_fetch(&self.moving, proc.number(), uid, page) {
+        if others_fetch(self.pages.moving(), proc.number(), uid, page) {
             return Access::Wait(uid, page, Dropped::new(alloc));
         }
         if self.pages.free() > 0 {
@@ -268,15 +267,15 @@ impl Desk {
     fn chosen(&self, proc: ProcId) -> (Uid, u32, bool)
         requires idle { IsIdle self.now proc.number }
         requires full { free_count self.now.cache ≡ 0 }
-        ensures chosen { page_at self.now.cache.pages result.0 result.1 ≡ victim_of self.now.cache.pages }
+        ensures chosen { page_at self.now.cache.pages result.0 result.1 ≡ named_page self.now.moving self.now.cache.pages }
         ensures resident { IsResident self.now.cache.pages result.0 result.1 }
         ensures dirty { is_dirty (page_at self.now.cache.pages result.0 result.1) ≡ result.2 }
-        ensures still { is_marked (page_at self.now.cache.pages result.0 result.1) ≡ false }
+        ensures still { is_in_transit_there self.now.moving result.0 result.1 ≡ false }
     {
         self.kept(proc);
         match self.pages.victim() {
-            Some(name) => match self.pages.flags(name.0, name.1) {
-                Some(flags) => (name.0, name.1, flags.dirty),
+            Some(name) => match self.pages.is_dirty(name.0, name.1) {
+                Some(dirty) => (name.0, name.1, dirty),
                 None => unreachable!(),
             },
             None => unreachable!(),
@@ -296,7 +295,7 @@ impl Desk {
     ) -> Access
         requires idle { IsIdle self.old proc.number }
         requires dirty { is_dirty (page_at self.old.cache.pages uid page) ≡ true }
-        requires still { is_marked (page_at self.old.cache.pages uid page) ≡ false }
+        requires still { is_in_transit_there self.old.moving uid page ≡ false }
         requires allowed { IsAllowed self.old.entries proc.number task }
         ensures outcome { IfSome (page_at self.old.cache.pages uid page) (λ r. GivesTo self.new (room_made self.old proc.number task (Victim.SendsHome r)) result) }
     {

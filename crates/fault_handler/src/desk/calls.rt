@@ -9,8 +9,8 @@ ghost use Rattle.ring_messages.specs.Bodies.{body_of_ask};
 ghost use Rattle.fault_handler.specs.Entries.{keeps};
 ghost use Rattle.fault_handler.specs.Lengths.{known_of, is_changed};
 ghost use Rattle.fault_handler.specs.Transits.{going};
-ghost use Rattle.fault_handler.specs.Desks.{IsNode, entries_of, entry_at, state_of, moving_of, any_keeps, others_write};
-ghost use Rattle.fault_handler.specs.Invariant.{is_marked, is_dirty, IsCallAtNode};
+ghost use Rattle.fault_handler.specs.Desks.{IsNode, entries_of, entry_at, state_of, moving_of, any_keeps, others_write, is_in_transit_there};
+ghost use Rattle.fault_handler.specs.Invariant.{is_dirty, IsCallAtNode};
 ghost use Rattle.fault_handler.specs.Changes.{with_state, with_note, with_raised, with_forgotten, with_page_done, with_length_done, with_call, with_sent_page, with_known_row, with_seen, with_no_page};
 ghost use Rattle.fault_handler.specs.Accesses.{own_page_out};
 ghost use Rattle.fault_handler.specs.Conditions.{IsOf, IsNotAccessing, IsOther};
@@ -19,7 +19,6 @@ use super::Desk;
 use crate::four::{index_of, transit_of};
 use crate::lengths::Known;
 use crate::open_call::OpenCall;
-use crate::transits::Transit;
 use dom_history::LockState;
 use page_cache::PageList;
 use ring_messages::{Body, PageBytes};
@@ -86,13 +85,8 @@ impl Desk {
         ensures done { self.new ≡ with_page_done self.old proc.number taken }
         ensures node { self.new.node ≡ self.old.node }
     {
-        let at = index_of(proc);
-        match transit_of(&self.moving, proc) {
-            Some(transit) => {
-                self.pages.settle(transit.uid, transit.page, taken);
-                self.moving[at] = None;
-            }
-            None => self.moving[at] = None,
+        if let Some(transit) = transit_of(self.pages.moving(), proc) {
+            self.pages.settle(proc, transit.uid, transit.page, taken);
         }
     }
 
@@ -141,7 +135,7 @@ impl Desk {
         requires other { IsNotAccessing self.old proc.number }
         requires alone { (moving_of self.old proc.number ≡ None) ⊎ (moving_of self.old proc.number ≡ going uid page) }
         requires resident { IsResident self.old.cache.pages uid page }
-        requires still { (moving_of self.old proc.number ≡ None) → is_marked (page_at self.old.cache.pages uid page) ≡ false }
+        requires still { (moving_of self.old proc.number ≡ None) → is_in_transit_there self.old.moving uid page ≡ false }
         ensures unchanged { OnErr result (self.new ≡ self.old) }
         ensures desk { OnOk result (self.new ≡ with_sent_page self.old proc.number uid page) }
         ensures body { IfOk result (λ body. IfSome (page_at self.old.cache.pages uid page) (λ r. body ≡ body_of_ask (own_page_out self.old proc.number uid page r.bytes))) }
@@ -154,12 +148,7 @@ impl Desk {
             base: self.seen.of(uid).unwrap_or(0),
             bytes: PageBytes::new(alloc, self.pages.bytes(uid, page))?,
         };
-        self.pages.send(uid, page);
-        self.moving[at] = Some(Transit {
-            uid,
-            page,
-            inward: false,
-        });
+        self.pages.send(proc, uid, page);
         Ok(body)
     }
 
@@ -193,7 +182,7 @@ impl Desk {
     /// Drops all pages of an object, and tells which they were, rising. Without memory nothing changes.
     pub fn drop_pages(&mut self, alloc: Global, uid: Uid) -> Result<PageList, NoMemory>
         requires clean { (page : ℕ) → is_dirty (page_at self.old.cache.pages uid page) ≡ false }
-        requires still { (page : ℕ) → is_marked (page_at self.old.cache.pages uid page) ≡ false }
+        requires still { (page : ℕ) → is_in_transit_there self.old.moving uid page ≡ false }
         ensures dropped { IfOk result (λ pages. pages ≡ resident_pages self.old.cache.pages uid) }
         ensures desk { OnOk result (self.new ≡ with_no_page self.old uid) }
         ensures unchanged { OnErr result (self.new ≡ self.old) }

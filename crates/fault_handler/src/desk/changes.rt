@@ -3,13 +3,13 @@ ghost use Rattle.std.specs.Prelude.{◌≡◌, ◌+◌, ◌/◌, ◌%◌, ◌<�
 ghost use Rattle.std.specs.Bool.{OnTrue, OnFalse};
 ghost use Rattle.std.specs.Option.{option_map};
 ghost use Rattle.uid_names.specs.Rooms.{IsLength, IsPageNumber};
-ghost use Rattle.page_cache.specs.Caches.{page_at, free_count};
+ghost use Rattle.page_cache.specs.Caches.{IsResident, page_at, free_count};
 ghost use Rattle.version_stamps.specs.Stamps.{stamp_of};
 ghost use Rattle.fault_handler.specs.Entries.{keeps_writing};
 ghost use Rattle.fault_handler.specs.Tasks.{page_of};
 ghost use Rattle.fault_handler.specs.Transits.{coming, going};
-ghost use Rattle.fault_handler.specs.Desks.{entry_at, open_call_of, task_of, moving_of, others_fetch};
-ghost use Rattle.fault_handler.specs.Invariant.{IsAllowed, is_marked, is_dirty};
+ghost use Rattle.fault_handler.specs.Desks.{entry_at, open_call_of, task_of, moving_of, others_fetch, is_in_transit_there};
+ghost use Rattle.fault_handler.specs.Invariant.{IsAllowed, is_dirty};
 ghost use Rattle.fault_handler.specs.Conditions.{IsIdle};
 ghost use Rattle.fault_handler.specs.Changes.{with_used, with_stored, with_dropped, with_end, with_raised, with_fetch, with_eviction, with_sent_again, with_arrival, with_loss, with_room_settled};
 
@@ -17,7 +17,6 @@ use super::Desk;
 use crate::four::index_of;
 use crate::open_call::OpenCall;
 use crate::tasks::Task;
-use crate::transits::Transit;
 use std::mem;
 use uid_names::{ByteList, NODE_PROCESSES, NoMemory, PAGE_BYTES, ProcId, Uid};
 
@@ -82,6 +81,39 @@ impl Desk {
         self.pages.store(uid, page, start, bytes)
     }
 
+    /// Stores bytes at an offset of an object, in its page, which was used last. The known length of the object is that of
+    /// the end at least.
+    pub(super) fn store_last(&mut self, proc: ProcId, uid: Uid, offset: u32, bytes: &[u8])
+        requires within { offset % PAGE_BYTES + length bytes.now ≤ PAGE_BYTES }
+        requires page { IsPageNumber (offset / PAGE_BYTES) }
+        requires writes { keeps_writing (entry_at self.old.entries proc.number uid) ≡ true }
+        requires resident { IsResident self.old.cache.pages uid (offset / PAGE_BYTES) }
+        requires last { with_used self.old uid (offset / PAGE_BYTES) ≡ self.old }
+        ensures { self.new
+            ≡ with_end (with_stored self.old uid (offset / PAGE_BYTES) (offset % PAGE_BYTES) bytes.now) uid (offset + length bytes.now) }
+    {
+        self.store_in_place(
+            proc,
+            uid,
+            offset / PAGE_BYTES as u32,
+            offset % PAGE_BYTES as u32,
+            bytes,
+        );
+        self.grow(proc, uid, offset + bytes.len() as u32);
+    }
+
+    /// Stores bytes in a page, which was used last.
+    fn store_in_place(&mut self, proc: ProcId, uid: Uid, page: u32, start: u32, bytes: &[u8])
+        requires within { start + length bytes.now ≤ PAGE_BYTES }
+        requires writes { keeps_writing (entry_at self.old.entries proc.number uid) ≡ true }
+        requires resident { IsResident self.old.cache.pages uid page }
+        requires last { with_used self.old uid page ≡ self.old }
+        ensures { self.new ≡ with_stored self.old uid page start bytes.now }
+    {
+        self.kept(proc);
+        self.pages.store_in_place(uid, page, start, bytes);
+    }
+
     /// A store ended there, of a process that keeps the object in a mode that writes: the object's known
     /// length is that at least.
     fn grow(&mut self, proc: ProcId, uid: Uid, end: u32)
@@ -97,7 +129,7 @@ impl Desk {
 
     /// Drops a page that is not on its way home.
     pub(super) fn drop_page(&mut self, uid: Uid, page: u32)
-        requires { is_marked (page_at self.old.cache.pages uid page) ≡ false }
+        requires { is_in_transit_there self.old.moving uid page ≡ false }
         ensures { self.new ≡ with_dropped self.old uid page }
     {
         self.pages.remove(uid, page);
@@ -124,41 +156,32 @@ impl Desk {
         let at = index_of(proc);
         let uid = task.uid;
         let page = task.page();
-        self.pages.reserve();
+        self.pages.fetch(proc, uid, page);
         self.calls[at] = Some(OpenCall::Access);
         self.tasks[at] = Some(task);
-        self.moving[at] = Some(Transit {
-            uid,
-            page,
-            inward: true,
-        });
     }
 
     /// A dirty page goes home, to make room for that of a load or store.
     pub(super) fn evict(&mut self, proc: ProcId, task: Task, uid: Uid, page: u32)
         requires idle { IsIdle self.old proc.number }
         requires dirty { is_dirty (page_at self.old.cache.pages uid page) ≡ true }
-        requires still { is_marked (page_at self.old.cache.pages uid page) ≡ false }
+        requires still { is_in_transit_there self.old.moving uid page ≡ false }
         requires allowed { IsAllowed self.old.entries proc.number task }
         ensures { self.new ≡ with_eviction self.old proc.number task uid page }
     {
         let at = index_of(proc);
-        self.pages.send(uid, page);
+        self.pages.send(proc, uid, page);
         self.calls[at] = Some(OpenCall::Access);
         self.tasks[at] = Some(task);
-        self.moving[at] = Some(Transit {
-            uid,
-            page,
-            inward: false,
-        });
     }
 
-    /// A page that is on its way home is sent again.
-    pub(super) fn send_again(&mut self, uid: Uid, page: u32)
-        requires { is_marked (page_at self.old.cache.pages uid page) ≡ true }
+    /// A page that a process sent home is sent again.
+    pub(super) fn send_again(&mut self, proc: ProcId, uid: Uid, page: u32)
+        requires { moving_of self.old proc.number ≡ going uid page }
         ensures { self.new ≡ with_sent_again self.old uid page }
     {
-        self.pages.send(uid, page);
+        self.kept(proc);
+        self.pages.send(proc, uid, page);
     }
 
     /// The page came that the load or store of a process asked for, which is open no more: gives it back.
@@ -177,9 +200,8 @@ impl Desk {
         ensures unchanged { OnErr result (self.new ≡ self.old) }
     {
         let at = index_of(proc);
-        self.pages.install(uid, page, bytes)?;
+        self.pages.arrive(proc, uid, page, bytes)?;
         self.calls[at] = None;
-        self.moving[at] = None;
         Ok(ended(&mut self.tasks, at))
     }
 
@@ -195,9 +217,8 @@ impl Desk {
         ensures seen { IsSome (stamp_of uid self.old.seen) }
     {
         let at = index_of(proc);
-        self.pages.settle(uid, page, taken);
+        self.pages.settle(proc, uid, page, taken);
         self.calls[at] = None;
-        self.moving[at] = None;
         ended(&mut self.tasks, at)
     }
 
@@ -206,11 +227,9 @@ impl Desk {
         requires { moving_of self.old proc.number ≡ coming uid page }
         ensures { self.new ≡ with_loss self.old proc.number }
     {
-        let _page = (uid, page);
         let at = index_of(proc);
-        self.pages.unreserve();
+        self.pages.lose(proc, uid, page);
         self.calls[at] = None;
-        self.moving[at] = None;
         self.tasks[at] = None;
     }
 }

@@ -97,7 +97,7 @@ impl Desk {
         ensures fits { fits_way result.inward body.now ≡ true }
     {
         self.kept(proc);
-        match transit_of(&self.moving, proc) {
+        match transit_of(self.pages.moving(), proc) {
             Some(transit) => transit,
             None => unreachable!(),
         }
@@ -176,7 +176,7 @@ impl Desk {
             Some(bytes) => Reply::Bytes(bytes),
             None => match &task.work {
                 Work::Store(bytes) => {
-                    self.store_page(proc, task.uid, task.offset, bytes.bytes());
+                    self.store_last(proc, task.uid, task.offset, bytes.bytes());
                     Reply::Fine
                 }
                 Work::Load(_) => unreachable!(),
@@ -264,7 +264,7 @@ impl Desk {
         let place = blank_page(alloc)?;
         self.raise(transit.uid, stamp);
         let body = self.page_out(transit.uid, transit.page, place);
-        self.send_again(transit.uid, transit.page);
+        self.send_again(proc, transit.uid, transit.page);
         Ok(Access::Need(transit.uid.home(), body, Dropped::new(alloc)))
     }
 
@@ -291,7 +291,7 @@ impl Desk {
         ensures node { self.new.node ≡ self.old.node }
         ensures nodes { self.new.nodes ≡ self.old.nodes }
     {
-        let Some(transit) = transit_of(&self.moving, proc) else {
+        let Some(transit) = transit_of(self.pages.moving(), proc) else {
             unreachable!()
         };
         if transit.inward {

@@ -1,7 +1,6 @@
 use Rattle.std.proofs.Common.{◌∙◌, ap}
 use Rattle.fault_handler.specs.Changes.{with_sent_again}
-use Rattle.fault_handler.proofs.Reached.{IsSome-marked}
-use Rattle.fault_handler.proofs.Replying.{seen-going, marked-going, gives-again}
+use Rattle.fault_handler.proofs.Replying.{seen-going, there-going, gives-again}
 use Rattle.fault_handler.proofs.desk.Desk.page_stale.Goals as goal
 
 pub raise-requires-clause-known : goal.raise-requires-clause-known
@@ -10,11 +9,11 @@ raise-requires-clause-known c =
 
 pub page_out-body-requires : goal.page_out-body-requires
 page_out-body-requires c =
-    rw c.raise.ensures (IsSome-marked _ (marked-going c.args.self.now c.args.proc.number c.kept.ensures.desk c.kept.ensures.process c.args.transit.uid c.args.transit.page c.requires.access c.requires.going))
+    rw c.raise.ensures (there-going c.args.self.now c.args.proc.number c.kept.ensures.desk c.kept.ensures.process c.args.transit.uid c.args.transit.page c.requires.access c.requires.going)
 
 pub send_again-requires : goal.send_again-requires
 send_again-requires c =
-    rw c.raise.ensures (marked-going c.args.self.now c.args.proc.number c.kept.ensures.desk c.kept.ensures.process c.args.transit.uid c.args.transit.page c.requires.access c.requires.going)
+    rw c.raise.ensures c.requires.going
 
 pub returns-clause-outcome : goal.returns-clause-outcome
 returns-clause-outcome c =

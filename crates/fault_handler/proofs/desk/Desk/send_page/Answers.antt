@@ -1,11 +1,10 @@
-use Rattle.std.proofs.Common.{◌≡◌, ◌-◌, arith}
+use Rattle.std.proofs.Common.{arith}
 use Rattle.fault_handler.specs.Insides.{desk_of}
 use Rattle.fault_handler.proofs.TransitKeeps.{IsDesk-with_sent_page}
 use Rattle.fault_handler.proofs.desk.Desk.send_page.Goals as goal
 
 pub invariant_of-self : goal.invariant_of-self
 invariant_of-self c =
-    let at : c.index_of-at.result ≡ c.args.proc.number - 1 = omega arith in
     let asked = rw (← c.self.view_is) at c.requires in
-    rw (at, c.send.ensures)
+    rw c.send.ensures
     (IsDesk-with_sent_page (desk_of c.self.inside) c.args.proc.number c.self.invariant (omega arith, omega arith) c.args.uid c.args.page asked.keeps asked.other asked.alone asked.resident asked.still)

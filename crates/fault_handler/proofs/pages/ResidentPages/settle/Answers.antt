@@ -1,14 +1,36 @@
-use Rattle.std.proofs.Common.{refl}
-use Rattle.page_cache.proofs.CacheLemmas.{same_cache}
-use Rattle.fault_handler.specs.ShownPages.{settled}
-use Rattle.fault_handler.proofs.Shown.{IsResident-unshown, flags_set}
+use Rattle.std.proofs.Common.{◌≡◌, ◌-◌, ◌∙◌, ap, map, refl, List, arith, None}
+use Rattle.page_cache.specs.Caches.{Resident}
+use Rattle.fault_handler.specs.ShownPages.{changed_page, settled}
+use Rattle.fault_handler.specs.Unseen.{bare, marked_settled}
+use Rattle.fault_handler.proofs.Fours.{length-put}
+use Rattle.fault_handler.proofs.Shown.{IsResident-unshown, flags_set, changed_page-shown, same_paged}
+use Rattle.fault_handler.proofs.Marks.{marked-settles}
 use Rattle.fault_handler.proofs.pages.ResidentPages.settle.Goals as goal
+use Rattle.fault_handler.proofs.pages.ResidentPages.settle.Goals.{After-index-self-index_of}
 
 pub frame_of-frame-requires : goal.frame_of-frame-requires
-frame_of-frame-requires c = IsResident-unshown c.self.inside.cache.pages c.args.uid c.args.page (rw (← c.self.view_is) at c.requires)
+frame_of-frame-requires c = IsResident-unshown c.self.inside.cache.pages c.args.uid c.args.page (rw (← c.self.view_is) at c.requires.resident)
+
+-- the flags are set of the page
+named : (c : After-index-self-index_of) → c.set_flags.new.self ≡ record c.self.inside.cache { pages = changed_page c.args.uid c.args.page (marked_settled c.args.taken) c.self.inside.cache.pages }
+named c =
+    c.set_flags.ensures
+    ∙ ap {A = List Resident} (λ pages. record c.self.inside.cache { pages = pages })
+    (flags_set c.self.inside.cache c.frame_of-frame.ensures.cache c.args.uid c.args.page c.frame_of-frame.result c.frame_of-frame.ensures.in_it
+    (IsResident-unshown c.self.inside.cache.pages c.args.uid c.args.page (rw (← c.self.view_is) at c.requires.resident)) c.flags-flags.result _ c.flags-flags.ensures (marked_settled c.args.taken) (λ r is. rw (is, c.settled_flags.ensures) refl))
+
+pub invariant_of-self : goal.invariant_of-self
+invariant_of-self c =
+    let at : c.index_of.result ≡ c.args.proc.number - 1 = omega arith in
+    let asked = rw (← c.self.view_is) at c.requires in
+    rw (at, named c)
+    (record {
+      four = length-put c.self.inside.moving c.args.proc.number None c.self.invariant.four;
+      marked = marked-settles c.self.inside.moving c.self.inside.cache.pages c.self.invariant.marked c.args.proc.number c.args.uid c.args.page c.self.invariant.four (omega arith, omega arith) c.args.taken asked.apart asked.moves;
+    })
 
 pub returns : goal.returns
 returns c =
-    let resident = IsResident-unshown c.self.inside.cache.pages c.args.uid c.args.page (rw (← c.self.view_is) at c.requires) in
-    let set = flags_set c.self.inside.cache c.frame_of-frame.ensures.cache c.args.uid c.args.page c.frame_of-frame.result c.frame_of-frame.ensures.in_it resident c.flags-flags.result _ c.flags-flags.ensures (settled c.args.taken) (λ r is. rw (is, c.settled_flags.ensures) refl) in
-    rw (← c.self.view_is, c.set_flags.ensures) (same_cache _ _ _ _ set)
+    let at : c.index_of.result ≡ c.args.proc.number - 1 = omega arith in
+    rw (← c.self.view_is, at, named c)
+    (same_paged _ _ _ _ _ _ _ refl (changed_page-shown c.args.uid c.args.page (marked_settled c.args.taken) (settled c.args.taken) (λ r. refl) c.self.inside.cache.pages) refl)
