@@ -22,8 +22,7 @@ use Rattle.fault_handler.specs.Ready.{IsReady, CallStands, LockStands, WriterSta
 use Rattle.fault_handler.proofs.Fours.{at-put_same}
 use Rattle.fault_handler.proofs.PageLists.{page_at-without_object_same}
 use Rattle.fault_handler.proofs.LockKeeps.{entry_after, entry_of-after_same}
-use Rattle.fault_handler.proofs.PageKeeps.{marked-there}
-use Rattle.fault_handler.proofs.TransitKeeps.{keeps_writing-keeps, going-marked}
+use Rattle.fault_handler.proofs.TransitKeeps.{there_is, keeps_writing-keeps, going-resident}
 use Rattle.lock_validate.specs.Answers.{dropped_of, removed, answered, answer_came_of}
 use Rattle.lock_validate.specs.Faults.{failed, call_failed_of}
 use Rattle.lock_validate.proofs.Dropping.{unkept-before}
@@ -68,8 +67,8 @@ module _ (d : DeskState) (p : ℕ) (is : IsDesk d) (proc : IsProc p) where
     -- the page that was sent before a release is on its way no more
     page_done-moves : (u : ObjectName) (k : ℕ) (delete taken : Bool) → IsPageSettled c u taken → Moves c turn p d shut [] → WriterStands d p u delete → moving_of d p ≡ going u k → Moves c turn p d (with_page_done shut p taken) []
     page_done-moves u k delete taken given moves stands goes =
-        let there = marked-there (page_at d.cache.pages u k) (going-marked d p is proc u k goes).0 in
-        Moves.next moves (Change.page_settles u k there.0 taken given shut-call (record { moves = goes; there = there.1; marked = there.2 }) stands.writes stands.others)
+        let there = there_is (page_at d.cache.pages u k) (going-resident d p is proc u k goes).0 in
+        Moves.next moves (Change.page_settles u k there.0 taken given shut-call (record { moves = goes; there = there.1 }) stands.writes stands.others)
 
     -- a state is set that is not Held: of an object on which the process is Free, or whose release it noted
     set-moves : (call : LockCall) (u : ObjectName) (s : LockState) → state_set shut p c ≡ Some (call, u, s, 0) → is_held s ≡ false → Moves c turn p d shut [] → CallStands d p call → moving_of d p ≡ None

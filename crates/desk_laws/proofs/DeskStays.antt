@@ -27,8 +27,8 @@ use Rattle.fault_handler.proofs.KnownKeeps.{raised-least, IsDesk-with_end, IsDes
 use Rattle.fault_handler.proofs.TransitKeeps.{keeps_writing-keeps, IsDesk-with_fetch, IsDesk-with_sent_page, IsDesk-with_eviction, IsDesk-with_arrival, IsDesk-with_loss, IsDesk-with_room_settled, IsDesk-with_page_done}
 use Rattle.fault_handler.proofs.Beginning.{segments-least}
 use Rattle.fault_handler.proofs.LockKeeps.{IsDesk-with_state, IsDesk-with_note, IsDesk-with_call, IsDesk-with_maps}
-use Rattle.fault_handler.proofs.Nothing.{none-marked, unkept-unmarked}
-use Rattle.fault_handler.proofs.Accessing.{idle-still}
+use Rattle.fault_handler.proofs.Nothing.{none-there, unkept-still}
+use Rattle.fault_handler.proofs.Choice.{idle-still}
 use Rattle.fault_handler.specs.Outcomes.{Turn}
 use Rattle.lock_validate.proofs.Good.{open-other}
 use Rattle.lock_validate.proofs.Releasing.{dirty-another, changed-another}
@@ -86,16 +86,16 @@ module _ (c : Cause) (turn : Turn) (p : ℕ) (proc : IsProc p) where
       IsDesk-with_end d task.uid (task.offset + length bytes) desk (end-within task (length bytes) does.allowed.range.page (store-within task bytes is does.allowed.range.within))
       (any-at (λ q. keeps_writing (entry_at d.entries q task.uid)) p proc (store-writes d p task bytes is does.allowed))
   change-desk d e dropped desk (Change.fetches task does missing frame asks) = IsDesk-with_fetch d p desk proc task does.idle missing.absent missing.unasked does.allowed
-  change-desk d e dropped desk (Change.drops task u k does missing full may asks) = IsDesk-with_dropped d u k desk (idle-still (page_at d.cache.pages u k) may)
+  change-desk d e dropped desk (Change.drops task u k does missing full may asks) = IsDesk-with_dropped d u k desk (idle-still d u k may)
   change-desk d e dropped desk (Change.evicts task r does missing full clean there dirty still asks) =
-      IsDesk-with_eviction d p desk proc task r.uid r.page does.idle (rw there dirty) (rw there still) does.allowed
+      IsDesk-with_eviction d p desk proc task r.uid r.page does.idle (rw there dirty) still does.allowed
   change-desk d e dropped desk (Change.arrives task stamp bytes reply given fetches seen whole ends) = IsDesk-with_arrival d p desk proc task.uid (page_of task) bytes fetches.moves whole
   change-desk d e dropped desk (Change.loses task t given fetches) = IsDesk-with_loss d p desk proc task.uid (page_of task) fetches.moves
   change-desk d e dropped desk (Change.settles_room task r taken given room) = IsDesk-with_room_settled d p desk proc r.uid r.page taken room.sends.moves
-  change-desk d e dropped desk (Change.sends_again task r stamp given room asks) = IsDesk-with_sent_again d r.uid r.page desk (rw room.sends.there room.sends.marked)
+  change-desk d e dropped desk (Change.sends_again task r stamp given room asks) = IsDesk-with_sent_again d r.uid r.page desk
   change-desk d e dropped desk (Change.sends delete u k r releasing still found there dirty asks) =
       IsDesk-with_sent_page d p desk proc u k (keeps_writing-keeps (entry_at d.entries p u) releasing.writes) (closed-other d p releasing.idle.no_call) (inl releasing.idle.no_page) (rw there refl)
-      (λ none. none-marked d p u desk releasing.idle.no_page still k)
+      (λ none. none-there d p u releasing.idle.no_page still k)
   change-desk d e dropped desk (Change.page_settles u k r taken given closed sends writes keeping) = IsDesk-with_page_done d p desk proc taken (closed-other d p closed)
   change-desk d e dropped desk (Change.length_settles u n delete taken stamp given idle writes) = IsDesk-with_length_done d u n taken desk
   change-desk d e dropped desk (Change.notes delete u given idle held may settled asks) = noted-desk d u desk idle settled
@@ -103,7 +103,7 @@ module _ (c : Cause) (turn : Turn) (p : ℕ) (proc : IsProc p) where
   change-desk d e dropped desk (Change.learns u m grant stamp room n given alone none fresh is_room is_length) =
       IsDesk-with_known_row d (record { uid = u; room = room; length = n; changed = false }) desk (record { room = is_room; length = is_length }) refl
   change-desk d e dropped desk (Change.raises u stamp given least known current) = IsDesk-with_seen d u (raised stamp (stamp_of u d.seen)) desk (raised-least stamp (stamp_of u d.seen) least) known
-  change-desk d e dropped desk (Change.drops_all u a given object may none) = IsDesk-with_no_page d u desk (unkept-unmarked d u desk none)
+  change-desk d e dropped desk (Change.drops_all u a given object may none) = IsDesk-with_no_page d u desk (unkept-still d u desk none)
   change-desk d e dropped desk (Change.forgets u given none absent) = IsDesk-with_forgotten d u desk none
   change-desk d e dropped desk (Change.opens call ask given closed stands node asks) = IsDesk-with_call d p (Some (open_call call)) desk proc (closed-other d p closed) (open-other call) (call-node d.nodes call node)
   change-desk d e dropped desk (Change.closes call given opened stands) = IsDesk-with_call d p None desk proc (opened-other d p call opened) (λ same. cc) tt

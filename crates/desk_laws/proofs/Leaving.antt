@@ -120,7 +120,7 @@ left-for P follows d p c is proc may =
 -- where room is needed a page is named that may make it
 finds-room : (p : ℕ) (P : Moved → Type 0) (a : Accessed) → Holds p P a → FindsRoom a
 finds-room p P (Accessed.Settled m) holds = tt
-finds-room p P (Accessed.NeedsRoom d task) holds = (holds.0, λ victim named. named-may d.cache.pages victim holds.1 named)
+finds-room p P (Accessed.NeedsRoom d task) holds = (holds.0, λ victim named. named-may d victim holds.1 named)
 
 pub comes_of-finds : (d : DeskState) (p : ℕ) (c : Cause) → IsDesk d → IsProc p → MayCome d p c → FindsRoom (comes_of d p c)
 comes_of-finds d p c is proc may = let found = some-of d p is proc c may in finds-room p (IsLeft p found.0) (comes_of d p c) (comes_of-left d p is proc c found.0 may found.1)

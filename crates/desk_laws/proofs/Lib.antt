@@ -1,6 +1,7 @@
 pub mod Facts
 pub mod DeskStays
 pub mod PageMoves
+pub mod GoesHome
 pub mod AccessMoves
 pub mod PageSaid
 pub mod PageCameMoves

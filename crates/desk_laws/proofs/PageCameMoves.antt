@@ -21,8 +21,7 @@ use Rattle.dom_history.specs.declared.op.Reply.TheVariants.{Fine, LinkFault}
 use Rattle.fault_handler.proofs.Answering.{coming-needed, going-own}
 use Rattle.fault_handler.proofs.Fours.{at-put_same}
 use Rattle.fault_handler.proofs.PageLists.{page_at-changed_same, found-uid, found-page}
-use Rattle.fault_handler.proofs.PageKeeps.{marked-there}
-use Rattle.fault_handler.proofs.TransitKeeps.{open_task, going-marked}
+use Rattle.fault_handler.proofs.TransitKeeps.{there_is, open_task, going-resident}
 use Rattle.desk_laws.specs.Causes.{Cause, IsPageAnswer}
 use Rattle.desk_laws.specs.Loading.{Does, Fetches, MakesRoom}
 use Rattle.desk_laws.specs.Moves.{Change, Moves}
@@ -91,14 +90,13 @@ module _ (d : DeskState) (p : ℕ) (is : IsDesk d) (proc : IsProc p) where
     not_taken-made = record {
       may = tt;
       moves = Moves.next (Moves.next Moves.none (Change.raises r.uid stamp refl least (known-going d p is proc r.uid r.page room.sends.moves) tt))
-          (Change.sends_again task r stamp refl (record { accessing = room.accessing; opened = room.opened; sends = record { moves = room.sends.moves; there = room.sends.there; marked = room.sends.marked }; dirty = room.dirty; allowed = room.allowed; keeping = room.keeping }) refl);
+          (Change.sends_again task r stamp refl (record { accessing = room.accessing; opened = room.opened; sends = record { moves = room.sends.moves; there = room.sends.there }; dirty = room.dirty; allowed = room.allowed; keeping = room.keeping }) refl);
       says = Says.sends_room not_taken task (as_sent r) refl (record {
         accessing = room.accessing;
         opened = room.opened;
         sends = record {
           moves = room.sends.moves;
           there = rw (page_at-changed_same r.uid r.page as_sent (λ v j s. refl) d.cache.pages, room.sends.there) refl;
-          marked = refl;
         };
         dirty = room.dirty;
         allowed = room.allowed;
@@ -148,5 +146,5 @@ module _ (d : DeskState) (p : ℕ) (is : IsDesk d) (proc : IsProc p) where
       }
       by_way false way =
           let goes = going-own d p is proc accessing opened.0 t opened.1 moves opened.2 way in
-          let there = marked-there (page_at d.cache.pages t.uid t.page) (going-marked d p is proc t.uid t.page goes).0 in
+          let there = there_is (page_at d.cache.pages t.uid t.page) (going-resident d p is proc t.uid t.page goes).0 in
           given_up there.0 t.uid t.page (found-uid d.cache.pages t.uid t.page there.0 there.1) (found-page d.cache.pages t.uid t.page there.0 there.1) goes there.1 (opened.2.goes way)

@@ -1,12 +1,13 @@
 -- A load or store at its page is moves, from the desk on which it is made.
-use Rattle.std.proofs.Common.{◌≡◌, ℕ, ◌+◌, nat_lt, Bool, true, false, List, [], ◌∷◌, length, reverse, Option, Some, None, refl, ap, ◌∙◌, arith}
+use Rattle.std.proofs.Common.{◌≡◌, ℕ, ◌+◌, nat_lt, Bool, true, false, not, List, [], ◌∷◌, length, reverse, Option, Some, None, refl, ap, ◌∙◌, arith}
+use Rattle.std.proofs.lemmas.Bool.{and_parts, not-true}
 use Rattle.std.proofs.lemmas.Bool.Decides.{nat_tests}
 use Rattle.std.specs.Option.{option_map}
 use Rattle.uid_names.specs.Names.{ObjectName}
 use Rattle.uid_names.proofs.Finds.{find-passes}
 use Rattle.page_cache.specs.Caches.{Resident, page_at, free_count}
 use Rattle.page_cache.specs.Changes.{used}
-use Rattle.page_cache.specs.Victims.{is_clean_choice, is_dirty_choice, oldest}
+use Rattle.page_cache.specs.Victims.{oldest}
 use Rattle.page_cache.proofs.PageLemmas.{page_at-oldest}
 use Rattle.dom_history.specs.declared.op.Reply.{Reply}
 use Rattle.ring_messages.specs.Bodies.{Ask}
@@ -17,10 +18,10 @@ use Rattle.fault_handler.specs.declared.tasks.Task.{Task}
 use Rattle.fault_handler.specs.ShownPages.{written, as_sent}
 use Rattle.fault_handler.specs.Tasks.{page_of, start_of}
 use Rattle.fault_handler.specs.Transits.{coming, going}
-use Rattle.fault_handler.specs.Desks.{DeskState, others_fetch}
+use Rattle.fault_handler.specs.Desks.{DeskState, others_fetch, is_in_transit_there}
 use Rattle.fault_handler.specs.Changes.{with_stored, with_dropped}
 use Rattle.fault_handler.specs.Outcomes.{Turn}
-use Rattle.fault_handler.specs.Victims.{Victim, MayMakeRoom}
+use Rattle.fault_handler.specs.Victims.{Victim, MayMakeRoom, is_idle_clean, is_idle_dirty}
 use Rattle.fault_handler.specs.Accesses.{Always, performed, fetched, room_made, frame_by, missed_by, page_by, page_access}
 use Rattle.fault_handler.specs.Drops.{MayDrop}
 use Rattle.fault_handler.specs.Invariant.{IsProc, IsFour, IsDesk}
@@ -87,12 +88,12 @@ module _ (c : Cause) (p : ℕ) (d g : DeskState) (task : Task) (moves : (turn : 
 
   module _ (may_drop : (u : ObjectName) (k : ℕ) → MayDrop g ((u, k) ∷ []) → MayDropPages d p c ((u, k) ∷ [])) (missing : IsMissing c p g task) where
     -- a dirty page is sent home
-    sent-made : (r : Resident) → free_count g.cache ≡ 0 → oldest is_clean_choice g.cache.pages ≡ None → oldest is_dirty_choice g.cache.pages ≡ Some r → IsMade c p d (room_made g p task (Victim.SendsHome r))
+    sent-made : (r : Resident) → free_count g.cache ≡ 0 → oldest (is_idle_clean g.moving) g.cache.pages ≡ None → oldest (is_idle_dirty g.moving) g.cache.pages ≡ Some r → IsMade c p d (room_made g p task (Victim.SendsHome r))
     sent-made r full clean found =
-        let there = page_at-oldest g.cache.pages desk.pages.once is_dirty_choice r found in
-        let chosen : is_dirty_choice r ≡ true = find-passes is_dirty_choice (reverse g.cache.pages) r found in
-        let dirty : r.flags.dirty ≡ true = grind (arith, nat_tests, chosen) in
-        let still : r.flags.transit ≡ false = grind (arith, nat_tests, chosen) in
+        let there = page_at-oldest g.cache.pages desk.pages.once (is_idle_dirty g.moving) r found in
+        let chosen = and_parts r.flags.dirty (not (is_in_transit_there g.moving r.uid r.page)) (find-passes (is_idle_dirty g.moving) (reverse g.cache.pages) r found) in
+        let dirty : r.flags.dirty ≡ true = chosen.0 in
+        let still : is_in_transit_there g.moving r.uid r.page ≡ false = not-true (is_in_transit_there g.moving r.uid r.page) chosen.1 in
         record {
           may = tt;
           moves = Moves.next (moves _) (Change.evicts task r does missing full clean there dirty still refl);
@@ -102,7 +103,6 @@ module _ (c : Cause) (p : ℕ) (d g : DeskState) (task : Task) (moves : (turn : 
             sends = record {
               moves = at-put_same g.moving p (going r.uid r.page) None desk.four.moving proc;
               there = rw (page_at-changed_same r.uid r.page as_sent (λ v j s. refl) g.cache.pages, there) refl;
-              marked = refl;
             };
             dirty = dirty;
             allowed = does.allowed;
@@ -111,7 +111,7 @@ module _ (c : Cause) (p : ℕ) (d g : DeskState) (task : Task) (moves : (turn : 
         }
 
     -- room is made for it
-    room_made-made : free_count g.cache ≡ 0 → (victim : Victim) → MayMakeRoom g.cache.pages victim → IsMade c p d (room_made g p task victim)
+    room_made-made : free_count g.cache ≡ 0 → (victim : Victim) → MayMakeRoom g victim → IsMade c p d (room_made g p task victim)
     room_made-made full (Victim.Drops u k) may =
         fetched-made c p d (with_dropped g u k) task proc
         (record { entries = desk.four.entries; maps = desk.four.maps; calls = desk.four.calls; tasks = desk.four.tasks; moving = desk.four.moving })

@@ -20,7 +20,7 @@ use Rattle.fault_handler.specs.Invariant.{IsProc, is_dirty, IsAllowed, IsDesk}
 use Rattle.fault_handler.specs.Conditions.{IsAccessing}
 use Rattle.fault_handler.proofs.Answering.{IsSaid, page_answer-said}
 use Rattle.fault_handler.proofs.Fours.{any-of}
-use Rattle.fault_handler.proofs.TransitKeeps.{KeepsAll-open, going-marked, coming-absent}
+use Rattle.fault_handler.proofs.TransitKeeps.{KeepsAll-open, going-resident, coming-absent}
 use Rattle.desk_laws.specs.Causes.{IsPageAnswer}
 use Rattle.desk_laws.specs.Loading.{Fetches, MakesRoom}
 
@@ -39,11 +39,10 @@ module _ (d : DeskState) (p : ℕ) (is : IsDesk d) (proc : IsProc p) (accessing 
   -- the page that it sends home
   pub makes-of : (r : Resident) → moving_of d p ≡ going r.uid r.page → page_at d.cache.pages r.uid r.page ≡ Some r → is_dirty (page_at d.cache.pages r.uid r.page) ≡ true → MakesRoom p d task r
   makes-of r goes there dirty =
-      let marked : r.flags.transit ≡ true = rw there at (going-marked d p is proc r.uid r.page goes).0 in
       record {
         accessing = accessing;
         opened = opened;
-        sends = record { moves = goes; there = there; marked = marked };
+        sends = record { moves = goes; there = there };
         dirty = rw there at dirty;
         allowed = allowed;
         keeping = KeepsAll-open d p is proc accessing;
@@ -70,7 +69,7 @@ module _ (d : DeskState) (p : ℕ) (is : IsDesk d) (proc : IsProc p) where
   -- something is known of an object whose page goes home
   pub known-going : (u : ObjectName) (k : ℕ) → moving_of d p ≡ going u k → IsSome (known_of u d.known)
   known-going u k goes =
-      let found = any-of (λ q. keeps (entry_at d.entries q u)) (going-marked d p is proc u k goes).1 in
+      let found = any-of (λ q. keeps (entry_at d.entries q u)) (going-resident d p is proc u k goes).1 in
       is.known.both u (is.known.kept found.0 found.1 u found.2)
 
 -- the stamp of a page that is not an old one is the seen one then

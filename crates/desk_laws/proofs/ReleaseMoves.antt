@@ -90,7 +90,6 @@ module _ (c : Cause) (p : ℕ) (d g : DeskState) (u : ObjectName) (moves : (turn
       says = Says.sends_page c delete u k (as_sent r) releasing.given (at-put_same g.calls p (Some (open_call (LockCall.PageOut u k delete))) None desk.four.calls proc) (record {
         moves = at-put_same g.moving p (going u k) None desk.four.moving proc;
         there = rw (page_at-changed_same u k as_sent (λ v j s. refl) g.cache.pages, there) refl;
-        marked = refl;
       });
     }
 

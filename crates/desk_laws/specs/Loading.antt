@@ -49,7 +49,7 @@ pub record IsMissing (c : Cause) (p : ℕ) (d : DeskState) (task : Task) : Type 
 -- a frame is free for a page: one was, or a page was dropped from it
 pub data HasFrame : DeskState → Type 0 where
   free : (d : DeskState) → nat_lt 0 (free_count d.cache) ≡ true → HasFrame d
-  emptied : (d : DeskState) (u : ObjectName) (k : ℕ) → free_count d.cache ≡ 0 → is_idle_page (page_at d.cache.pages u k) ≡ true → HasFrame (with_dropped d u k)
+  emptied : (d : DeskState) (u : ObjectName) (k : ℕ) → free_count d.cache ≡ 0 → is_idle_page d u k ≡ true → HasFrame (with_dropped d u k)
 
 -- the open load or store moves its page from its home
 pub record Fetches (p : ℕ) (d : DeskState) (task : Task) : Type 0 where
@@ -64,7 +64,6 @@ pub record Fetches (p : ℕ) (d : DeskState) (task : Task) : Type 0 where
 pub record SendsPage (p : ℕ) (d : DeskState) (u : ObjectName) (k : ℕ) (r : Resident) : Type 0 where
   pub moves : moving_of d p ≡ going u k
   pub there : page_at d.cache.pages u k ≡ Some r
-  pub marked : r.flags.transit ≡ true
 
 -- an open load or store does, to make room
 pub record MakesRoom (p : ℕ) (d : DeskState) (task : Task) (r : Resident) : Type 0 where

@@ -12,7 +12,7 @@ use Rattle.dom_history.specs.declared.op.Reply.TheVariants.{Fine, Bytes}
 use Rattle.dom_history.specs.Locks.{is_held}
 use Rattle.dom_history.specs.Replies.{may_write, may_delete}
 use Rattle.page_cache.specs.Caches.{Resident, page_at, free_count}
-use Rattle.page_cache.specs.Victims.{is_clean_choice, oldest}
+use Rattle.page_cache.specs.Victims.{oldest}
 use Rattle.page_cache.specs.Numbers.{dirty_page, resident_pages}
 use Rattle.version_stamps.specs.Stamps.{stamp_of}
 use Rattle.address_map.specs.Mappings.{mapping_of, without_mapping}
@@ -25,11 +25,11 @@ use Rattle.fault_handler.specs.declared.transits.Transit.{Transit}
 use Rattle.fault_handler.specs.Lengths.{known_of, room_of}
 use Rattle.fault_handler.specs.Entries.{keeps_writing}
 use Rattle.fault_handler.specs.Tasks.{page_of, start_of}
-use Rattle.fault_handler.specs.Desks.{DeskState, IsNode, entry_at, state_of, maps_of, open_call_of, others_keep, other_transit, any_keeps}
+use Rattle.fault_handler.specs.Desks.{DeskState, IsNode, entry_at, state_of, maps_of, open_call_of, others_keep, other_transit, any_keeps, is_in_transit_there}
 use Rattle.fault_handler.specs.Accesses.{DeskOp, page_out, own_page_out}
 use Rattle.fault_handler.specs.Outcomes.{Turn}
 use Rattle.fault_handler.specs.Changes.{with_used, with_stored, with_dropped, with_no_page, with_end, with_length_done, with_known_row, with_raised, with_forgotten, with_fetch, with_sent_page, with_eviction, with_sent_again, with_arrival, with_loss, with_room_settled, with_page_done, with_call, with_maps, with_state, with_note}
-use Rattle.fault_handler.specs.Victims.{is_idle_page}
+use Rattle.fault_handler.specs.Victims.{is_idle_clean, is_idle_page}
 use Rattle.fault_handler.specs.PageReplies.{PageAnswer}
 use Rattle.fault_handler.specs.LockCalls.{LockCall, LockAnswer, open_call}
 use Rattle.fault_handler.specs.Invariant.{KeepsAll}
@@ -56,10 +56,10 @@ pub data Change (c : Cause) (turn : Turn) (p : ℕ) (d : DeskState) : DeskState 
   grows : (task : Task) (bytes : List ℕ) → Does c p d task → task.work ≡ Store bytes → turn ≡ Turn.Ends Fine → Change c turn p d (with_end d task.uid (task.offset + length bytes)) []
   -- a page is asked for, or one is dropped or sent home to make room for it
   fetches : (task : Task) → Does c p d task → IsMissing c p d task → HasFrame d → turn ≡ Turn.Asks task.uid.home (Ask.PageIn task.uid (page_of task)) → Change c turn p d (with_fetch d p task) []
-  drops : (task : Task) (u : ObjectName) (k : ℕ) → Does c p d task → IsMissing c p d task → free_count d.cache ≡ 0 → is_idle_page (page_at d.cache.pages u k) ≡ true → turn ≡ Turn.Asks task.uid.home (Ask.PageIn task.uid (page_of task))
+  drops : (task : Task) (u : ObjectName) (k : ℕ) → Does c p d task → IsMissing c p d task → free_count d.cache ≡ 0 → is_idle_page d u k ≡ true → turn ≡ Turn.Asks task.uid.home (Ask.PageIn task.uid (page_of task))
       → Change c turn p d (with_dropped d u k) ((u, k) ∷ [])
-  evicts : (task : Task) (r : Resident) → Does c p d task → IsMissing c p d task → free_count d.cache ≡ 0 → oldest is_clean_choice d.cache.pages ≡ None
-      → page_at d.cache.pages r.uid r.page ≡ Some r → r.flags.dirty ≡ true → r.flags.transit ≡ false → turn ≡ Turn.Asks r.uid.home (page_out d r.uid r.page r.bytes) → Change c turn p d (with_eviction d p task r.uid r.page) []
+  evicts : (task : Task) (r : Resident) → Does c p d task → IsMissing c p d task → free_count d.cache ≡ 0 → oldest (is_idle_clean d.moving) d.cache.pages ≡ None
+      → page_at d.cache.pages r.uid r.page ≡ Some r → r.flags.dirty ≡ true → is_in_transit_there d.moving r.uid r.page ≡ false → turn ≡ Turn.Asks r.uid.home (page_out d r.uid r.page r.bytes) → Change c turn p d (with_eviction d p task r.uid r.page) []
   -- a page came, of the seen stamp, and the operation ends; or it will not come
   arrives : (task : Task) (stamp : ℕ) (bytes : List ℕ) (reply : Reply) → c ≡ Cause.PageCame (PageAnswer.Came task stamp bytes) → Fetches p d task → stamp_of task.uid d.seen ≡ Some stamp
       → length bytes ≡ PAGE_BYTES → turn ≡ Turn.Ends reply → Change c turn p d (with_arrival d p task.uid (page_of task) bytes) []

@@ -6,4 +6,4 @@ use Rattle.fault_handler.specs.Victims.{Victim, MayMakeRoom, named_victim}
 -- a page is named to make room, and it may make it
 abbrev pub FindsRoom : Accessed → Type 0
 FindsRoom (Accessed.Settled m) = Unit {0}
-FindsRoom (Accessed.NeedsRoom d task) = IsSome (named_victim d.cache.pages) × ((victim : Victim) → named_victim d.cache.pages ≡ Some victim → MayMakeRoom d.cache.pages victim)
+FindsRoom (Accessed.NeedsRoom d task) = IsSome (named_victim d) × ((victim : Victim) → named_victim d ≡ Some victim → MayMakeRoom d victim)

@@ -9,10 +9,10 @@ ghost use Rattle.page_cache.specs.Caches.{page_at, free_count};
 ghost use Rattle.fault_handler.specs.declared.tasks.Task.{Task};
 ghost use Rattle.fault_handler.specs.Lengths.{known_of, is_changed};
 ghost use Rattle.fault_handler.specs.Transits.{going};
-ghost use Rattle.fault_handler.specs.Desks.{DeskState, any_writes, moving_of};
+ghost use Rattle.fault_handler.specs.Desks.{DeskState, any_writes, moving_of, is_in_transit_there};
 ghost use Rattle.fault_handler.specs.Victims.{Victim, is_idle_page, MayMakeRoom, named_victim};
 ghost use Rattle.fault_handler.specs.Accesses.{room_made};
-ghost use Rattle.fault_handler.specs.Invariant.{IsProc, is_dirty, is_marked, AreApart, IsDesk};
+ghost use Rattle.fault_handler.specs.Invariant.{IsProc, is_dirty, AreApart, IsDesk};
 ghost use Rattle.fault_handler.specs.Conditions.{IsIdle};
 ghost use Rattle.fault_handler.specs.Ready.{IsReady};
 ghost use Rattle.fault_handler.specs.Next.{FitsTurn, IsAsked, IsNext};
@@ -75,8 +75,8 @@ pub fn pages_are_dropped_only_where_they_may_be()
 
 /// Which page makes room is free: any clean page that is not in transit may, and it alone is dropped then.
 pub fn any_clean_page_may_make_room()
-    ensures may { (d : DeskState) (u : ObjectName) (k : ℕ) → is_idle_page (page_at d.cache.pages u k) ≡ true →
-        MayMakeRoom d.cache.pages (Victim.Drops u k) }
+    ensures may { (d : DeskState) (u : ObjectName) (k : ℕ) → is_idle_page d u k ≡ true →
+        MayMakeRoom d (Victim.Drops u k) }
     ensures dropped { (d : DeskState) (p : ℕ) (task : Task) (u : ObjectName) (k : ℕ) →
         (room_made d p task (Victim.Drops u k)).dropped ≡ (u, k) ∷ [] }
 {}
@@ -103,7 +103,7 @@ pub fn a_wait_is_for_a_page_that_another_process_moves()
 /// a call needs room a page is named, and it may make it: what a call of the code comes to is among what is said here.
 pub fn a_page_can_be_chosen()
     ensures there { (d : DeskState) (p : ℕ) → IsDesk d → IsProc p → moving_of d p ≡ None → free_count d.cache ≡ 0 →
-        IsSome (named_victim d.cache.pages) }
+        IsSome (named_victim d) }
     ensures found { (d : DeskState) (p : ℕ) (c : Cause) → IsDesk d → IsProc p → MayCome d p c → FindsRoom (comes_of d p c) }
 {}
 
@@ -115,10 +115,10 @@ pub fn what_is_changed_has_a_writer()
         any_writes d.entries u ≡ true }
 {}
 
-/// A page that is on its way home is moved by a process, and no two processes move one page.
+/// A page that is resident and in transit goes home, by a process, and no two processes move one page.
 pub fn a_page_in_transit_is_moved_by_one_process()
-    ensures moved { (d : DeskState) (u : ObjectName) (k : ℕ) → IsDesk d → is_marked (page_at d.cache.pages u k) ≡ true →
-        (q : ℕ) × IsProc q × (moving_of d q ≡ going u k) }
+    ensures moved { (d : DeskState) (u : ObjectName) (k : ℕ) → IsDesk d → IsSome (page_at d.cache.pages u k) →
+        is_in_transit_there d.moving u k ≡ true → (q : ℕ) × IsProc q × (moving_of d q ≡ going u k) }
     ensures alone { (d : DeskState) → IsDesk d → AreApart d.moving }
 {}
 

@@ -114,7 +114,7 @@ moving-page u k t is = same-page t.uid t.page u k is
 
 module _ (pages : List Resident) (entries : List (List LockEntry)) (q : ℕ) (u : ObjectName) (k : ℕ) where
   -- what fits the transit of a page speaks of that page
-  FitsWay-named : (t : Transit) → is_moving u k (Some t) ≡ true → FitsTransit pages entries q (Some t) → FitsWay t.inward pages entries q u k
+  pub FitsWay-named : (t : Transit) → is_moving u k (Some t) ≡ true → FitsTransit pages entries q (Some t) → FitsWay t.inward pages entries q u k
   FitsWay-named t is fits = subst (λ (n : ℕ). FitsWay t.inward pages entries q u n) (moving-page u k t is) (subst (λ (v : ObjectName). FitsWay t.inward pages entries q v t.page) (moving-uid u k t is) fits)
 
   -- a page that is not resident and is moved comes

@@ -7,11 +7,11 @@ ghost use Rattle.page_cache.specs.Caches.{page_at};
 ghost use Rattle.version_stamps.specs.Stamps.{stamp_of};
 ghost use Rattle.ring_messages.specs.Ranges.{IsBody};
 ghost use Rattle.fault_handler.specs.Entries.{keeps, keeps_writing};
-ghost use Rattle.fault_handler.specs.Desks.{entry_at, open_call_of, moving_of, any_keeps, others_keep};
+ghost use Rattle.fault_handler.specs.Desks.{entry_at, open_call_of, moving_of, any_keeps, others_keep, is_in_transit_there};
 ghost use Rattle.fault_handler.specs.Changes.{with_raised};
 ghost use Rattle.fault_handler.specs.Outcomes.{Gives};
 ghost use Rattle.fault_handler.specs.LockCalls.{LockAnswer, lock_call, answers};
-ghost use Rattle.fault_handler.specs.Invariant.{IsDesk, is_dirty, is_marked};
+ghost use Rattle.fault_handler.specs.Invariant.{IsDesk, is_dirty};
 ghost use Rattle.fault_handler.specs.Conditions.{IsOf, IsIdle, IsNotAccessing};
 ghost use Rattle.fault_handler.specs.Ready.{LockStands, WriterStands, ReleaseStands, CallStands, IsReady};
 ghost use Rattle.fault_handler.specs.Next.{FitsTurn, IsAsked, IsOpen, IsNext};
@@ -224,7 +224,7 @@ fn learn(desk: &mut Desk, uid: Uid, given: Given, fresh: bool) -> Result<(), NoM
 /// Drops all pages of an object where that is asked for, and tells which they were. Takes no memory else.
 fn drop_pages(alloc: Global, desk: &mut Desk, uid: Uid, asked: bool) -> Result<Dropped, NoMemory>
     requires clean { asked ≡ true → (k : ℕ) → is_dirty (page_at desk.old.cache.pages uid k) ≡ false }
-    requires still { asked ≡ true → (k : ℕ) → is_marked (page_at desk.old.cache.pages uid k) ≡ false }
+    requires still { asked ≡ true → (k : ℕ) → is_in_transit_there desk.old.moving uid k ≡ false }
     ensures dropped { IfOk result (λ dropped. dropped ≡ dropped_of asked desk.old uid) }
     ensures desk { OnOk result (desk.new ≡ after_drop asked desk.old uid) }
     ensures memory { OnErr result (asked ≡ true) }

@@ -148,7 +148,7 @@ module _ {P G : Type 0} (spent : P → Bool) (wants : P → Want) (becomes : P �
 
       by_way : (a : Accessed) → Comes p (λ m. Gives as_access desk m access) a → Moves spent wants becomes old new done p begun a
       by_way (Accessed.Settled m) gives = moves-settled old new done p begun desk m gives.0 node (turned_as m gives)
-      by_way (Accessed.NeedsRoom d task) gives = by_victim d task (named_victim d.cache.pages) gives
+      by_way (Accessed.NeedsRoom d task) gives = by_victim d task (named_victim d) gives
 
   -- what it came to is the one event that there was
   pub does-moves : (old new : Machine P G) (done : code.Done) (p : ℕ) (begun : Place) (op : Op) (stage : Stage) (accessed : Accessed) → want_at old.procs p ≡ Do op → Moves spent wants becomes old new done p begun accessed

@@ -4,6 +4,6 @@ use Rattle.desk_laws.proofs.a_page_can_be_chosen.Goals as goal
 
 pub returns : goal.returns
 returns c = record {
-  there = λ d p is proc none full. named-there d.cache.pages (victim-there d p is proc none full);
+  there = λ d p is proc none full. named-there d (victim-there d p is proc none full);
   found = comes_of-finds;
 }

@@ -1,4 +1,4 @@
-use Rattle.fault_handler.proofs.Nothing.{unkept-clean, unkept-unmarked}
+use Rattle.fault_handler.proofs.Nothing.{unkept-clean, unkept-still}
 use Rattle.lock_validate.proofs.Dropping.{alone-unkept}
 use Rattle.lock_validate.proofs.answers.gone.Goals as goal
 
@@ -9,4 +9,4 @@ drop_pages-requires-clause-clean c alone =
 
 pub drop_pages-requires-clause-still : goal.drop_pages-requires-clause-still
 drop_pages-requires-clause-still c alone =
-    unkept-unmarked c.args.desk.now c.args.uid c.requires.kept (alone-unkept c.args.desk.now c.args.proc.number c.args.uid c.requires.given_up c.others_keep-gone.result c.others_keep-gone.ensures alone)
+    unkept-still c.args.desk.now c.args.uid c.requires.kept (alone-unkept c.args.desk.now c.args.proc.number c.args.uid c.requires.given_up c.others_keep-gone.result c.others_keep-gone.ensures alone)

@@ -4,7 +4,7 @@ use Rattle.std.proofs.lemmas.Result.{err_from_is_err_and}
 use Rattle.version_stamps.specs.Stamps.{stamp_of}
 use Rattle.fault_handler.specs.Desks.{DeskState, others_keep}
 use Rattle.lock_validate.specs.Answers.{is_fresh}
-use Rattle.fault_handler.proofs.Nothing.{unkept-clean, unkept-unmarked}
+use Rattle.fault_handler.proofs.Nothing.{unkept-clean, unkept-still}
 use Rattle.lock_validate.proofs.Dropping.{right-true, outdated-unkept}
 use Rattle.lock_validate.proofs.Learning.{stale-seen, unseen-outdated, learned-seen}
 use Rattle.lock_validate.proofs.answers.granted.Goals as goal
@@ -17,7 +17,7 @@ drop_pages-requires-clause-clean c outdated =
 
 pub drop_pages-requires-clause-still : goal.drop_pages-requires-clause-still
 drop_pages-requires-clause-still c outdated =
-    unkept-unmarked c.args.desk.now c.args.uid c.requires.kept
+    unkept-still c.args.desk.now c.args.uid c.requires.kept
     (outdated-unkept c.args.desk.now c.args.proc.number c.args.uid c.args.given.stamp c.requires.stands (sym c.are_outdated-outdated.ensures ∙ outdated)).0
 
 -- Where the grant is fresh its stamp is no old one; else a stamp was seen before.
