@@ -45,11 +45,11 @@ NamedWay p accessed = (to : Moved) × (moved_as_named p accessed ≡ Some to) ×
 
 named-way : (p : ℕ) (P : Moved → Type 0) (a : Accessed) → Holds p P a → NamedWay p a
 named-way p P (Accessed.Settled m) holds = (m, refl, refl)
-named-way p P (Accessed.NeedsRoom d task) holds = by_victim (named_victim d.cache.pages) refl holds.0
+named-way p P (Accessed.NeedsRoom d task) holds = by_victim (named_victim d) refl holds.0
   where
-    by_victim : (o : Option Victim) → named_victim d.cache.pages ≡ o → IsSome o → NamedWay p (Accessed.NeedsRoom d task)
+    by_victim : (o : Option Victim) → named_victim d ≡ o → IsSome o → NamedWay p (Accessed.NeedsRoom d task)
     by_victim None none there = absurd (cc)
-    by_victim (Some v) named there = (room_made d p task v, ap (λ o. option_map (room_made d p task) o) named, (v, named-may d.cache.pages v holds.1 named, refl))
+    by_victim (Some v) named there = (room_made d p task v, ap (λ o. option_map (room_made d p task) o) named, (v, named-may d v holds.1 named, refl))
 
 abbrev HasWay : Doing → Type 0
 HasWay (Doing.Does s) = Unit {0}

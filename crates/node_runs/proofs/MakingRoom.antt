@@ -4,12 +4,12 @@ use Rattle.std.specs.Prelude.{◌==◌, ◌&&◌}
 use Rattle.std.specs.Option.{option_map}
 use Rattle.std.proofs.lemmas.Bool.Decides.{nat_tests}
 use Rattle.uid_names.specs.Names.{ObjectName, same_uid}
-use Rattle.page_cache.specs.Caches.{Resident, page_at}
-use Rattle.page_cache.specs.Victims.{is_clean_choice, is_dirty_choice, oldest}
+use Rattle.page_cache.specs.Caches.{Resident}
+use Rattle.page_cache.specs.Victims.{oldest}
 use Rattle.fault_handler.specs.Desks.{DeskState}
 use Rattle.fault_handler.specs.declared.tasks.Task.{Task}
 use Rattle.fault_handler.specs.Outcomes.{Moved}
-use Rattle.fault_handler.specs.Victims.{Victim, is_idle_page, MayMakeRoom}
+use Rattle.fault_handler.specs.Victims.{Victim, is_idle_clean, is_idle_dirty, is_idle_page, MayMakeRoom}
 use Rattle.fault_handler.specs.Accesses.{Accessed, Always, room_made}
 use Rattle.node_runs.specs.Rooms.{same_pages, drops_if, sent_home, victim_by, moved_if, moved_by, MayMove}
 use Rattle.uid_names.proofs.Orders.{same_uid_is}
@@ -35,23 +35,23 @@ same_pages-is (x ∷ xs) (y ∷ ys) h =
     let rest = same_pages-is xs ys (right-true (same_uid x.0 y.0 && (x.1 == y.1)) (same_pages xs ys) h) in
     λ i. one i ∷ rest i
 
-module _ (pages : List Resident) (v : Victim) where
-  by-drop : (b : Bool) (u : ObjectName) (k : ℕ) → is_idle_page (page_at pages u k) ≡ b → drops_if b u k ≡ Some v → MayMakeRoom pages v
-  by-drop true u k idle e = subst (MayMakeRoom pages) (some-is (Victim.Drops u k) v e) idle
+module _ (d : DeskState) (v : Victim) where
+  by-drop : (b : Bool) (u : ObjectName) (k : ℕ) → is_idle_page d u k ≡ b → drops_if b u k ≡ Some v → MayMakeRoom d v
+  by-drop true u k idle e = subst (MayMakeRoom d) (some-is (Victim.Drops u k) v e) idle
   by-drop false u k idle e = absurd (cc)
 
-  by-send : (clean dirty : Option Resident) → oldest is_clean_choice pages ≡ clean → oldest is_dirty_choice pages ≡ dirty → sent_home clean dirty ≡ Some v → MayMakeRoom pages v
+  by-send : (clean dirty : Option Resident) → oldest (is_idle_clean d.moving) d.cache.pages ≡ clean → oldest (is_idle_dirty d.moving) d.cache.pages ≡ dirty → sent_home clean dirty ≡ Some v → MayMakeRoom d v
   by-send None None a b e = absurd (cc)
-  by-send None (Some r) a b e = subst (MayMakeRoom pages) (some-is (Victim.SendsHome r) v e) (a, b)
+  by-send None (Some r) a b e = subst (MayMakeRoom d) (some-is (Victim.SendsHome r) v e) (a, b)
   by-send (Some r) dirty a b e = absurd (cc)
 
   -- what the dropped pages say may be
-  pub victim_by-may : (dropped : List (ObjectName × ℕ)) → victim_by pages dropped ≡ Some v → MayMakeRoom pages v
-  victim_by-may [] e = by-send (oldest is_clean_choice pages) (oldest is_dirty_choice pages) refl refl e
-  victim_by-may (x ∷ []) e = by-drop (is_idle_page (page_at pages x.0 x.1)) x.0 x.1 refl e
+  pub victim_by-may : (dropped : List (ObjectName × ℕ)) → victim_by d dropped ≡ Some v → MayMakeRoom d v
+  victim_by-may [] e = by-send (oldest (is_idle_clean d.moving) d.cache.pages) (oldest (is_idle_dirty d.moving) d.cache.pages) refl refl e
+  victim_by-may (x ∷ []) e = by-drop (is_idle_page d x.0 x.1) x.0 x.1 refl e
   victim_by-may (x ∷ (y ∷ more)) e = absurd (cc)
 
-  module _ (d : DeskState) (p : ℕ) (task : Task) where
+  module _ (p : ℕ) (task : Task) where
     drop-same : (b : Bool) (x : ObjectName × ℕ) → drops_if b x.0 x.1 ≡ Some v → same_pages (x ∷ []) (room_made d p task v).dropped ≡ true
     drop-same true x e = subst (λ (w : Victim). same_pages (x ∷ []) (room_made d p task w).dropped ≡ true) (some-is (Victim.Drops x.0 x.1) v e) (same_pages-refl (x ∷ []))
     drop-same false x e = absurd (cc)
@@ -62,15 +62,15 @@ module _ (pages : List Resident) (v : Victim) where
     send-same (Some r) dirty e = absurd (cc)
 
     -- they are dropped then
-    victim_by-same : (dropped : List (ObjectName × ℕ)) → victim_by pages dropped ≡ Some v → same_pages dropped (room_made d p task v).dropped ≡ true
-    victim_by-same [] e = send-same (oldest is_clean_choice pages) (oldest is_dirty_choice pages) e
-    victim_by-same (x ∷ []) e = drop-same (is_idle_page (page_at pages x.0 x.1)) x e
+    victim_by-same : (dropped : List (ObjectName × ℕ)) → victim_by d dropped ≡ Some v → same_pages dropped (room_made d p task v).dropped ≡ true
+    victim_by-same [] e = send-same (oldest (is_idle_clean d.moving) d.cache.pages) (oldest (is_idle_dirty d.moving) d.cache.pages) e
+    victim_by-same (x ∷ []) e = drop-same (is_idle_page d x.0 x.1) x e
     victim_by-same (x ∷ (y ∷ more)) e = absurd (cc)
 
 -- each way in which room may be made is that of the pages that it drops
-victim_by-named : (d : DeskState) (p : ℕ) (task : Task) (v : Victim) → MayMakeRoom d.cache.pages v → victim_by d.cache.pages (room_made d p task v).dropped ≡ Some v
+victim_by-named : (d : DeskState) (p : ℕ) (task : Task) (v : Victim) → MayMakeRoom d v → victim_by d (room_made d p task v).dropped ≡ Some v
 victim_by-named d p task (Victim.Drops u k) may = ap (λ b. drops_if b u k) may
-victim_by-named d p task (Victim.SendsHome r) may = ap (λ o. sent_home o (oldest is_dirty_choice d.cache.pages)) may.0 ∙ ap (λ o. sent_home None o) may.1
+victim_by-named d p task (Victim.SendsHome r) may = ap (λ o. sent_home o (oldest (is_idle_dirty d.moving) d.cache.pages)) may.0 ∙ ap (λ o. sent_home None o) may.1
 
 moved_if-is : (b : Bool) (settled m : Moved) → moved_if b settled ≡ Some m → (b ≡ true) × (m ≡ settled)
 moved_if-is true settled m e = (refl, sym (some-is settled m e))
@@ -82,15 +82,15 @@ moved_by-may p dropped (Accessed.Settled settled) m e =
     let is = moved_if-is (same_pages dropped settled.dropped) settled m e in
     (is.1, ap (λ (x : Moved). same_pages dropped x.dropped) is.1 ∙ is.0)
 moved_by-may p dropped (Accessed.NeedsRoom d task) m e =
-    let is = map-some (room_made d p task) (victim_by d.cache.pages dropped) m e in
-    ((is.0, victim_by-may d.cache.pages is.0 dropped is.1, is.2), ap (λ (x : Moved). same_pages dropped x.dropped) is.2 ∙ victim_by-same d.cache.pages is.0 d p task dropped is.1)
+    let is = map-some (room_made d p task) (victim_by d dropped) m e in
+    ((is.0, victim_by-may d is.0 dropped is.1, is.2), ap (λ (x : Moved). same_pages dropped x.dropped) is.2 ∙ victim_by-same d is.0 p task dropped is.1)
 
 -- what may come out does where its pages are dropped
 pub may-moved_by : (p : ℕ) (a : Accessed) (m : Moved) → MayMove p a m → moved_by p m.dropped a ≡ Some m
 may-moved_by p (Accessed.Settled settled) m is =
     ap (λ (x : Moved). moved_if (same_pages x.dropped settled.dropped) settled) is ∙ ap (λ b. moved_if b settled) (same_pages-refl settled.dropped) ∙ ap (λ (x : Moved). Some x) (sym is)
 may-moved_by p (Accessed.NeedsRoom d task) m (v, may, is) =
-    ap (λ (x : Moved). option_map (room_made d p task) (victim_by d.cache.pages x.dropped)) is
+    ap (λ (x : Moved). option_map (room_made d p task) (victim_by d x.dropped)) is
     ∙ ap (λ o. option_map (room_made d p task) o) (victim_by-named d p task v may)
     ∙ ap (λ (x : Moved). Some x) (sym is)
 

@@ -75,14 +75,14 @@ leaves-steps g n what incoming event s is comes leaves =
 
 -- where room has to be made, it is made in each way in which it may, and in no other
 pub room-steps : (g : Given) (n : NodeState) (what : What) (incoming : Incoming) (p : ℕ) (o : BegunOp) (stage : Stage) (d : DeskState) (task : Task) (victim : Victim) → enabled g n what incoming ≡ true
-    → event_of g (ticked n incoming) what incoming ≡ Some (Doing.Moves p o stage (Accessed.NeedsRoom d task)) → MayMakeRoom d.cache.pages victim
+    → event_of g (ticked n incoming) what incoming ≡ Some (Doing.Moves p o stage (Accessed.NeedsRoom d task)) → MayMakeRoom d victim
     → step_of g n what incoming (room_made d p task victim).dropped ≡ Some (moved g (ticked n incoming) p o stage (room_made d p task victim))
 room-steps g n what incoming p o stage d task victim is comes may =
     leaves-steps g n what incoming (Doing.Moves p o stage (Accessed.NeedsRoom d task)) (moved g (ticked n incoming) p o stage (room_made d p task victim)) is comes (room_made d p task victim, (victim, may, refl), refl)
 
 pub steps-room : (g : Given) (n : NodeState) (what : What) (incoming : Incoming) (dropped : List (ObjectName × ℕ)) (s : Stepped) (p : ℕ) (o : BegunOp) (stage : Stage) (d : DeskState) (task : Task)
     → event_of g (ticked n incoming) what incoming ≡ Some (Doing.Moves p o stage (Accessed.NeedsRoom d task)) → step_of g n what incoming dropped ≡ Some s
-    → (victim : Victim) × MayMakeRoom d.cache.pages victim × (s ≡ moved g (ticked n incoming) p o stage (room_made d p task victim))
+    → (victim : Victim) × MayMakeRoom d victim × (s ≡ moved g (ticked n incoming) p o stage (room_made d p task victim))
 steps-room g n what incoming dropped s p o stage d task comes e =
     let is = step_of-is g n what incoming dropped s e in
     let left : Leaves g (ticked n incoming) (Doing.Moves p o stage (Accessed.NeedsRoom d task)) s =

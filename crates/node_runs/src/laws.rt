@@ -47,11 +47,11 @@ pub fn an_enabled_event_happens()
 pub fn which_page_makes_room_is_free()
     ensures each { (g : Given) (n : NodeState) (what : What) (incoming : Incoming) (p : ℕ) (o : BegunOp) (stage : Stage) (d : DeskState) (task : Task) (victim : Victim) →
         enabled g n what incoming ≡ true → event_of g (ticked n incoming) what incoming ≡ Some (Doing.Moves p o stage (Accessed.NeedsRoom d task)) →
-        MayMakeRoom d.cache.pages victim →
+        MayMakeRoom d victim →
         step_of g n what incoming (room_made d p task victim).dropped ≡ Some (moved g (ticked n incoming) p o stage (room_made d p task victim)) }
     ensures only { (g : Given) (n : NodeState) (what : What) (incoming : Incoming) (dropped : List (ObjectName × ℕ)) (s : Stepped) (p : ℕ) (o : BegunOp) (stage : Stage) (d : DeskState) (task : Task) →
         event_of g (ticked n incoming) what incoming ≡ Some (Doing.Moves p o stage (Accessed.NeedsRoom d task)) → step_of g n what incoming dropped ≡ Some s →
-        (victim : Victim) × MayMakeRoom d.cache.pages victim × (s ≡ moved g (ticked n incoming) p o stage (room_made d p task victim)) }
+        (victim : Victim) × MayMakeRoom d victim × (s ≡ moved g (ticked n incoming) p o stage (room_made d p task victim)) }
 {}
 
 /// Each step did one of the twelve things that an event can do.
