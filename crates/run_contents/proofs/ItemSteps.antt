@@ -40,6 +40,7 @@ use Rattle.desk_laws.specs.Told.{told_row}
 use Rattle.desk_laws.specs.Moves.{Change, Moves}
 use Rattle.desk_laws.proofs.DeskStays.{moves-desk}
 use Rattle.run_stamps.specs.Items.{Item, Value, page_value, known_value, desk_value, is_dirty_at}
+use Rattle.run_nodes.proofs.GoingPages.{idle-clean}
 
 -- the home took the item, as it was when it was sent, and it was not changed since: the desk is that before the answer
 abbrev pub Cleans : Cause → DeskState → ℕ → ObjectName → Item → Value → Type 0
@@ -107,10 +108,6 @@ IsPlain c = Unit {0}
 never : {X : Type 0} {b : Bool} → b ≡ true → b ≡ false → X
 never is fails = absurd (let e : true ≡ false = sym is ∙ fails in cc)
 
-idle-clean : (o : Option Resident) → is_idle_page o ≡ true → is_dirty o ≡ false
-idle-clean None is = refl
-idle-clean (Some r) is = grind (arith, nat_tests, is)
-
 -- of an object that no process keeps, the length is unchanged
 pub unkept-unchanged : (d : DeskState) (u : ObjectName) → IsDesk d → any_keeps d.entries u ≡ false → is_changed (known_of u d.known) ≡ false
 unkept-unchanged d u desk none = by_cases (is_changed (known_of u d.known)) (is_changed (known_of u d.known) ≡ false)
@@ -161,14 +158,14 @@ module _ (c : Cause) (start : DeskState) (p : ℕ) (u : ObjectName) where
       (λ differs. page-same d e k (ap (λ ps. page_at ps u k) now ∙ (page_at-changed_other w j (written offset bytes) (λ v i s. refl) (used d.cache.pages w j) u k differs ∙ page_at-used d.cache.pages w j u k)))
 
   -- one that was dropped
-  dropped-one : (d e : DeskState) (k : ℕ) (w : ObjectName) (j : ℕ) → is_idle_page (page_at d.cache.pages w j) ≡ true → e.cache.pages ≡ without_page d.cache.pages w j → Step d e (Item.Page k)
+  dropped-one : (d e : DeskState) (k : ℕ) (w : ObjectName) (j : ℕ) → is_idle_page d w j ≡ true → e.cache.pages ≡ without_page d.cache.pages w j → Step d e (Item.Page k)
   dropped-one d e k w j idle now = by_cases (is_same u k w j) (Step d e (Item.Page k))
       (λ same.
       let a = same-uid u k w j same in
       let i = same-page u k w j same in
       page-gone d e k
       (ap (λ ps. page_at ps u k) now ∙ subst (λ b. page_at (without_page d.cache.pages b j) u k ≡ None) a (subst (λ h. page_at (without_page d.cache.pages u h) u k ≡ None) i (page_at-without_same d.cache.pages u k)))
-      (subst (λ b. is_dirty (page_at d.cache.pages b k) ≡ false) (sym a) (subst (λ h. is_dirty (page_at d.cache.pages w h) ≡ false) (sym i) (idle-clean (page_at d.cache.pages w j) idle))))
+      (subst (λ b. is_dirty (page_at d.cache.pages b k) ≡ false) (sym a) (subst (λ h. is_dirty (page_at d.cache.pages w h) ≡ false) (sym i) (idle-clean d w j idle))))
       (λ differs. page-same d e k (ap (λ ps. page_at ps u k) now ∙ page_at-without_other d.cache.pages w j u k differs))
 
   -- the page that made room, once its home answered or a link fault ended its call

@@ -21,9 +21,9 @@ use Rattle.fault_handler.specs.Outcomes.{Turn}
 use Rattle.fault_handler.specs.PageReplies.{PageAnswer}
 use Rattle.fault_handler.specs.LockCalls.{LockCall, LockAnswer, lock_answer, open_call}
 use Rattle.fault_handler.specs.Ready.{CallStands, IsReadyAt}
-use Rattle.fault_handler.specs.Invariant.{IsProc, is_marked, FitsWay, FitsTransit, IsDesk}
+use Rattle.fault_handler.specs.Invariant.{IsProc, FitsWay, FitsTransit, IsDesk}
 use Rattle.fault_handler.proofs.Fours.{any-at, any-of}
-use Rattle.fault_handler.proofs.TransitKeeps.{keeps_writing-keeps}
+use Rattle.fault_handler.proofs.TransitKeeps.{there_is, keeps_writing-keeps}
 use Rattle.desk_laws.specs.Causes.{Cause, MayCome}
 use Rattle.desk_laws.specs.Left.{IsGranted, Leaves}
 use Rattle.desk_laws.specs.Told.{told_stamp}
@@ -112,10 +112,6 @@ free-unkept (Some e) is = by e.state is
     by (states.Releasing m) is = absurd (cc)
     by states.Deleting is = absurd (cc)
 
-marked-some : (o : Option Resident) → is_marked o ≡ true → (r : Resident) × (o ≡ Some r)
-marked-some None is = absurd (cc)
-marked-some (Some r) is = (r, refl)
-
 -- what a grant leaves
 abbrev pub IsGrantLeft : DeskState → ℕ → DeskState → Cause → Type 0
 IsGrantLeft d p e (Cause.AnswerCame (LockAnswer.Granted u m grant stamp room n)) = IsGranted d p e u m grant stamp room n
@@ -172,7 +168,7 @@ module _ (d : DeskState) (desk : IsDesk d) (p : ℕ) (proc : IsProc p) (e : Desk
       let call = page-call may.call may.answer w delete taken stamp may.says in
       let stands : CallStands d p (LockCall.PageOut w call.0 call.1) = subst (λ y. IsReadyAt d p (Some (open_call y))) call.2 (subst (IsReadyAt d p) may.opened may.ready) in
       let fits : FitsWay false d.cache.pages d.entries p w call.0 = subst (FitsTransit d.cache.pages d.entries p) stands.1 (desk.moved.each p proc) in
-      let there = marked-some (page_at d.cache.pages w call.0) fits.0 in
+      let there = there_is (page_at d.cache.pages w call.0) fits.0 in
       inr ((λ x. page-settled d p u w call.0 delete taken stamp stands.1 there.0 there.1 e came x), raised-then w stamp came.seen, raised-same w stamp came.seen)
   way (Cause.AnswerCame (LockAnswer.LengthSettled w n delete taken stamp)) may came = inr ((λ x. length-settled d p u w n delete taken stamp e came x), raised-then w stamp came.seen, raised-same w stamp came.seen)
   way c may came = inl tt

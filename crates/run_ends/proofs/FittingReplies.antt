@@ -1,5 +1,5 @@
 -- An answer that an open call is given says something to its operation.
-use Rattle.std.proofs.Common.{◌≡◌, ℕ, Bool, true, Option, Some, None, refl, sym, ap, subst, ◌∙◌}
+use Rattle.std.proofs.Common.{◌≡◌, ℕ, Bool, true, Option, Some, None, IsSome, refl, sym, ap, subst, ◌∙◌}
 use Rattle.std.specs.Option.{option_map}
 use Rattle.uid_names.specs.Names.{ObjectName}
 use Rattle.uid_names.specs.Steps.{◌>>=◌}
@@ -13,7 +13,7 @@ use Rattle.fault_handler.specs.declared.transits.Transit.{Transit}
 use Rattle.fault_handler.specs.declared.open_call.OpenCall.{OpenCall}
 use Rattle.fault_handler.specs.declared.open_call.OpenCall.TheVariants as calls
 use Rattle.fault_handler.specs.Desks.{DeskState, open_call_of, task_of, moving_of}
-use Rattle.fault_handler.specs.Invariant.{IsProc, IsDesk, is_marked, FitsTransit}
+use Rattle.fault_handler.specs.Invariant.{IsProc, IsDesk, FitsTransit}
 use Rattle.fault_handler.specs.Next.{IsTaskOf, IsCallOf, IsRequestOf, IsRequest}
 use Rattle.fault_handler.specs.PageReplies.{PageAnswer, answer_outward, answer_with}
 use Rattle.fault_handler.specs.Transits.{coming, going}
@@ -73,27 +73,27 @@ module _ (d : DeskState) (p : ℕ) where
   page-comes op (Some task) u k (Answer.Page stamp bytes) is told = (_, refl)
   page-comes op (Some task) u k _ is told = absurd told
 
-  page-goes : (task : Task) (page : Option Resident) (answer : Answer) → is_marked page ≡ true → IsWriteTold answer → (a : PageAnswer) × (answer_outward task page answer ≡ Some a)
+  page-goes : (task : Task) (page : Option Resident) (answer : Answer) → IsSome page → IsWriteTold answer → (a : PageAnswer) × (answer_outward task page answer ≡ Some a)
   page-goes task None answer is told = absurd (cc)
   page-goes task (Some r) (Answer.Stored stamp) is told = (_, refl)
   page-goes task (Some r) (Answer.Stale stamp) is told = (_, refl)
   page-goes task (Some r) _ is told = absurd told
 
-  room-goes : (op : Op) (task : Option Task) (u : ObjectName) (k : ℕ) (answer : Answer) → IsTaskOf op task → is_marked (page_at d.cache.pages u k) ≡ true → IsWriteTold answer
+  room-goes : (op : Op) (task : Option Task) (u : ObjectName) (k : ℕ) (answer : Answer) → IsTaskOf op task → IsSome (page_at d.cache.pages u k) → IsWriteTold answer
       → (a : PageAnswer) × (answer_with d.cache.pages task (going u k) answer ≡ Some a)
-  room-goes op None u k answer is marked told = absurd (no-task op is)
-  room-goes op (Some task) u k answer is marked told = page-goes task (page_at d.cache.pages u k) answer marked told
+  room-goes op None u k answer is there told = absurd (no-task op is)
+  room-goes op (Some task) u k answer is there told = page-goes task (page_at d.cache.pages u k) answer there told
 
   to-access : (moving : Option Transit) (answer : Answer) → moving_of d p ≡ moving → (a : PageAnswer) × (answer_with d.cache.pages (task_of d p) moving answer ≡ Some a) → Tells (said_to_call d p answer calls.Access)
   to-access moving answer is found = (Said.ToAccess found.0, ap (λ (t : Option Transit). option_map Said.ToAccess (answer_with d.cache.pages (task_of d p) t answer)) is ∙ ap (option_map Said.ToAccess) found.1)
 
   module _ (desk : IsDesk d) (proc : IsProc p) (op : Op) (answer : Answer) where
-    marked : (u : ObjectName) (k : ℕ) → moving_of d p ≡ going u k → is_marked (page_at d.cache.pages u k) ≡ true
-    marked u k is = (subst (FitsTransit d.cache.pages d.entries p) is (desk.moved.each p proc)).0
+    resident : (u : ObjectName) (k : ℕ) → moving_of d p ≡ going u k → IsSome (page_at d.cache.pages u k)
+    resident u k is = (subst (FitsTransit d.cache.pages d.entries p) is (desk.moved.each p proc)).0
 
     access-told : (ask : Ask) → IsTaskOf op (task_of d p) → IsRequestOf (moving_of d p) calls.Access ask → IsRight ask answer → Tells (said_to_call d p answer calls.Access)
     access-told (Ask.PageIn u k) task is right = to-access (coming u k) answer is (page-comes op (task_of d p) u k answer task right)
-    access-told (Ask.PageOut u k grant base bytes) task is right = to-access (going u k) answer is (room-goes op (task_of d p) u k answer task (marked u k is) right)
+    access-told (Ask.PageOut u k grant base bytes) task is right = to-access (going u k) answer is (room-goes op (task_of d p) u k answer task (resident u k is) right)
     access-told _ task is right = absurd is
 
     call-told : (call : OpenCall) (ask : Ask) → IsCallOf op (task_of d p) (Some call) → IsRequestOf (moving_of d p) call ask → CanAnswer ask answer → IsRight ask answer → Tells (said_to_call d p answer call)

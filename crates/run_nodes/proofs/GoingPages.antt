@@ -1,11 +1,12 @@
 -- What becomes of a page that goes home, at each change of its desk: a change of another process leaves it, or stores to it; one of
 -- its own process leaves it dirty.
-use Rattle.std.proofs.Common.{◌≡◌, ◌≢◌, ℕ, true, false, List, ◌∷◌, Option, Some, None, refl, sym, ap, subst, ◌∙◌, arith}
-use Rattle.std.specs.Prelude.{◌==◌, ◌&&◌, if◌then◌else◌}
+use Rattle.std.proofs.Common.{◌≡◌, ◌≢◌, ℕ, true, false, List, ◌∷◌, Option, Some, None, IsSome, refl, sym, ap, subst, ◌∙◌, arith}
+use Rattle.std.specs.Prelude.{◌==◌, ◌&&◌, not, if◌then◌else◌}
 use Rattle.std.specs.Option.{option_map}
+use Rattle.std.proofs.lemmas.Bool.{and_parts, not-true}
 use Rattle.std.proofs.lemmas.Bool.Decides.{nat_tests}
 use Rattle.uid_names.specs.Names.{ObjectName, same_uid}
-use Rattle.uid_names.proofs.ListLemmas.{by_cases}
+use Rattle.uid_names.proofs.ListLemmas.{by_cases, none_is_no_some}
 use Rattle.uid_names.proofs.Orders.{same_uid_is}
 use Rattle.page_cache.specs.Caches.{Resident, is_page, page_at}
 use Rattle.page_cache.specs.Changes.{used}
@@ -13,14 +14,14 @@ use Rattle.fault_handler.specs.declared.transits.Transit.{Transit}
 use Rattle.fault_handler.specs.ShownPages.{changed_page, fresh_page, written, stored, as_sent, settled}
 use Rattle.fault_handler.specs.Tasks.{page_of, start_of}
 use Rattle.fault_handler.specs.Transits.{coming, going, is_moving}
-use Rattle.fault_handler.specs.Victims.{is_idle_page}
-use Rattle.fault_handler.specs.Desks.{DeskState, at, moving_of, any_keeps}
+use Rattle.fault_handler.specs.Victims.{is_idle_one, is_idle_page}
+use Rattle.fault_handler.specs.Desks.{DeskState, at, moving_of, any_keeps, is_in_transit_there}
 use Rattle.fault_handler.specs.Changes.{settled_by}
 use Rattle.fault_handler.specs.Outcomes.{Turn}
-use Rattle.fault_handler.specs.Invariant.{IsProc, is_dirty, is_marked, FitsWay, FitsTransit, IsDesk}
-use Rattle.fault_handler.proofs.Accessing.{idle-still}
-use Rattle.fault_handler.proofs.Fours.{at-put_same}
-use Rattle.fault_handler.proofs.Nothing.{none-marked, unkept-clean}
+use Rattle.fault_handler.specs.Invariant.{IsProc, is_dirty, FitsWay, FitsTransit, IsDesk}
+use Rattle.fault_handler.proofs.Choice.{idle-still}
+use Rattle.fault_handler.proofs.Fours.{at-put_same, any-not}
+use Rattle.fault_handler.proofs.Nothing.{none-there, unkept-clean}
 use Rattle.fault_handler.proofs.PageLists.{is_same, same-uid, same-page, page_at-used, page_at-without_other, page_at-without_object_other, page_at-changed_same, page_at-changed_other}
 use Rattle.desk_laws.specs.Causes.{Cause}
 use Rattle.desk_laws.specs.Moves.{Change}
@@ -40,6 +41,14 @@ stored-at pages u k offset bytes r v j there = by_cases (is_same v j u k) (IsBes
     stored_to r offset bytes (subst (λ w. page_at pages w j ≡ Some r) (sym (same-uid v j u k is)) (subst (λ i. page_at pages u i ≡ Some r) (sym (same-page v j u k is)) there))
     (subst (λ w. page_at (stored u k offset bytes pages) w j ≡ Some (written offset bytes r)) (sym (same-uid v j u k is)) (subst (λ i. page_at (stored u k offset bytes pages) u i ≡ Some (written offset bytes r)) (sym (same-page v j u k is)) here)))
     (λ differs. kept (page_at-changed_other u k (written offset bytes) (λ w i s. refl) (used pages u k) v j differs ∙ page_at-used pages u k v j))
+
+-- an idle page is clean
+pub idle-clean : (d : DeskState) (u : ObjectName) (k : ℕ) → is_idle_page d u k ≡ true → is_dirty (page_at d.cache.pages u k) ≡ false
+idle-clean d u k = by_page (page_at d.cache.pages u k)
+  where
+    by_page : (o : Option Resident) → is_idle_one d.moving o ≡ true → is_dirty o ≡ false
+    by_page None is = refl
+    by_page (Some r) is = not-true r.flags.dirty (and_parts (not r.flags.dirty) (not (is_in_transit_there d.moving r.uid r.page)) is).0
 
 -- what two transits say that are one
 pub going-uid : (u : ObjectName) (k : ℕ) (v : ObjectName) (j : ℕ) → going u k ≡ going v j → u ≡ v
@@ -67,11 +76,18 @@ module _ (c : Cause) (turn : Turn) (p : ℕ) (proc : IsProc p) where
         (ap (is_moving u k) mine ∙ (let e : (same_uid u u && (k == k)) ≡ true = grind (arith, nat_tests) in e)))) moves-it))))
         (λ h. h)
 
-    not-unmarked : (u : ObjectName) (k : ℕ) → is_marked (page_at d.cache.pages u k) ≡ false → is_same v j u k ≡ false
-    not-unmarked u k none = by_cases (is_same v j u k) (is_same v j u k ≡ false)
+    not-still : (u : ObjectName) (k : ℕ) → is_in_transit_there d.moving u k ≡ false → is_same v j u k ≡ false
+    not-still u k still = by_cases (is_same v j u k) (is_same v j u k ≡ false)
         (λ is. absurd (
-        let here : is_marked (page_at d.cache.pages u k) ≡ true = subst (λ w. is_marked (page_at d.cache.pages w k) ≡ true) (same-uid v j u k is) (subst (λ i. is_marked (page_at d.cache.pages v i) ≡ true) (same-page v j u k is) fits.0) in
-        let e : true ≡ false = sym here ∙ none in cc))
+        let here : is_moving u k (moving_of d q) ≡ true = subst (λ w. is_moving w k (moving_of d q) ≡ true) (same-uid v j u k is) (subst (λ i. is_moving v i (moving_of d q) ≡ true) (same-page v j u k is) moves-it) in
+        let e : true ≡ false = sym here ∙ any-not (λ r. is_moving u k (at d.moving r None)) still q other in cc))
+        (λ h. h)
+
+    not-absent : (u : ObjectName) (k : ℕ) → page_at d.cache.pages u k ≡ None → is_same v j u k ≡ false
+    not-absent u k none = by_cases (is_same v j u k) (is_same v j u k ≡ false)
+        (λ is. absurd (
+        let here : IsSome (page_at d.cache.pages u k) = subst (λ w. IsSome (page_at d.cache.pages w k)) (same-uid v j u k is) (subst (λ i. IsSome (page_at d.cache.pages v i)) (same-page v j u k is) fits.0) in
+        none_is_no_some (page_at d.cache.pages u k) here none))
         (λ h. h)
 
     not-unkept : (u : ObjectName) → any_keeps d.entries u ≡ false → same_uid v u ≡ false
@@ -81,7 +97,7 @@ module _ (c : Cause) (turn : Turn) (p : ℕ) (proc : IsProc p) where
 
     fresh-other : (u : ObjectName) (k : ℕ) (bytes : List ℕ) → page_at d.cache.pages u k ≡ None → page_at (fresh_page u k bytes ∷ d.cache.pages) v j ≡ page_at d.cache.pages v j
     fresh-other u k bytes absent =
-        let no : is_same v j u k ≡ false = not-unmarked u k (ap is_marked absent) in
+        let no : is_same v j u k ≡ false = not-absent u k absent in
         let apart : is_page v j (fresh_page u k bytes) ≡ false = grind (arith, nat_tests, no) in
         ap (λ b. if b then Some (fresh_page u k bytes) else page_at d.cache.pages v j) apart
 
@@ -89,14 +105,14 @@ module _ (c : Cause) (turn : Turn) (p : ℕ) (proc : IsProc p) where
     pub change-beside : (e : DeskState) (dropped : List (ObjectName × ℕ)) → Change c turn p d e dropped → IsBeside (page_at d.cache.pages v j) (page_at e.cache.pages v j)
     change-beside e dropped (Change.uses task count r does is there ends) = kept (page_at-used d.cache.pages task.uid (page_of task) v j)
     change-beside e dropped (Change.stores task bytes r does is there ends) = stored-at d.cache.pages task.uid (page_of task) (start_of task) bytes r v j there
-    change-beside e dropped (Change.drops task u k does missing full may asks) = kept (page_at-without_other d.cache.pages u k v j (not-unmarked u k (idle-still (page_at d.cache.pages u k) may)))
+    change-beside e dropped (Change.drops task u k does missing full may asks) = kept (page_at-without_other d.cache.pages u k v j (not-still u k (idle-still d u k may)))
     change-beside e dropped (Change.evicts task r does missing full clean there dirty calm asks) =
-        kept (page_at-changed_other r.uid r.page as_sent (λ w i s. refl) d.cache.pages v j (not-unmarked r.uid r.page (ap is_marked there ∙ calm)))
+        kept (page_at-changed_other r.uid r.page as_sent (λ w i s. refl) d.cache.pages v j (not-still r.uid r.page calm))
     change-beside e dropped (Change.arrives task stamp bytes reply given fetches seen whole ends) = kept (fresh-other task.uid (page_of task) bytes fetches.absent)
     change-beside e dropped (Change.settles_room task r taken given room) = kept (page_at-changed_other r.uid r.page (settled taken) (λ w i s. refl) d.cache.pages v j (not-mine r.uid r.page room.sends.moves))
     change-beside e dropped (Change.sends_again task r stamp given room asks) = kept (page_at-changed_other r.uid r.page as_sent (λ w i s. refl) d.cache.pages v j (not-mine r.uid r.page room.sends.moves))
     change-beside e dropped (Change.sends delete u k r releasing calm found there dirty asks) =
-        kept (page_at-changed_other u k as_sent (λ w i s. refl) d.cache.pages v j (not-unmarked u k (none-marked d p u desk releasing.idle.no_page calm k)))
+        kept (page_at-changed_other u k as_sent (λ w i s. refl) d.cache.pages v j (not-still u k (none-there d p u releasing.idle.no_page calm k)))
     change-beside e dropped (Change.page_settles u k r taken given closed sends writes keeping) =
         kept (ap (λ t. page_at (settled_by t taken d.cache.pages) v j) sends.moves ∙ page_at-changed_other u k (settled taken) (λ w i s. refl) d.cache.pages v j (not-mine u k sends.moves))
     change-beside e dropped (Change.drops_all u a given object may none) = kept (page_at-without_object_other d.cache.pages u v j (not-unkept u none))
@@ -134,10 +150,6 @@ module _ (c : Cause) (turn : Turn) (p : ℕ) (proc : IsProc p) where
   beside-dirty old new (kept same) dirty = ap is_dirty same ∙ dirty
   beside-dirty old new (stored_to r offset bytes was is) dirty = ap is_dirty is
 
-  idle-clean : (o : Option Resident) → is_idle_page o ≡ true → is_dirty o ≡ false
-  idle-clean None is = refl
-  idle-clean (Some r) is = grind (arith, nat_tests, is)
-
   pub change-dirty : (d : DeskState) (desk : IsDesk d) (v : ObjectName) (j : ℕ) (e : DeskState) (dropped : List (ObjectName × ℕ)) → Change c turn p d e dropped → IsGoingDirty d v j → IsGoingDirty e v j
   change-dirty d desk v j e dropped (Change.uses task count r does is there ends) was goes = ap is_dirty (page_at-used d.cache.pages task.uid (page_of task) v j) ∙ was goes
   change-dirty d desk v j e dropped (Change.stores task bytes r does is there ends) was goes = beside-dirty _ _ (stored-at d.cache.pages task.uid (page_of task) (start_of task) bytes r v j there) (was goes)
@@ -146,7 +158,7 @@ module _ (c : Cause) (turn : Turn) (p : ℕ) (proc : IsProc p) where
       let differs : is_same v j u k ≡ false = by_cases (is_same v j u k) (is_same v j u k ≡ false)
       (λ is. absurd (
       let here : is_dirty (page_at d.cache.pages u k) ≡ true = subst (λ w. is_dirty (page_at d.cache.pages w k) ≡ true) (same-uid v j u k is) (subst (λ i. is_dirty (page_at d.cache.pages v i) ≡ true) (same-page v j u k is) (was goes)) in
-      let f : true ≡ false = sym here ∙ idle-clean (page_at d.cache.pages u k) may in cc))
+      let f : true ≡ false = sym here ∙ idle-clean d u k may in cc))
       (λ h. h) in
       ap is_dirty (page_at-without_other d.cache.pages u k v j differs) ∙ was goes
   change-dirty d desk v j e dropped (Change.evicts task r does missing full clean there dirty calm asks) was goes =
