@@ -20,7 +20,6 @@ use Rattle.fault_handler.specs.Lengths.{known_name, known_of, with_known, known_
 use Rattle.fault_handler.specs.ShownPages.{changed_page, fresh_page, written, as_sent, settled}
 use Rattle.fault_handler.specs.Tasks.{page_of, start_of}
 use Rattle.fault_handler.specs.Transits.{going}
-use Rattle.fault_handler.specs.Victims.{is_idle_page}
 use Rattle.fault_handler.specs.Desks.{DeskState, moving_of, any_keeps}
 use Rattle.fault_handler.specs.Changes.{settled_by}
 use Rattle.fault_handler.specs.Outcomes.{Turn}
@@ -36,6 +35,7 @@ use Rattle.desk_laws.specs.Releasing.{IsPageSettled}
 use Rattle.desk_laws.specs.Told.{told_row}
 use Rattle.desk_laws.specs.Moves.{Change}
 use Rattle.desk_laws.proofs.Facts.{page_at-fresh}
+use Rattle.run_nodes.proofs.GoingPages.{idle-clean}
 
 -- the request sends this page home
 abbrev pub SendsThis : Turn → ObjectName → ℕ → Type 0
@@ -103,10 +103,6 @@ page-says (Cause.Accesses op) u taken is so = absurd is
 page-says (Cause.Locks v m) u taken is so = absurd is
 page-says (Cause.Releases delete v) u taken is so = absurd is
 
-idle-clean : (o : Option Resident) → is_idle_page o ≡ true → is_dirty o ≡ false
-idle-clean None is = refl
-idle-clean (Some r) is = grind (arith, nat_tests, is)
-
 module _ (c : Cause) (turn : Turn) (p : ℕ) (d : DeskState) (desk : IsDesk d) where
   module _ (u : ObjectName) (k : ℕ) where
     abbrev To : List Resident → Type 0
@@ -172,7 +168,7 @@ module _ (c : Cause) (turn : Turn) (p : ℕ) (d : DeskState) (desk : IsDesk d) w
     change-page e dropped (Change.uses task count r does work there ends) = PageChange.same (page_at-used d.cache.pages task.uid (page_of task) u k)
     change-page e dropped (Change.stores task bytes r does work there ends) = stored-at task bytes r does work there ends
     change-page e dropped (Change.drops task v j does missing full may asks) =
-        gone-at v j _ (page_at-without_other d.cache.pages v j u k) (idle-clean (page_at d.cache.pages v j) may) (page_at-without_same d.cache.pages v j)
+        gone-at v j _ (page_at-without_other d.cache.pages v j u k) (idle-clean d v j may) (page_at-without_same d.cache.pages v j)
     change-page e dropped (Change.evicts task r does missing full clean there dirty calm asks) = marked-at r.uid r.page (λ is at. sends-this _ r.uid r.page _ _ _ asks is at)
     change-page e dropped (Change.arrives task stamp bytes reply given fetches seen whole ends) = fresh-at task stamp bytes given fetches seen
     change-page e dropped (Change.settles_room task r taken given room) = settled-at r.uid r.page taken room.sends.moves (room-says c task r taken given)
