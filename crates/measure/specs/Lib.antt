@@ -1,1 +1,3 @@
 pub mod Repeating
+pub mod Rounds
+pub mod Teams

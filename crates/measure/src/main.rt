@@ -18,11 +18,17 @@ macro_rules! timed {
 }
 
 mod desk;
+mod files;
 mod home;
 mod node;
 mod repeat;
 mod ring;
+mod rounds;
+mod runs;
 mod scripts;
+mod sink;
+mod teams;
+mod work;
 mod worlds;
 
 use anyhow::{Context, Result};
@@ -31,7 +37,7 @@ use node::Deeds;
 use std::env;
 use std::time::CpuClock;
 use uid_names::{NodeId, ProcId, Uid};
-use worlds::Work;
+use work::Work;
 
 /// The names of all measures, one space apart.
 const NAMES: &str =
@@ -39,7 +45,8 @@ const NAMES: &str =
     journals-read home-locks home-page-outs desk-loads desk-stores desk-evictions cache-touches-64 cache-touches-256 \
     cache-evictions-64 cache-evictions-256 scripts-read shells-made store-operations \
     node-accesses node-locks xorshift-steps \
-    world-mixed world-resident world-locks world-evictions";
+    world-mixed world-resident world-locks world-evictions run-mixed run-resident run-locks run-evictions \
+    names copies-256 copies-8 file-read";
 
 /// Does a measure so often; how much was done, and in how many microseconds.
 fn take(rt: &HostRuntime, name: &str, count: u32) -> Result<(u64, u64)> {
@@ -69,6 +76,14 @@ fn take(rt: &HostRuntime, name: &str, count: u32) -> Result<(u64, u64)> {
         "world-resident" => worlds::run(rt, Work::Resident, count),
         "world-locks" => worlds::run(rt, Work::Locks, count),
         "world-evictions" => worlds::run(rt, Work::Evictions, count),
+        "run-mixed" => runs::run(rt, Work::Mixed, count),
+        "run-resident" => runs::run(rt, Work::Resident, count),
+        "run-locks" => runs::run(rt, Work::Locks, count),
+        "run-evictions" => runs::run(rt, Work::Evictions, count),
+        "names" => files::run_names(rt, count),
+        "copies-256" => files::run_copies(rt, 256, count),
+        "copies-8" => files::run_copies(rt, 8, count),
+        "file-read" => files::run_reading(rt, count),
         _ => anyhow::bail!("no such measure"),
     }
 }

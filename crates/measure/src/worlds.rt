@@ -1,156 +1,162 @@
-//! Worlds of nodes: scripts are run on them as the program runs them, from their bytes to the report's and the journal's. What
-//! is counted are events.
-ghost use Rattle.std.specs.Prelude.{◌<◌};
+//! Worlds of nodes whose processes go round lists of operations: there is no script of commands, and no shell. What is counted
+//! are events, and what is timed are the run with the merge of its logs, and the journal as it is written.
+ghost use Rattle.std.specs.Prelude.{◌≡◌, ◌≤◌, ℕ, Option, List, IfOk, length, map};
+ghost use Rattle.dom_history.specs.NodeTexts.{AreNodeNames};
+ghost use Rattle.uid_names.specs.Openings.{IsStart};
+ghost use Rattle.node_runs.specs.Setups.{Setup};
+ghost use Rattle.node_runs.specs.Runs.{first_world};
+ghost use Rattle.script_reader.specs.Scripts.{IsContent};
+ghost use Rattle.world_core.specs.Stands.{Stands};
+ghost use Rattle.measure.specs.Rounds.{Round, round_wants, round_after};
+ghost use Rattle.measure.specs.Teams.{IsTeam, IsMade, AreMade};
 
+use crate::micros;
+use crate::rounds::Rounds;
+use crate::sink::LineCount;
+use crate::teams::team;
+use crate::work::{PHASES, Work, head};
 use anyhow::Result;
-use dom_io::{MemSink, MemSource};
-use script_runner::run_domain;
+use dom_history::{EventList, FaultPlan, NodeNames};
+use dom_io::write_all;
+use journal_text::{are_named, write_journal};
+use node_core::{Node, NodeSetup};
+use page_store::BlockPages;
+use script_reader::{NodeRow, Script, read_script};
 use std::alloc::Global;
-use uid_names::{ByteList, NoMemory};
+use uid_names::{NoMemory, NodeId};
+use world_core::World;
 
-/// Which script is run.
-#[derive(Clone, Copy)]
-pub enum Work {
-    /// 32 processes on eight nodes of eight frames; in each phase each locks, loads, stores and unlocks an object that
-    /// another one had before.
-    Mixed,
-    /// Eight processes load and store in pages that are at their nodes.
-    Resident,
-    /// One process locks and unlocks an object of another node.
-    Locks,
-    /// Eight processes load pages of objects of other nodes, each in the place of one that was loaded before.
-    Evictions,
-}
+/// No event gives a node this tick.
+const LAST_TICK: u64 = 1 << 40;
 
-/// The most that a script has of commands.
-const COMMANDS: u32 = 20_000;
-
-fn eight_nodes(alloc: Global, frames: u16) -> Result<ByteList, NoMemory> {
-    let mut script = ByteList::new(alloc);
-    for n in 1..=8u8 {
-        script.extend(format!(in alloc; "node n{n} frames {frames}\n")?.as_bytes())?;
-    }
-    Ok(script)
-}
-
-/// One object of this room for each of so many, at the nodes in turn.
-fn objects(alloc: Global, script: &mut ByteList, count: u32, room: u32) -> Result<(), NoMemory> {
-    for i in 0..count {
-        let node = i % 8 + 1;
-        script.extend(format!(in alloc; "object o{i} {room} n{node}\n")?.as_bytes())?;
-    }
-    Ok(())
-}
-
-/// The commands of a process in a phase, on an object that moves on from phase to phase.
-fn turn_of(alloc: Global, script: &mut ByteList, q: u32, phase: u32) -> Result<(), NoMemory>
-    requires process { q < 32 }
-    requires phase { phase < 1000 }
-{
-    let (node, proc, object) = (q / 4 + 1, q % 4 + 1, (q + phase * 5) % 32);
-    let place = (q * 97 + phase * 131) % 4_000;
-    script.extend(format!(in alloc; "n{node}.{proc} lock o{object} w\n")?.as_bytes())?;
-    script.extend(format!(in alloc;
-        "n{node}.{proc} store o{object} {place} \"12345678\"\n"
-    )?.as_bytes())?;
-    script.extend(format!(in alloc; "n{node}.{proc} load o{object} {place} 8\n")?.as_bytes())?;
-    script.extend(format!(in alloc; "n{node}.{proc} length o{object}\n")?.as_bytes())?;
-    script.extend(format!(in alloc; "n{node}.{proc} unlock o{object}\n")?.as_bytes())
-}
-
-fn mixed(alloc: Global) -> Result<ByteList, NoMemory> {
-    let mut script = eight_nodes(alloc, 8)?;
-    objects(alloc, &mut script, 32, 4)?;
-    for phase in 0..COMMANDS / 160 {
-        if phase > 0 {
+/// What a script declares for the work: the nodes, the objects and the phases.
+fn declared(alloc: Global, work: Work, units: u32) -> Result<Script> {
+    let mut script = head(alloc, work)?;
+    if work == Work::Mixed {
+        for _ in 1..units.saturating_mul(PHASES) {
             script.extend(b"phase\n")?;
         }
-        for q in 0..32 {
-            turn_of(alloc, &mut script, q, phase)?;
+    }
+    Ok(read_script(alloc, script.bytes())?)
+}
+
+/// A node, with the programs of its processes.
+fn node_of(
+    alloc: Global,
+    script: &Script,
+    work: Work,
+    units: u32,
+    node: NodeId,
+) -> Result<Node<Rounds, BlockPages>, NoMemory>
+    requires node { node ≤ length script.now.nodes }
+    requires few { units ≤ 100 }
+    ensures { IfOk result (λ x. (team : List (ℕ × Round)) × IsTeam team × IsMade script.now node team x) }
+{
+    let setup = NodeSetup {
+        node,
+        nodes: script.opening().nodes(),
+        frames: script.nodes()[node.number() as usize - 1].frames,
+        phases: script.phases(),
+    };
+    let programs = team(alloc, work, node, units)?;
+    Node::new(
+        alloc,
+        setup,
+        script.opening(),
+        BlockPages::new(alloc),
+        programs,
+    )
+}
+
+/// All nodes, by number.
+fn nodes_of(
+    alloc: Global,
+    script: &Script,
+    work: Work,
+    units: u32,
+) -> Result<Vec<Node<Rounds, BlockPages>>, NoMemory>
+    requires few { units ≤ 100 }
+    ensures made { IfOk result (λ nodes. (teams : List (List (ℕ × Round))) × AreMade script.now teams nodes.items) }
+    ensures count { IfOk result (λ nodes. length nodes.items ≡ script.now.opening.nodes) }
+    ensures content { IfOk result (λ _. IsContent script.now × IsStart script.now.opening) }
+{
+    let count = script.opening().nodes();
+    let mut nodes = Vec::with_capacity(alloc, count as usize)?;
+    for i in 0..count {
+        match NodeId::new(i + 1) {
+            Some(node) => nodes.push(node_of(alloc, script, work, units, node)?)?,
+            None => unreachable!(),
         }
     }
-    Ok(script)
+    Ok(nodes)
 }
 
-fn resident(alloc: Global) -> Result<ByteList, NoMemory> {
-    let mut script = eight_nodes(alloc, 64)?;
-    objects(alloc, &mut script, 8, 4)?;
-    for n in 0..8u32 {
-        let node = n + 1;
-        script.extend(format!(in alloc; "n{node}.1 lock o{n} w\n")?.as_bytes())?;
-        for i in 0..COMMANDS / 16 - 1 {
-            let place = i % 4 * 1_024;
-            script.extend(format!(in alloc;
-                "n{node}.1 store o{n} {place} \"12345678\"\n"
-            )?.as_bytes())?;
-            script.extend(format!(in alloc; "n{node}.1 load o{n} {place} 8\n")?.as_bytes())?;
-        }
+/// The world at the start.
+fn world_of(
+    alloc: Global,
+    script: &Script,
+    work: Work,
+    units: u32,
+) -> Result<World<Rounds, BlockPages>, NoMemory>
+    requires few { units ≤ 100 }
+    ensures { IfOk result (λ world. (made : ℕ → ℕ → Option Round) × (s : Setup) × Stands round_wants round_after made s world (first_world s)) }
+{
+    let nodes = nodes_of(alloc, script, work, units)?;
+    World::new(alloc, nodes, FaultPlan::new(alloc))
+}
+
+/// The names of nodes.
+fn names_of(alloc: Global, rows: &[NodeRow]) -> Result<NodeNames, NoMemory>
+    requires { AreNodeNames (map (λ n. n.name) rows.now) }
+{
+    let mut names = Vec::new(alloc);
+    for row in rows {
+        names.push(row.name.copy(alloc)?)?;
     }
-    Ok(script)
+    NodeNames::from_list(alloc, names.as_slice())
 }
 
-fn locks(alloc: Global) -> Result<ByteList, NoMemory> {
-    let mut script = ByteList::from_slice(alloc, b"node a\nnode b\nobject x 1 b\n")?;
-    for _ in 0..COMMANDS / 2 {
-        script.extend(b"a.1 lock x w\na.1 unlock x\n")?;
+/// How long it takes to write the journal into a sink that counts its lines.
+fn write(rt: &HostRuntime, script: &Script, events: &EventList) -> Result<u64> {
+    let names = names_of(rt.alloc(), script.nodes())?;
+    if !are_named(events, &names) {
+        anyhow::bail!("no such node");
     }
-    Ok(script)
+    let start = micros(rt)?;
+    let lines = write_journal(rt.alloc(), events, &names)?;
+    let mut sink = LineCount::new();
+    write_all(&mut sink, lines.bytes())?;
+    let end = micros(rt)?;
+    anyhow::ensure!(sink.lines() == events.items().len() as u64, "no journal");
+    Ok(end.saturating_sub(start))
 }
 
-fn evictions(alloc: Global) -> Result<ByteList, NoMemory> {
-    let mut script = eight_nodes(alloc, 8)?;
-    objects(alloc, &mut script, 8, 32)?;
-    for n in 0..8u32 {
-        let (node, object) = (n + 1, (n + 1) % 8);
-        script.extend(format!(in alloc; "n{node}.1 lock o{object} w\n")?.as_bytes())?;
-        script.extend(format!(in alloc; "n{node}.1 store o{object} 32767 \"z\"\n")?.as_bytes())?;
-        for i in 0..COMMANDS / 8 - 2 {
-            let place = i % 32 * 1_024;
-            script.extend(format!(in alloc; "n{node}.1 load o{object} {place} 1\n")?.as_bytes())?;
-        }
-    }
-    Ok(script)
+/// Runs a world of so many units of some ten thousand events in the turns of a number: how many events there are, and how
+/// long the run and the journal take.
+fn run_once(rt: &HostRuntime, work: Work, units: u32, turns: u32) -> Result<(u64, u64)>
+    requires few { units ≤ 100 }
+{
+    let script = declared(rt.alloc(), work, units)?;
+    let world = world_of(rt.alloc(), &script, work, units)?;
+    let start = micros(rt)?;
+    let (events, _programs) = world.run_turns(rt.alloc(), u64::from(turns), LAST_TICK)?;
+    let end = micros(rt)?;
+    let written = write(rt, &script, &events)?;
+    Ok((
+        events.items().len() as u64,
+        end.saturating_sub(start).saturating_add(written),
+    ))
 }
 
-fn text(alloc: Global, work: Work) -> Result<ByteList, NoMemory> {
-    match work {
-        Work::Mixed => mixed(alloc),
-        Work::Resident => resident(alloc),
-        Work::Locks => locks(alloc),
-        Work::Evictions => evictions(alloc),
-    }
-}
-
-/// The most bytes that a report or a journal has here.
-const ROOM: usize = 8_000_000;
-
-/// The words that ask for the turns of this number.
-fn words_of(alloc: Global, turns: u32) -> Result<Vec<String>> {
-    let mut words = Vec::new(alloc);
-    for word in ["run", "--turns"] {
-        words.push(String::from_str(alloc, word)?)?;
-    }
-    words.push(format!(in alloc; "{turns}")?)?;
-    Ok(words)
-}
-
-/// Runs a script in the turns of this number; how many lines its journal has.
-fn run_once(alloc: Global, script: &[u8], turns: u32) -> Result<u32> {
-    let words = words_of(alloc, turns)?;
-    let mut source = MemSource::new(alloc, script, &[])?;
-    let mut out = MemSink::new(alloc, ROOM, &[])?;
-    let mut journal = MemSink::new(alloc, ROOM, &[])?;
-    let status = run_domain(alloc, words.as_slice(), &mut source, &mut out, &mut journal);
-    anyhow::ensure!(status == 0, "no run");
-    let mut lines = 0_u32;
-    for byte in journal.bytes() {
-        lines = lines.saturating_add(u32::from(*byte == b'\n'));
-    }
-    Ok(lines)
-}
-
-/// Runs a script so often, each time in other turns.
+/// So many units, as many as there may be of them in one run.
 pub fn run(rt: &HostRuntime, work: Work, count: u32) -> Result<(u64, u64)> {
-    let script = text(rt.alloc(), work)?;
-    timed!(rt, count, i => run_once(rt.alloc(), script.bytes(), i)?)
+    let most = if work == Work::Mixed { 50 } else { 100 };
+    let (mut events, mut micros) = (0_u64, 0_u64);
+    for turns in 0..count.div_ceil(most) {
+        let units = count.saturating_sub(turns.saturating_mul(most)).min(most);
+        let (more, longer) = run_once(rt, work, units, turns)?;
+        events = events.saturating_add(more);
+        micros = micros.saturating_add(longer);
+    }
+    Ok((events, micros))
 }

@@ -1,0 +1,3 @@
+pub mod FourPrograms
+pub mod Making
+pub mod SettingUp

@@ -1,0 +1,119 @@
+//! Scripts are run as the program runs them, from their bytes to the report's and the journal's. What is counted are events.
+ghost use Rattle.std.specs.Prelude.{◌<◌};
+
+use crate::sink::LineCount;
+use crate::work::{Work, head};
+use anyhow::Result;
+use dom_io::MemSource;
+use script_runner::run_domain;
+use std::alloc::Global;
+use uid_names::{ByteList, NoMemory};
+
+/// The most that a script has of commands.
+const COMMANDS: u32 = 20_000;
+
+/// The commands of a process in a phase, on an object that moves on from phase to phase.
+fn turn_of(alloc: Global, script: &mut ByteList, q: u32, phase: u32) -> Result<(), NoMemory>
+    requires process { q < 32 }
+    requires phase { phase < 1000 }
+{
+    let (node, proc, object) = (q / 4, q % 4 + 1, (q + phase * 5) % 32);
+    let place = (q * 97 + phase * 131) % 4_000;
+    script.extend(format!(in alloc; "n{node}.{proc} lock o{object} w\n")?.as_bytes())?;
+    script.extend(format!(in alloc;
+        "n{node}.{proc} store o{object} {place} \"12345678\"\n"
+    )?.as_bytes())?;
+    script.extend(format!(in alloc; "n{node}.{proc} load o{object} {place} 8\n")?.as_bytes())?;
+    script.extend(format!(in alloc; "n{node}.{proc} length o{object}\n")?.as_bytes())?;
+    script.extend(format!(in alloc; "n{node}.{proc} unlock o{object}\n")?.as_bytes())
+}
+
+fn mixed(alloc: Global) -> Result<ByteList, NoMemory> {
+    let mut script = head(alloc, Work::Mixed)?;
+    for phase in 0..COMMANDS / 160 {
+        if phase > 0 {
+            script.extend(b"phase\n")?;
+        }
+        for q in 0..32 {
+            turn_of(alloc, &mut script, q, phase)?;
+        }
+    }
+    Ok(script)
+}
+
+fn resident(alloc: Global) -> Result<ByteList, NoMemory> {
+    let mut script = head(alloc, Work::Resident)?;
+    for n in 0..8u32 {
+        script.extend(format!(in alloc; "n{n}.1 lock o{n} w\n")?.as_bytes())?;
+        for i in 0..COMMANDS / 16 - 1 {
+            let place = i % 4 * 1_024;
+            script.extend(format!(in alloc;
+                "n{n}.1 store o{n} {place} \"12345678\"\n"
+            )?.as_bytes())?;
+            script.extend(format!(in alloc; "n{n}.1 load o{n} {place} 8\n")?.as_bytes())?;
+        }
+    }
+    Ok(script)
+}
+
+fn locks(alloc: Global) -> Result<ByteList, NoMemory> {
+    let mut script = head(alloc, Work::Locks)?;
+    for _ in 0..COMMANDS / 2 {
+        script.extend(b"n0.1 lock o1 w\nn0.1 unlock o1\n")?;
+    }
+    Ok(script)
+}
+
+fn evictions(alloc: Global) -> Result<ByteList, NoMemory> {
+    let mut script = head(alloc, Work::Evictions)?;
+    for n in 0..8u32 {
+        let object = (n + 1) % 8;
+        script.extend(format!(in alloc; "n{n}.1 lock o{object} w\n")?.as_bytes())?;
+        script.extend(format!(in alloc; "n{n}.1 store o{object} 32767 \"z\"\n")?.as_bytes())?;
+        for i in 0..COMMANDS / 8 - 2 {
+            let place = i % 32 * 1_024;
+            script.extend(format!(in alloc; "n{n}.1 load o{object} {place} 1\n")?.as_bytes())?;
+        }
+    }
+    Ok(script)
+}
+
+fn text(alloc: Global, work: Work) -> Result<ByteList, NoMemory> {
+    match work {
+        Work::Mixed => mixed(alloc),
+        Work::Resident => resident(alloc),
+        Work::Locks => locks(alloc),
+        Work::Evictions => evictions(alloc),
+    }
+}
+
+/// The words that ask for the turns of this number.
+fn words_of(alloc: Global, turns: u32) -> Result<Vec<String>> {
+    let mut words = Vec::new(alloc);
+    for word in ["run", "--turns"] {
+        words.push(String::from_str(alloc, word)?)?;
+    }
+    words.push(format!(in alloc; "{turns}")?)?;
+    Ok(words)
+}
+
+/// Runs a script in the turns of this number; how many lines its journal has.
+fn run_once(alloc: Global, script: &[u8], turns: u32) -> Result<u32> {
+    let words = words_of(alloc, turns)?;
+    let mut source = MemSource::new(alloc, script, &[])?;
+    let (mut out, mut journal) = (LineCount::new(), LineCount::new());
+    let status = run_domain(alloc, words.as_slice(), &mut source, &mut out, &mut journal);
+    anyhow::ensure!(status == 0, "no run");
+    Ok(u32::try_from(journal.lines())?)
+}
+
+/// Runs a script so often, each time in other turns.
+pub fn run_script(rt: &HostRuntime, script: &[u8], count: u32) -> Result<(u64, u64)> {
+    timed!(rt, count, i => run_once(rt.alloc(), script, i)?)
+}
+
+/// A script of the work, so often.
+pub fn run(rt: &HostRuntime, work: Work, count: u32) -> Result<(u64, u64)> {
+    let script = text(rt.alloc(), work)?;
+    run_script(rt, script.bytes(), count)
+}
