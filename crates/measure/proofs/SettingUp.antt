@@ -1,27 +1,25 @@
 -- Nodes that were made with their programs are those of a set-up.
-use Rattle.std.proofs.Common.{◌≡◌, ℕ, zero, suc, ◌+◌, ◌-◌, ◌<◌, ◌≤◌, ◌==◌, Bool, true, false, Option, Some, None, List, [], ◌∷◌, ◌++◌, length, map, slice_index_or, refl, sym, ◌∙◌, ap, subst, arith}
-use Rattle.std.specs.Prelude.{All, AllPairs, IfSome, ◌≢◌, ◌||◌, ◌%◌, is_some, slice_get, nat_lt, if◌then◌else◌}
+use Rattle.std.proofs.Common.{◌≡◌, ℕ, zero, suc, ◌+◌, ◌-◌, ◌==◌, Bool, true, false, Option, Some, None, List, [], ◌∷◌, length, map, slice_index_or, refl, sym, ◌∙◌, ap, subst, arith}
+use Rattle.std.specs.Prelude.{All, IfSome, ◌||◌, ◌%◌, is_some, nat_lt, if◌then◌else◌}
 use Rattle.std.specs.List.{list_any}
 use Rattle.std.proofs.lemmas.List.{length-map}
 use Rattle.std.proofs.lemmas.List.Elements.{All-head, All-tail, All-weaker, All-map}
-use Rattle.uid_names.specs.Names.{ProcName, IsProcNumber}
 use Rattle.uid_names.specs.Openings.{IsStart}
-use Rattle.dom_history.specs.declared.op.Reply.{Reply}
 use Rattle.dom_history.specs.declared.op.Want.{Want}
-use Rattle.dom_history.specs.declared.op.Want.TheVariants.{Phase, Done}
+use Rattle.dom_history.specs.declared.op.Want.TheVariants.{Done}
 use Rattle.dom_history.specs.Follows.{Heard}
 use Rattle.dom_history.specs.Programs.{program_after, asked_by}
 use Rattle.dom_history.specs.Ranges.{IsWant}
 use Rattle.script_reader.specs.declared.script.NodeRow.{NodeRow}
 use Rattle.script_reader.specs.Scripts.{Content, IsContent, IsNode}
 use Rattle.node_runs.specs.NodeStates.{first_node}
-use Rattle.node_runs.specs.Setups.{Given, Setup, IsSetup, IsFrames, ArePrograms, given}
+use Rattle.node_runs.specs.Setups.{IsSetup, IsFrames, ArePrograms, given}
 use Rattle.node_core.specs.Programs.{program_in, program_by, numbers_in}
 use Rattle.node_core.specs.Nodes.{Noted, Stands, IsGivenBy}
 use Rattle.world_core.specs.Stands.{AreNodes}
 use Rattle.measure.proofs.Making.{found_in}
 use Rattle.measure.specs.Rounds.{Round, round_wants, round_after, want_in, IsReady}
-use Rattle.measure.specs.Teams.{IsTeam, IsMade, AreMade, made_round, asks_of, setup_with, node_setup}
+use Rattle.measure.specs.Teams.{IsTeam, AreMade, made_round, asks_of, setup_with, node_setup}
 
 -- which processes have a program
 numbers_found : (team : List (ℕ × Round)) (p : ℕ) → list_any (λ q. q == p) (numbers_in team) ≡ is_some (program_in team p)

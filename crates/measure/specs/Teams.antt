@@ -4,7 +4,6 @@ use Rattle.dom_history.specs.declared.op.Want.{Want}
 use Rattle.dom_history.specs.declared.op.Want.TheVariants.{Phase}
 use Rattle.dom_history.specs.Follows.{Heard}
 use Rattle.dom_history.specs.Programs.{asked_by}
-use Rattle.script_reader.specs.declared.script.NodeRow.{NodeRow}
 use Rattle.script_reader.specs.Scripts.{Content}
 use Rattle.node_runs.specs.Setups.{Given, Setup, ArePrograms}
 use Rattle.node_runs.specs.NodeStates.{first_node}

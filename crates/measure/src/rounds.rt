@@ -39,6 +39,7 @@ impl Model for WantList {
 impl WantList {
     ghost use Rattle.dom_history.specs.Ranges.{IsOp};
 
+    /// A list of one.
     pub fn new(alloc: Global, first: Want) -> Result<WantList, NoMemory>
         requires { IsWant first }
     {

@@ -3,12 +3,14 @@ ghost use Rattle.std.specs.Prelude.{None};
 
 use dom_io::{Sink, Took};
 
+/// How many lines came.
 #[derive(Drop)]
 pub struct LineCount {
     lines: u64,
 }
 
 impl LineCount {
+    /// One that took none yet.
     pub fn new() -> LineCount {
         LineCount { lines: 0 }
     }
