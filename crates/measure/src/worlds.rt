@@ -12,7 +12,7 @@ ghost use Rattle.measure.specs.Teams.{IsTeam, IsMade, AreMade};
 
 use crate::micros;
 use crate::rounds::Rounds;
-use crate::sink::LineCount;
+use crate::sink::ByteCount;
 use crate::teams::team;
 use crate::work::{PHASES, Work, head};
 use anyhow::Result;
@@ -116,7 +116,7 @@ fn names_of(alloc: Global, rows: &[NodeRow]) -> Result<NodeNames, NoMemory>
     NodeNames::from_list(alloc, names.as_slice())
 }
 
-/// How long it takes to write the journal into a sink that counts its lines.
+/// How long it takes to write the journal into a sink that counts its bytes.
 fn write(rt: &HostRuntime, script: &Script, events: &EventList) -> Result<u64> {
     let names = names_of(rt.alloc(), script.nodes())?;
     if !are_named(events, &names) {
@@ -124,10 +124,10 @@ fn write(rt: &HostRuntime, script: &Script, events: &EventList) -> Result<u64> {
     }
     let start = micros(rt)?;
     let lines = write_journal(rt.alloc(), events, &names)?;
-    let mut sink = LineCount::new();
+    let mut sink = ByteCount::new();
     write_all(&mut sink, lines.bytes())?;
     let end = micros(rt)?;
-    anyhow::ensure!(sink.lines() == events.items().len() as u64, "no journal");
+    anyhow::ensure!(sink.bytes() == lines.bytes().len(), "no journal");
     Ok(end.saturating_sub(start))
 }
 
