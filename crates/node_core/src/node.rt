@@ -42,6 +42,8 @@ fn mark_in(what: &What) -> Option<u32>
 
 /// Writes the line of the journal, and answers what the event emits. The node is spent no more; without memory it stays
 /// so, and the journal is as it was.
+// Inlined, so that the parts of what was done are moved from where the event left them, as those of an outcome are.
+#[inline(always)]
 fn write(
     log: &mut NodeLog,
     spent: &mut bool,
