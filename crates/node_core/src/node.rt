@@ -221,6 +221,7 @@ impl<P: Program, G: Pages> Node<P, G> {
     }
 
     /// One event, which is enabled. Without memory the journal is as it was, and the node is spent.
+    #[inline(always)]
     pub fn step(
         &mut self,
         alloc: Global,
