@@ -47,6 +47,8 @@ pub(crate) enum KeptAsk {
 
 impl KeptAsk {
     /// What a request asks. The bytes of its page, if it has one, are put into `page`. Takes no memory.
+    // Inlined, so that what is asked is made where it is kept.
+    #[inline(always)]
     pub(crate) fn keep(body: &Body, page: &mut [u8; PAGE_BYTES]) -> KeptAsk
         requires { IsSome (ask_of body.now) }
         ensures { ask_of body.now ≡ Some (ask_told result page.new) }

@@ -98,6 +98,7 @@ impl Proc {
     }
 
     /// The next call of the operation that began at this place: its number. Takes no memory.
+    #[inline(always)]
     pub(crate) fn call(&mut self, begun: Place, home: NodeId, body: &Body) -> u64
         requires asks { IsSome (ask_of body.now) }
         requires few { self.old.last < 2 ^ 40 }
