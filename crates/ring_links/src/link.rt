@@ -70,6 +70,7 @@ impl<T: Drop> Link<T> {
     }
 
     /// A frame is sent that is delivered in its place.
+    #[inline(always)]
     pub fn pass(&mut self, alloc: Global, frame: T) -> Result<(), NoMemory>
         requires few { self.old.frames < 2 ^ 63 }
         ensures { OnOk result (self.new ≡ frame_sent fates.Pass frame self.old) }
@@ -143,12 +144,21 @@ impl<T: Drop> Link<T> {
     }
 
     /// The copies that fall behind the last frame wait from now on.
+    #[inline(always)]
     fn fall(&mut self, alloc: Global) -> Result<(), NoMemory>
         ensures { OnOk result (self.new ≡ record self.old { queue = self.old.queue ++ falling self.old.frames self.old.later; later = staying self.old.frames self.old.later }) }
     {
         if self.later.is_empty() {
             return Ok(());
         }
+        self.fall_some(alloc)
+    }
+
+    /// The same of one copy and more. Not inlined: copies that fall are few.
+    #[inline(never)]
+    fn fall_some(&mut self, alloc: Global) -> Result<(), NoMemory>
+        ensures { OnOk result (self.new ≡ record self.old { queue = self.old.queue ++ falling self.old.frames self.old.later; later = staying self.old.frames self.old.later }) }
+    {
         let later = replace(&mut self.later, Vec::new(alloc));
         for copy in later {
             if copy.behind == self.frames {

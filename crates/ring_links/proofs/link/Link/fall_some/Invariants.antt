@@ -1,7 +1,7 @@
 -- The copies that came so far fell or stayed.
 use Rattle.std.proofs.Common.{◌≡◌, ◌++◌}
 use Rattle.ring_links.specs.Carried.{falling, staying}
-use Rattle.ring_links.proofs.link.Link.fall.Given as goal
+use Rattle.ring_links.proofs.link.Link.fall_some.Given as goal
 
 abbrev pub invariant-loop-copy : goal.invariant-loop-copy
 invariant-loop-copy g l =
