@@ -81,6 +81,7 @@ impl<T: Drop> Link<T> {
     }
 
     /// A frame is sent that is never delivered.
+    #[inline(never)]
     pub fn lose(&mut self, alloc: Global) -> Result<(), NoMemory>
         requires few { self.old.frames < 2 ^ 63 }
         ensures { (frame : T) → OnOk result (self.new ≡ frame_sent fates.Lose frame self.old) }
@@ -90,6 +91,7 @@ impl<T: Drop> Link<T> {
     }
 
     /// A frame is sent that is delivered in its place, and again behind so many later frames.
+    #[inline(never)]
     pub fn twice(&mut self, alloc: Global, frame: T, again: T, after: u32) -> Result<(), NoMemory>
         requires few { self.old.frames < 2 ^ 63 }
         requires same { again ≡ frame }
@@ -102,6 +104,7 @@ impl<T: Drop> Link<T> {
     }
 
     /// A frame is sent that is delivered behind so many later frames.
+    #[inline(never)]
     pub fn late(&mut self, alloc: Global, frame: T, after: u32) -> Result<(), NoMemory>
         requires few { self.old.frames < 2 ^ 63 }
         ensures { OnOk result (self.new ≡ frame_sent (fates.Late after) frame self.old) }

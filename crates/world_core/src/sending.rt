@@ -1,6 +1,8 @@
 //! What an event sends comes to the links, by the fault plan.
 ghost use Rattle.std.specs.Prelude.{◌≡◌, ◌^◌, ◌<◌, ◌-◌, ◌==◌, [], Option, Some, IfOk, OnOk, IfSome, All, length, slice_get};
 ghost use Rattle.uid_names.specs.declared.limits.TheConstants.{MAX_NODES};
+ghost use Rattle.dom_history.specs.Plans.{fate_of as planned_fate};
+ghost use Rattle.dom_history.specs.declared.plan.Fate.TheVariants as fates;
 ghost use Rattle.node_runs.specs.Deliveries.{is_gone as is_gone_fate};
 ghost use Rattle.node_core.specs.declared.setup.Incoming.TheVariants as received;
 ghost use Rattle.ring_links.specs.Carried.{frame_sent};
@@ -12,7 +14,7 @@ ghost use Rattle.world_core.specs.Reached.{notice_if, ins_if, came_of, framed_in
 
 use crate::notices::Notice;
 use crate::world::World;
-use dom_history::{Fate, Program};
+use dom_history::{Fate, FaultPlan, Program};
 use node_core::{Emitted, Incoming};
 use page_store::Pages;
 use ring_links::Link;
@@ -35,7 +37,23 @@ fn copy(alloc: Global, frame: &Frame) -> Result<Frame, NoMemory>
     ))
 }
 
+/// A frame is sent on a link that is delivered twice.
+#[inline(never)]
+fn put_twice(
+    alloc: Global,
+    link: &mut Link<Incoming>,
+    frame: Frame,
+    after: u32,
+) -> Result<(), NoMemory>
+    requires few { link.old.frames < 2 ^ 63 }
+    ensures { OnOk result (link.new ≡ frame_sent (fates.Twice after) (received.Frame frame) link.old) }
+{
+    let again = copy(alloc, &frame)?;
+    link.twice(alloc, Incoming::Frame(frame), Incoming::Frame(again), after)
+}
+
 /// A frame of this fate is sent on a link.
+#[inline(always)]
 pub(crate) fn put(
     alloc: Global,
     link: &mut Link<Incoming>,
@@ -49,10 +67,7 @@ pub(crate) fn put(
         Fate::Pass => link.pass(alloc, Incoming::Frame(frame)),
         Fate::Lose => link.lose(alloc),
         Fate::Late(after) => link.late(alloc, Incoming::Frame(frame), after),
-        Fate::Twice(after) => {
-            let again = copy(alloc, &frame)?;
-            link.twice(alloc, Incoming::Frame(frame), Incoming::Frame(again), after)
-        }
+        Fate::Twice(after) => put_twice(alloc, link, frame, after),
     }
 }
 
@@ -71,6 +86,16 @@ fn is_gone(fate: Fate) -> bool
         Fate::Lose | Fate::Late(_) => true,
         Fate::Pass | Fate::Twice(_) => false,
     }
+}
+
+/// The fate of the frame of this number on its link. A plan without rows is not searched.
+fn fate_of(plan: &FaultPlan, frame: &Frame, index: u64) -> Fate
+    ensures { result ≡ planned_fate plan.now frame.now.from frame.now.to index }
+{
+    if plan.rows().is_empty() {
+        return Fate::Pass;
+    }
+    plan.fate(frame.from(), frame.to(), index)
 }
 
 impl<P: Program, G: Pages> World<P, G> {
@@ -114,7 +139,7 @@ impl<P: Program, G: Pages> World<P, G> {
             self.old.stations.items self.new.stations.items) }
         ensures others { SameBeside self.old self.new }
     {
-        let fate = self.plan.fate(frame.from(), frame.to(), index);
+        let fate = fate_of(&self.plan, &frame, index);
         let notice = Notice::of(&frame, index);
         let caller = place_of(frame.caller().node());
         let to = place_of(frame.to());

@@ -21,7 +21,7 @@ use ring_links::{Link, Waiting};
 use ring_messages::Frame;
 use std::alloc::Global;
 use std::mem::replace;
-use uid_names::{NoMemory, NodeId};
+use uid_names::{NODE_PROCESSES, NoMemory, NodeId};
 
 /// A link to a node, with the node that it leads from.
 #[derive(Drop)]
@@ -84,7 +84,7 @@ fn put_starts<P: Program, G: Pages>(
 ) -> Result<(), NoMemory>
     ensures { OnOk result (list.new.items ≡ list.old.items ++ comings node.now (flat_map starts_of procs)) }
 {
-    for i in 0..4 {
+    for i in 0..NODE_PROCESSES as u8 {
         put_process(node, list, i + 1)?;
     }
     Ok(())

@@ -1,6 +1,5 @@
 use Rattle.std.proofs.Common.{sym, ap, ◌∙◌}
 use Rattle.std.specs.Prelude.{◌==◌, ◌-◌}
-use Rattle.dom_history.specs.Plans.{fate_of}
 use Rattle.world_core.specs.Sending.{delivered}
 use Rattle.world_core.specs.Reached.{ins_if}
 use Rattle.world_core.proofs.OnOks.{on_ok}
@@ -13,14 +12,13 @@ returns-then-is_gone-clause-reached g c =
     let m = c.args.frame in
     let plan = c.args.self.now.plan in
     let old = c.args.self.now.stations.items in
-    let f = c.fate-fate.result in
+    let f = c.fate_of-fate.result in
     let to = c.place_of-to.result in
     let caller = c.place_of-caller.result in
     let notice = c.of-notice.result in
-    let fate-is = c.fate-fate.ensures ∙ ap (λ a. fate_of plan a c.to.result c.args.index) c.from.ensures.value ∙ ap (λ b. fate_of plan m.from b c.args.index) c.to.ensures.value in
-    let to-is = c.place_of-to.ensures.value ∙ ap (λ k. k - 1) c.to-2.ensures.value in
+    let to-is = c.place_of-to.ensures.value ∙ ap (λ k. k - 1) c.to.ensures.value in
     let caller-is = c.place_of-caller.ensures.value ∙ ap (λ k. k - 1) (c.node.ensures.value ∙ ap (λ p. p.node) c.caller.ensures) in
-    on_ok c.tell_at.result (λ second. frame-reached plan at c.args.index m old c.tell_at.new.self.stations.items f to caller notice fate-is to-is caller-is c.of-notice.ensures
+    on_ok c.tell_at.result (λ second. frame-reached plan at c.args.index m old c.tell_at.new.self.stations.items f to caller notice c.fate_of-fate.ensures to-is caller-is c.of-notice.ensures
     (gone-told at caller f notice (λ n ls. ins_if (n == to) (delivered at f m ls) ls) old c.deliver_at.new.self.stations.items c.tell_at.new.self.stations.items
     (sym c.is_gone.ensures ∙ c.if-is_gone.true) c.in_ok-deliver_at.ensures.others.many c.in_ok-deliver_at.ensures.reached second)) c.tell_at.ensures.reached
 
@@ -30,13 +28,12 @@ returns-else-is_gone-clause-reached g c =
     let m = c.args.frame in
     let plan = c.args.self.now.plan in
     let old = c.args.self.now.stations.items in
-    let f = c.fate-fate.result in
+    let f = c.fate_of-fate.result in
     let to = c.place_of-to.result in
     let caller = c.place_of-caller.result in
     let notice = c.of-notice.result in
-    let fate-is = c.fate-fate.ensures ∙ ap (λ a. fate_of plan a c.to.result c.args.index) c.from.ensures.value ∙ ap (λ b. fate_of plan m.from b c.args.index) c.to.ensures.value in
-    let to-is = c.place_of-to.ensures.value ∙ ap (λ k. k - 1) c.to-2.ensures.value in
+    let to-is = c.place_of-to.ensures.value ∙ ap (λ k. k - 1) c.to.ensures.value in
     let caller-is = c.place_of-caller.ensures.value ∙ ap (λ k. k - 1) (c.node.ensures.value ∙ ap (λ p. p.node) c.caller.ensures) in
-    frame-reached plan at c.args.index m old c.deliver_at.new.self.stations.items f to caller notice fate-is to-is caller-is c.of-notice.ensures
+    frame-reached plan at c.args.index m old c.deliver_at.new.self.stations.items f to caller notice c.fate_of-fate.ensures to-is caller-is c.of-notice.ensures
     (not-told at caller f notice (λ n ls. ins_if (n == to) (delivered at f m ls) ls) old c.deliver_at.new.self.stations.items c.deliver_at.new.self.stations.items
     (sym c.is_gone.ensures ∙ c.if-is_gone.false) c.in_ok-deliver_at.ensures.reached)
