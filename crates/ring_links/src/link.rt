@@ -2,7 +2,7 @@
 ghost use Rattle.std.specs.Prelude.{◌≡◌, ◌+◌, ◌^◌, ◌<◌, ◌++◌, ◌∷◌, [], drop, slice_get, OnOk};
 ghost use Rattle.std.specs.Option.{option_copied};
 ghost use Rattle.dom_history.specs.declared.plan.Fate.TheVariants as fates;
-ghost use Rattle.ring_links.specs.Carried.{empty_link, frame_sent, mark_sent, copy_of, falling, staying};
+ghost use Rattle.ring_links.specs.Carried.{empty_link, frame_sent, mark_sent, falling, staying};
 
 use crate::entry::{Entry, Waiting};
 use std::alloc::Global;
@@ -76,7 +76,7 @@ impl<T: Drop> Link<T> {
         ensures { OnOk result (self.new ≡ frame_sent fates.Pass frame self.old) }
     {
         self.frames += 1;
-        self.put_copy(self.frames, frame)?;
+        self.put(Waiting::Copy(self.frames), frame)?;
         self.fall(alloc)
     }
 
@@ -98,7 +98,7 @@ impl<T: Drop> Link<T> {
         ensures { OnOk result (self.new ≡ frame_sent (fates.Twice after) frame self.old) }
     {
         self.frames += 1;
-        self.put_copy(self.frames, frame)?;
+        self.put(Waiting::Copy(self.frames), frame)?;
         self.fall(alloc)?;
         self.put_later(again, after)
     }
@@ -118,18 +118,17 @@ impl<T: Drop> Link<T> {
     pub fn mark(&mut self, phase: u32, received: T) -> Result<(), NoMemory>
         ensures { OnOk result (self.new ≡ mark_sent phase received self.old) }
     {
-        let waiting = Waiting::Mark(phase);
-        self.queue.push_back(Entry { waiting, received })?;
-        Ok(())
+        self.put(Waiting::Mark(phase), received)
     }
 
-    /// A copy of the frame of this number waits.
+    /// Puts last what waits.
     #[inline(always)]
-    fn put_copy(&mut self, index: u64, received: T) -> Result<(), NoMemory>
-        ensures { OnOk result (self.new ≡ record self.old { queue = self.old.queue ++ copy_of received index ∷ [] }) }
+    fn put(&mut self, waiting: Waiting, received: T) -> Result<(), NoMemory>
+        ensures { OnOk result (self.new ≡ record self.old { queue = self.old.queue ++ record { waiting = waiting; received = received } ∷ [] }) }
     {
-        let waiting = Waiting::Copy(index);
-        self.queue.push_back(Entry { waiting, received })?;
+        // A `push_back` hands the entry back where there is no memory: it is moved twice more for that.
+        self.queue.reserve(1)?;
+        self.queue.push_back_reserved(Entry { waiting, received });
         Ok(())
     }
 
@@ -165,7 +164,7 @@ impl<T: Drop> Link<T> {
         let later = replace(&mut self.later, Vec::new(alloc));
         for copy in later {
             if copy.behind == self.frames {
-                self.put_copy(copy.index, copy.received)?;
+                self.put(Waiting::Copy(copy.index), copy.received)?;
             } else {
                 self.later.push(copy)?;
             }

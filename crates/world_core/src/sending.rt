@@ -1,5 +1,5 @@
 //! What an event sends comes to the links, by the fault plan.
-ghost use Rattle.std.specs.Prelude.{◌≡◌, ◌^◌, ◌<◌, ◌-◌, ◌==◌, [], Option, Some, IfOk, OnOk, IfSome, All, length, slice_get};
+ghost use Rattle.std.specs.Prelude.{◌≡◌, ◌^◌, ◌<◌, ◌-◌, ◌==◌, [], true, Option, Some, IfOk, OnOk, IfSome, All, length, slice_get};
 ghost use Rattle.uid_names.specs.declared.limits.TheConstants.{MAX_NODES};
 ghost use Rattle.dom_history.specs.Plans.{fate_of as planned_fate};
 ghost use Rattle.dom_history.specs.declared.plan.Fate.TheVariants as fates;
@@ -123,7 +123,7 @@ impl<P: Program, G: Pages> World<P, G> {
         }
     }
 
-    /// A frame is sent: it comes to its link, and a notice of it to the process that calls.
+    /// A frame is sent: it comes to its link, and where it is lost or late, a notice of it to the process that calls.
     fn send_frame(
         &mut self,
         alloc: Global,
@@ -140,15 +140,38 @@ impl<P: Program, G: Pages> World<P, G> {
         ensures others { SameBeside self.old self.new }
     {
         let fate = fate_of(&self.plan, &frame, index);
+        if is_gone(fate) {
+            return self.send_gone(alloc, at, index, fate, frame);
+        }
+        let to = place_of(frame.to());
+        self.deliver_at(alloc, at, to, fate, frame)
+    }
+
+    /// The same of a frame that is lost or late. Not inlined: such frames are few.
+    #[inline(never)]
+    fn send_gone(
+        &mut self,
+        alloc: Global,
+        at: usize,
+        index: u64,
+        fate: Fate,
+        frame: Frame,
+    ) -> Result<(), NoMemory>
+        requires fate { fate ≡ planned_fate self.old.plan frame.from frame.to index }
+        requires gone { is_gone_fate fate ≡ true }
+        requires to { frame.to - 1 < length self.old.stations.items }
+        requires caller { (caller_of frame).node - 1 < length self.old.stations.items }
+        requires links { All (λ x. at < length x.ins.items) self.old.stations.items }
+        requires few { All (λ x. IfSome (slice_get x.ins.items at) (λ l. l.link.frames < 2 ^ 63)) self.old.stations.items }
+        ensures reached { OnOk result (AreReached at (came_of self.old.plan (Some (index, frame))) (framed_ins self.old.plan at (Some (index, frame)))
+            self.old.stations.items self.new.stations.items) }
+        ensures others { SameBeside self.old self.new }
+    {
         let notice = Notice::of(&frame, index);
         let caller = place_of(frame.caller().node());
         let to = place_of(frame.to());
         self.deliver_at(alloc, at, to, fate, frame)?;
-        if is_gone(fate) {
-            self.tell_at(alloc, at, caller, notice)
-        } else {
-            Ok(())
-        }
+        self.tell_at(alloc, at, caller, notice)
     }
 
     /// A notice comes to the node at a place, of a frame that the one at another place sends.
@@ -167,6 +190,7 @@ impl<P: Program, G: Pages> World<P, G> {
     }
 
     /// A frame of this fate comes to the node at a place, by its link from the one at another place.
+    #[inline(always)]
     fn deliver_at(
         &mut self,
         alloc: Global,

@@ -336,6 +336,7 @@ impl<P: Program, G: Pages> Station<P, G> {
 
     /// A frame of this fate comes to the link from the node at a place. What it changes of the list is changed, unless the
     /// event that sends it is the node's own.
+    #[inline(always)]
     pub(crate) fn deliver(
         &mut self,
         alloc: Global,

@@ -1,39 +1,24 @@
-use Rattle.std.proofs.Common.{sym, ap, ◌∙◌}
+use Rattle.std.proofs.Common.{refl, sym, ap, ◌∙◌}
 use Rattle.std.specs.Prelude.{◌==◌, ◌-◌}
+use Rattle.ring_messages.specs.Frames.{caller_of}
+use Rattle.world_core.specs.Stations.{notice_for}
 use Rattle.world_core.specs.Sending.{delivered}
 use Rattle.world_core.specs.Reached.{ins_if}
 use Rattle.world_core.proofs.OnOks.{on_ok}
-use Rattle.world_core.proofs.Reaching.{gone-told, not-told, frame-reached}
+use Rattle.world_core.proofs.Reaching.{not-told, frame-reached}
 use Rattle.world_core.proofs.world.World.send_frame.Goals as goal
 
-pub returns-then-is_gone-clause-reached : goal.returns-then-is_gone-clause-reached
-returns-then-is_gone-clause-reached g c =
+pub returns-clause-reached : goal.returns-clause-reached
+returns-clause-reached g c =
     let at = c.args.at in
     let m = c.args.frame in
     let plan = c.args.self.now.plan in
     let old = c.args.self.now.stations.items in
+    let new = c.deliver_at.new.self.stations.items in
     let f = c.fate_of-fate.result in
     let to = c.place_of-to.result in
-    let caller = c.place_of-caller.result in
-    let notice = c.of-notice.result in
+    let caller = (caller_of m).node - 1 in
+    let notice = notice_for m c.args.index in
     let to-is = c.place_of-to.ensures.value ∙ ap (λ k. k - 1) c.to.ensures.value in
-    let caller-is = c.place_of-caller.ensures.value ∙ ap (λ k. k - 1) (c.node.ensures.value ∙ ap (λ p. p.node) c.caller.ensures) in
-    on_ok c.tell_at.result (λ second. frame-reached plan at c.args.index m old c.tell_at.new.self.stations.items f to caller notice c.fate_of-fate.ensures to-is caller-is c.of-notice.ensures
-    (gone-told at caller f notice (λ n ls. ins_if (n == to) (delivered at f m ls) ls) old c.deliver_at.new.self.stations.items c.tell_at.new.self.stations.items
-    (sym c.is_gone.ensures ∙ c.if-is_gone.true) c.in_ok-deliver_at.ensures.others.many c.in_ok-deliver_at.ensures.reached second)) c.tell_at.ensures.reached
-
-pub returns-else-is_gone-clause-reached : goal.returns-else-is_gone-clause-reached
-returns-else-is_gone-clause-reached g c =
-    let at = c.args.at in
-    let m = c.args.frame in
-    let plan = c.args.self.now.plan in
-    let old = c.args.self.now.stations.items in
-    let f = c.fate_of-fate.result in
-    let to = c.place_of-to.result in
-    let caller = c.place_of-caller.result in
-    let notice = c.of-notice.result in
-    let to-is = c.place_of-to.ensures.value ∙ ap (λ k. k - 1) c.to.ensures.value in
-    let caller-is = c.place_of-caller.ensures.value ∙ ap (λ k. k - 1) (c.node.ensures.value ∙ ap (λ p. p.node) c.caller.ensures) in
-    frame-reached plan at c.args.index m old c.deliver_at.new.self.stations.items f to caller notice c.fate_of-fate.ensures to-is caller-is c.of-notice.ensures
-    (not-told at caller f notice (λ n ls. ins_if (n == to) (delivered at f m ls) ls) old c.deliver_at.new.self.stations.items c.deliver_at.new.self.stations.items
-    (sym c.is_gone.ensures ∙ c.if-is_gone.false) c.in_ok-deliver_at.ensures.reached)
+    on_ok c.deliver_at.result (λ reached. frame-reached plan at c.args.index m old new f to caller notice c.fate_of-fate.ensures to-is refl refl
+    (not-told at caller f notice (λ n ls. ins_if (n == to) (delivered at f m ls) ls) old new new (sym c.is_gone.ensures ∙ c.if-is_gone.false) reached)) c.deliver_at.ensures.reached
