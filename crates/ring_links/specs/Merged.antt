@@ -1,5 +1,5 @@
 -- Logs of nodes, merged by place. In a log, and in what is merged, the first event comes first.
-use Rattle.std.specs.Prelude.{◌≡◌, ◌≢◌, ℕ, zero, suc, ◌+◌, ◌-◌, ◌*◌, ◌^◌, ◌<◌, ◌≤◌, false, Option, Some, None, List, [], ◌∷◌, length, reverse, slice_get, slice_index_or, All, AllPairs}
+use Rattle.std.specs.Prelude.{◌≡◌, ◌≢◌, ℕ, zero, suc, ◌+◌, ◌-◌, ◌<◌, false, Option, Some, None, List, [], ◌∷◌, length, reverse, slice_get, slice_index_or, All, AllPairs}
 use Rattle.uid_names.specs.declared.ids.Place.{Place}
 use Rattle.dom_history.specs.Events.{Happening}
 use Rattle.dom_history.specs.Histories.{place_lt}
@@ -30,30 +30,21 @@ pub record IsFirst (logs : List NodeLog) (came : List ℕ) (i : ℕ) : Type 0 wh
   pub next : next_at logs came i ≡ Some event
   pub least : (j : ℕ) (other : Happening) → next_at logs came j ≡ Some other → place_lt other.place event.place ≡ false
 
--- what stands for a place where there is none
-abbrev pub no_place : ℕ
-no_place = 2 ^ 72
+-- the place of an event, if there is one
+abbrev pub place_of : Option Happening → Option Place
+place_of None = None
+place_of (Some e) = Some e.place
 
--- the key of a place: of two places the one with the lower key comes first
-pub record IsKey (place : Place) (key : ℕ) : Type 0 where
-  pub node : place.node < 256
-  pub value : key ≡ place.tick * 256 + place.node
-  pub below : key < no_place
+-- the places of the logs' next events
+pub record AreNext (logs : List NodeLog) (came : List ℕ) (nexts : List (Option Place)) : Type 0 where
+  pub same : length nexts ≡ length logs
+  pub each : (j : ℕ) → j < length logs → slice_index_or nexts j None ≡ place_of (next_at logs came j)
 
--- the key of the place of an event, if there is one
-abbrev pub IsNext : Option Happening → ℕ → Type 0
-IsNext None key = key ≡ no_place
-IsNext (Some e) key = IsKey e.place key
-
--- the keys of the logs' next events
-pub record AreNext (logs : List NodeLog) (came : List ℕ) (keys : List ℕ) : Type 0 where
-  pub same : length keys ≡ length logs
-  pub each : (j : ℕ) → j < length logs → IsNext (next_at logs came j) (slice_index_or keys j no_place)
-
--- of these keys none is below this one, which is that of a place
-pub record IsLeast (keys : List ℕ) (i : ℕ) : Type 0 where
-  pub there : slice_index_or keys i no_place < no_place
-  pub least : (j : ℕ) → slice_index_or keys i no_place ≤ slice_index_or keys j no_place
+-- of these places none comes before this one
+pub record IsLeast (nexts : List (Option Place)) (i : ℕ) : Type 0 where
+  pub place : Place
+  pub next : slice_index_or nexts i None ≡ Some place
+  pub least : (j : ℕ) (other : Place) → slice_index_or nexts j None ≡ Some other → place_lt other place ≡ false
 
 -- how many events are left
 abbrev pub left : List NodeLog → List ℕ → ℕ

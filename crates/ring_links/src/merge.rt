@@ -1,20 +1,17 @@
 //! The events of several nodes in one list.
-ghost use Rattle.std.specs.Prelude.{◌≡◌, ◌+◌, ◌<◌, ◌≤◌, ◌++◌, ◌∷◌, [], IsSome, OnOk, slice_set, slice_index, slice_index_or, ℕ, true, None, length, IfOk, IfSome, MatchOption, slice_get, All};
+ghost use Rattle.std.specs.Prelude.{◌≡◌, ◌+◌, ◌<◌, ◌++◌, ◌∷◌, [], IsSome, OnOk, slice_set, slice_index, slice_index_or, ℕ, true, None, length, IfOk, IfSome, MatchOption, slice_get, All};
 ghost use Rattle.std.specs.Option.{option_copied};
-ghost use Rattle.ring_links.specs.Merged.{AreLogs, AreMerged, AreNext, IsKey, IsLeast, IsNext, next_at, no_place};
+ghost use Rattle.dom_history.specs.Histories.{place_lt};
+ghost use Rattle.ring_links.specs.Merged.{AreLogs, AreMerged, AreNext, IsLeast, next_at, place_of};
 
 use dom_history::{Event, EventList, NodeLog};
 use std::alloc::Global;
 use uid_names::{NoMemory, Place};
 
-/// The key where a log has no next event: it is above that of each place.
-const NO_PLACE: u128 = 1 << 72;
-
-/// The key of a place. Of two places the one with the lower key comes first.
-fn key_of(place: Place) -> u128
-    ensures { IsKey place result }
+fn is_before(a: Place, b: Place) -> bool
+    ensures { result ≡ place_lt a b }
 {
-    u128::from(place.tick) * 256 + u128::from(place.node.number())
+    a.tick < b.tick || (a.tick == b.tick && a.node.number() < b.node.number())
 }
 
 fn event_at(events: &[Event], at: usize) -> Option<&Event>
@@ -32,44 +29,64 @@ fn next_event<'a>(logs: &'a [NodeLog], came: &[usize], i: usize) -> Option<&'a E
     event_at(logs[i].events.items(), came[i])
 }
 
-/// The key of the place of the event of the log at `i` that comes next.
-fn next_key(logs: &[NodeLog], came: &[usize], i: usize) -> u128
+/// The place of the event of the log at `i` that comes next.
+fn next_place(logs: &[NodeLog], came: &[usize], i: usize) -> Option<Place>
     requires same { length came.now ≡ length logs.now }
     requires within { i < length logs.now }
-    ensures { IsNext (next_at logs.now came.now i) result }
+    ensures { result ≡ place_of (next_at logs.now came.now i) }
 {
     match next_event(logs, came, i) {
-        Some(event) => key_of(event.place()),
-        None => NO_PLACE,
+        Some(event) => Some(event.place()),
+        None => None,
     }
 }
 
-/// The key of each log's next event, where so many of each came.
-fn next_keys(alloc: Global, logs: &[NodeLog], came: &[usize]) -> Result<Vec<u128>, NoMemory>
+/// The place of each log's next event, where so many of each came.
+fn next_places(
+    alloc: Global,
+    logs: &[NodeLog],
+    came: &[usize],
+) -> Result<Vec<Option<Place>>, NoMemory>
     requires same { length came.now ≡ length logs.now }
-    ensures { IfOk result (λ keys. AreNext logs.now came.now keys.items) }
+    ensures { IfOk result (λ nexts. AreNext logs.now came.now nexts.items) }
 {
-    let mut keys = Vec::with_capacity(alloc, logs.len())?;
+    let mut nexts = Vec::with_capacity(alloc, logs.len())?;
     for i in 0..logs.len() {
-        keys.push(next_key(logs, came, i))?;
+        nexts.push(next_place(logs, came, i))?;
     }
-    Ok(keys)
+    Ok(nexts)
 }
 
-/// The log whose next event comes first of all, by the keys of all next events.
-fn first_log(keys: &[u128]) -> Option<usize>
-    ensures within { IfSome result (λ i. i < length keys.now) }
-    ensures first { MatchOption result ((j : ℕ) → no_place ≤ slice_index_or keys.now j no_place) (IsLeast keys.now) }
+/// Whether a place comes before the first one so far, which stands with the number of its log.
+fn is_first(first: &Option<(usize, Place)>, place: &Place) -> bool
+    ensures { MatchOption first.now (result ≡ true) (λ f. result ≡ place_lt place.now f.1) }
 {
-    // Without a branch that depends on the keys.
-    let (mut first, mut least) = (0, NO_PLACE);
-    for i in 0..keys.len() {
-        let key = keys[i];
-        if key < least {
-            (first, least) = (i, key);
+    match first {
+        None => true,
+        Some((_, other)) => is_before(*place, *other),
+    }
+}
+
+/// The log whose next event comes first of all, by the places of all next events.
+fn first_log(nexts: &[Option<Place>]) -> Option<usize>
+    ensures within { IfSome result (λ i. i < length nexts.now) }
+    ensures first { MatchOption result ((j : ℕ) → slice_index_or nexts.now j None ≡ None) (IsLeast nexts.now) }
+{
+    let mut first: Option<(usize, Place)> = None;
+    for i in 0..nexts.len() {
+        match nexts[i] {
+            Some(place) => {
+                if is_first(&first, &place) {
+                    first = Some((i, place));
+                }
+            }
+            None => {}
         }
     }
-    if least < NO_PLACE { Some(first) } else { None }
+    match first {
+        Some((i, _)) => Some(i),
+        None => None,
+    }
 }
 
 /// How many events the logs have.
@@ -131,13 +148,13 @@ pub fn by_place(alloc: Global, logs: &[NodeLog]) -> Result<EventList, NoMemory>
 {
     let mut came = none_came(alloc, logs)?;
     let total = total(logs).ok_or(NoMemory)?;
-    let mut keys = next_keys(alloc, logs, came.as_slice())?;
+    let mut nexts = next_places(alloc, logs, came.as_slice())?;
     let mut events = Vec::with_capacity(alloc, total)?;
     loop {
-        match first_log(keys.as_slice()) {
+        match first_log(nexts.as_slice()) {
             Some(i) => {
                 merge_next(alloc, logs, &mut came, &mut events, i)?;
-                keys[i] = next_key(logs, came.as_slice(), i);
+                nexts[i] = next_place(logs, came.as_slice(), i);
             }
             None => return Ok(EventList::from_vec(events)),
         }
