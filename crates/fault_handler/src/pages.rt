@@ -269,8 +269,9 @@ impl ResidentPages {
         requires apart { AreApart self.old.moving }
         ensures ok { OnOk result (self.new
             ≡ record {
-                cache = record self.old.cache { reserved = self.old.cache.reserved - 1; pages = fresh_page uid page bytes.now ∷ self.old.cache.pages };
-                moving = put_at self.old.moving proc.number None }) }
+              cache = record self.old.cache { reserved = self.old.cache.reserved - 1; pages = fresh_page uid page bytes.now ∷ self.old.cache.pages };
+              moving = put_at self.old.moving proc.number None;
+            }) }
         ensures err { OnErr result (self.new ≡ self.old) }
     {
         self.cache.install(uid, page, bytes)?;
