@@ -1,5 +1,5 @@
 -- What an event of the code leaves, seen beside what the definition leaves.
-use Rattle.std.specs.Prelude.{◌≡◌, ◌≢◌, ℕ, ◌≤◌, Bool, Option, Some, None, List}
+use Rattle.std.specs.Prelude.{◌≡◌, ◌≢◌, ℕ, ◌≤◌, Bool, Option, Some, None, List, []}
 use Rattle.std.specs.Option.{option_map, ForSome}
 use Rattle.uid_names.specs.Names.{ObjectName, IsProcNumber}
 use Rattle.uid_names.specs.Steps.{◌>>=◌}
@@ -28,6 +28,10 @@ use Rattle.node_core.specs.Processes.{want_at}
 use Rattle.node_core.specs.Programs.{program_in, numbers_in, told_all}
 use Rattle.node_core.specs.Nodes.{AreTold}
 use Rattle.node_core.specs.Machines.{given_of, state_of, IsKept}
+
+-- an event did nothing yet
+abbrev pub IsFresh : Done → Type 0
+IsFresh done = done ≡ record { frame = None; effects = record { dropped = []; sent = None; ended = None } }
 
 -- a frame was sent
 pub record Sent {P G : Type 0} (old new : Machine P G) (done : Done) (m : Message) (dropped : List (ObjectName × ℕ)) : Type 0 where

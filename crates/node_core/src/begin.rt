@@ -77,7 +77,7 @@ fn access_wanted(
 
 impl<P: Program, G: Pages> Machine<P, G> {
     ghost use Rattle.node_core.specs.Machines.{given_of, state_of, IsAtEvent, IsBefore};
-    ghost use Rattle.node_core.specs.Outcomes.{Moves, Does};
+    ghost use Rattle.node_core.specs.Outcomes.{IsFresh, Moves, Does};
 
     /// A process begins what its program wants, or is at the end of its phase or of all.
     pub(crate) fn begin(
@@ -86,6 +86,7 @@ impl<P: Program, G: Pages> Machine<P, G> {
         proc: ProcId,
         done: &mut Done,
     ) -> Result<(), NoMemory>
+        requires fresh { IsFresh done.old }
         requires own { proc.node ≡ self.old.desk.node }
         requires before { IsBefore P.spent P.wants self.old }
         requires going { self.old.phase ≤ self.old.phases }
@@ -105,6 +106,7 @@ impl<P: Program, G: Pages> Machine<P, G> {
 
     /// The program is told that a phase begins, which is that of what it wants next.
     fn pauses(&mut self, alloc: Global, proc: ProcId, done: &mut Done) -> Result<(), NoMemory>
+        requires fresh { IsFresh done.old }
         requires before { IsBefore P.spent P.wants self.old }
         requires going { self.old.phase ≤ self.old.phases }
         requires enabled { may_begin (given_of self.old) (state_of self.old) proc.number ≡ true }
@@ -120,6 +122,7 @@ impl<P: Program, G: Pages> Machine<P, G> {
 
     /// The process is at the end of all phases.
     fn finishes(&mut self, alloc: Global, proc: ProcId, done: &mut Done)
+        requires fresh { IsFresh done.old }
         requires before { IsBefore P.spent P.wants self.old }
         ensures { Does P.spent P.wants P.becomes self.old self.new done.new (Some (begins (given_of self.old) (state_of self.old) proc.number AllDone)) }
     {
@@ -134,6 +137,7 @@ impl<P: Program, G: Pages> Machine<P, G> {
         proc: ProcId,
         done: &mut Done,
     ) -> Result<(), NoMemory>
+        requires fresh { IsFresh done.old }
         requires own { proc.node ≡ self.old.desk.node }
         requires before { IsBefore P.spent P.wants self.old }
         requires program { IsSome (program_in self.old.programs.items proc.number) }
@@ -155,6 +159,7 @@ impl<P: Program, G: Pages> Machine<P, G> {
         begun: Place,
         done: &mut Done,
     ) -> Result<(), NoMemory>
+        requires fresh { IsFresh done.old }
         requires own { proc.node ≡ self.old.desk.node }
         requires at { IsAtEvent P.spent P.wants self.old }
         requires program { IsSome (program_in self.old.programs.items proc.number) }
@@ -214,6 +219,7 @@ impl<P: Program, G: Pages> Machine<P, G> {
         room: u32,
         done: &mut Done,
     ) -> Result<(), NoMemory>
+        requires fresh { IsFresh done.old }
         requires own { proc.node ≡ self.old.desk.node }
         requires at { IsAtEvent P.spent P.wants self.old }
         requires program { IsSome (program_in self.old.programs.items proc.number) }
@@ -239,6 +245,7 @@ impl<P: Program, G: Pages> Machine<P, G> {
         after: Option<(Uid, ProcId)>,
         done: &mut Done,
     ) -> Result<(), NoMemory>
+        requires fresh { IsFresh done.old }
         requires own { proc.node ≡ self.old.desk.node }
         requires at { IsAtEvent P.spent P.wants self.old }
         requires program { IsSome (program_in self.old.programs.items proc.number) }
@@ -267,6 +274,7 @@ impl<P: Program, G: Pages> Machine<P, G> {
         mode: Mode,
         done: &mut Done,
     ) -> Result<(), NoMemory>
+        requires fresh { IsFresh done.old }
         requires own { proc.node ≡ self.old.desk.node }
         requires at { IsAtEvent P.spent P.wants self.old }
         requires program { IsSome (program_in self.old.programs.items proc.number) }
@@ -288,6 +296,7 @@ impl<P: Program, G: Pages> Machine<P, G> {
         uid: Uid,
         done: &mut Done,
     ) -> Result<(), NoMemory>
+        requires fresh { IsFresh done.old }
         requires own { proc.node ≡ self.old.desk.node }
         requires at { IsAtEvent P.spent P.wants self.old }
         requires program { IsSome (program_in self.old.programs.items proc.number) }
@@ -309,6 +318,7 @@ impl<P: Program, G: Pages> Machine<P, G> {
         uid: Uid,
         done: &mut Done,
     ) -> Result<(), NoMemory>
+        requires fresh { IsFresh done.old }
         requires own { proc.node ≡ self.old.desk.node }
         requires at { IsAtEvent P.spent P.wants self.old }
         requires program { IsSome (program_in self.old.programs.items proc.number) }
@@ -330,6 +340,7 @@ impl<P: Program, G: Pages> Machine<P, G> {
         begun: Place,
         done: &mut Done,
     ) -> Result<(), NoMemory>
+        requires fresh { IsFresh done.old }
         requires own { proc.node ≡ self.old.desk.node }
         requires at { IsAtEvent P.spent P.wants self.old }
         requires program { IsSome (program_in self.old.programs.items proc.number) }

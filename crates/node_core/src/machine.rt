@@ -82,7 +82,7 @@ pub(crate) struct Machine<P: Program, G: Pages> {
 impl<P: Program, G: Pages> Machine<P, G> {
     ghost use Rattle.node_core.specs.Machines.{given_of, state_of, IsKept, IsAtEvent, IsBefore};
     ghost use Rattle.node_core.specs.Nodes.{AreTold};
-    ghost use Rattle.node_core.specs.Outcomes.{Led, Told, FirstAsked, AllAsked, Does};
+    ghost use Rattle.node_core.specs.Outcomes.{IsFresh, Led, Told, FirstAsked, AllAsked, Does};
 
     /// A node at the start, whose programs were not asked yet.
     pub(crate) fn new(
@@ -387,6 +387,7 @@ impl<P: Program, G: Pages> Machine<P, G> {
         incoming: &Incoming,
         done: &mut Done,
     ) -> Result<(), NoMemory>
+        requires fresh { IsFresh done.old }
         requires kept { IsKept P.spent P.wants self.old }
         requires enabled { enabled (given_of self.old) (state_of self.old) what.now (seen incoming.now) ≡ true }
         requires tick { self.old.tick < 2 ^ 40 }
@@ -409,6 +410,7 @@ impl<P: Program, G: Pages> Machine<P, G> {
         incoming: &Incoming,
         done: &mut Done,
     ) -> Result<(), NoMemory>
+        requires fresh { IsFresh done.old }
         requires before { IsBefore P.spent P.wants self.old }
         requires enabled { enabled (given_of self.old) (state_of self.old) what.now (seen incoming.now) ≡ true }
         requires frame { IsIncoming (seen incoming.now) }

@@ -31,7 +31,7 @@ use uid_names::{NODE_PROCESSES, NoMemory, ProcId};
 
 impl<P: Program, G: Pages> Machine<P, G> {
     ghost use Rattle.node_core.specs.Machines.{given_of, state_of, IsAtEvent, IsBefore};
-    ghost use Rattle.node_core.specs.Outcomes.{Sent, Moves, Does};
+    ghost use Rattle.node_core.specs.Outcomes.{IsFresh, Sent, Moves, Does};
 
     /// The request is sent again, or the call is given up.
     pub(crate) fn notice(
@@ -40,6 +40,7 @@ impl<P: Program, G: Pages> Machine<P, G> {
         proc: ProcId,
         done: &mut Done,
     ) -> Result<(), NoMemory>
+        requires fresh { IsFresh done.old }
         requires own { proc.node ≡ self.old.desk.node }
         requires before { IsBefore P.spent P.wants self.old }
         requires program { IsSome (program_in self.old.programs.items proc.number) }
@@ -59,6 +60,7 @@ impl<P: Program, G: Pages> Machine<P, G> {
 
     /// The request of a call is sent again, by a frame of its own.
     fn resends(&mut self, alloc: Global, proc: ProcId, again: Again, done: &mut Done)
+        requires fresh { IsFresh done.old }
         requires counted { (to : ℕ) → at self.old.emitted to 0 < 2 ^ 40 }
         requires ticked { 1 ≤ self.old.tick }
         requires number { 1 ≤ again.number }
@@ -72,6 +74,7 @@ impl<P: Program, G: Pages> Machine<P, G> {
 
     /// The open call of a process is given up, and its operation ends.
     fn gives_up(&mut self, alloc: Global, proc: ProcId, done: &mut Done) -> Result<(), NoMemory>
+        requires fresh { IsFresh done.old }
         requires own { proc.node ≡ self.old.desk.node }
         requires at { IsAtEvent P.spent P.wants self.old }
         requires program { IsSome (program_in self.old.programs.items proc.number) }

@@ -14,10 +14,11 @@ use uid_names::{NoMemory, NodeId};
 
 impl<P: Program, G: Pages> Machine<P, G> {
     ghost use Rattle.node_core.specs.Machines.{given_of, state_of, IsBefore};
-    ghost use Rattle.node_core.specs.Outcomes.{Does};
+    ghost use Rattle.node_core.specs.Outcomes.{IsFresh, Does};
 
     /// The node sends the mark of its phase.
     pub(crate) fn end_phase(&mut self, alloc: Global, done: &mut Done)
+        requires fresh { IsFresh done.old }
         requires before { IsBefore P.spent P.wants self.old }
         requires going { self.old.phase ≤ self.old.phases }
         ensures { Does P.spent P.wants P.becomes self.old self.new done.new
@@ -36,6 +37,7 @@ impl<P: Program, G: Pages> Machine<P, G> {
         phase: u32,
         done: &mut Done,
     ) -> Result<(), NoMemory>
+        requires fresh { IsFresh done.old }
         requires before { IsBefore P.spent P.wants self.old }
         requires going { self.old.phase ≤ self.old.phases }
         ensures { OnOk result (Does P.spent P.wants P.becomes self.old self.new done.new

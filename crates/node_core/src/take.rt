@@ -27,7 +27,7 @@ use uid_names::{NoMemory, Place, ProcId};
 
 impl<P: Program, G: Pages> Machine<P, G> {
     ghost use Rattle.node_core.specs.Machines.{given_of, state_of, IsAtEvent, IsBefore};
-    ghost use Rattle.node_core.specs.Outcomes.{Does, Hears};
+    ghost use Rattle.node_core.specs.Outcomes.{IsFresh, Does, Hears};
 
     /// A frame is taken.
     pub(crate) fn take(
@@ -36,6 +36,7 @@ impl<P: Program, G: Pages> Machine<P, G> {
         frame: &Frame,
         done: &mut Done,
     ) -> Result<(), NoMemory>
+        requires fresh { IsFresh done.old }
         requires before { IsBefore P.spent P.wants self.old }
         requires here { frame.now.to ≡ self.old.desk.node }
         requires frame { IsFrame frame.now }
@@ -50,6 +51,7 @@ impl<P: Program, G: Pages> Machine<P, G> {
 
     /// A request is served.
     fn serves(&mut self, alloc: Global, frame: &Frame, done: &mut Done) -> Result<(), NoMemory>
+        requires fresh { IsFresh done.old }
         requires before { IsBefore P.spent P.wants self.old }
         requires here { frame.now.to ≡ self.old.desk.node }
         requires request { IsTrue (is_request frame.now.body) }
@@ -69,6 +71,7 @@ impl<P: Program, G: Pages> Machine<P, G> {
 
     /// A reply is taken. One that is of no open call does nothing.
     fn hears(&mut self, alloc: Global, frame: &Frame, done: &mut Done) -> Result<(), NoMemory>
+        requires fresh { IsFresh done.old }
         requires before { IsBefore P.spent P.wants self.old }
         requires here { frame.now.to ≡ self.old.desk.node }
         requires frame { IsFrame frame.now }
@@ -101,6 +104,7 @@ impl<P: Program, G: Pages> Machine<P, G> {
         body: &Body,
         done: &mut Done,
     ) -> Result<(), NoMemory>
+        requires fresh { IsFresh done.old }
         requires own { proc.node ≡ self.old.desk.node }
         requires program { IsSome (program_in self.old.programs.items proc.number) }
         requires at { IsAtEvent P.spent P.wants self.old }
@@ -125,6 +129,7 @@ impl<P: Program, G: Pages> Machine<P, G> {
         body: &Body,
         done: &mut Done,
     ) -> Result<(), NoMemory>
+        requires fresh { IsFresh done.old }
         requires at { IsAtEvent P.spent P.wants self.old }
         requires program { IsSome (program_in self.old.programs.items proc.number) }
         requires wanted { is_new (want_at self.old.procs proc.number) ≡ true }
@@ -149,6 +154,7 @@ impl<P: Program, G: Pages> Machine<P, G> {
         body: &Body,
         done: &mut Done,
     ) -> Result<(), NoMemory>
+        requires fresh { IsFresh done.old }
         requires at { IsAtEvent P.spent P.wants self.old }
         requires program { IsSome (program_in self.old.programs.items proc.number) }
         requires wanted { is_list (want_at self.old.procs proc.number) ≡ true }
@@ -177,6 +183,7 @@ impl<P: Program, G: Pages> Machine<P, G> {
         body: &Body,
         done: &mut Done,
     ) -> Result<(), NoMemory>
+        requires fresh { IsFresh done.old }
         requires own { proc.node ≡ self.old.desk.node }
         requires process { IsProc proc.number }
         requires at { IsAtEvent P.spent P.wants self.old }

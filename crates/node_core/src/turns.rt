@@ -11,6 +11,7 @@ ghost use Rattle.fault_handler.specs.Outcomes.{Turn, seen_access};
 ghost use Rattle.fault_handler.specs.Next.{FitsTurn, IsAsked};
 ghost use Rattle.lock_validate.specs.Steps.{seen_step, Tells};
 ghost use Rattle.ring_messages.specs.Ranges.{IsBody};
+ghost use Rattle.node_core.specs.Outcomes.{IsFresh};
 ghost use Rattle.node_core.specs.Processes.{IsWanted, want_at};
 ghost use Rattle.node_core.specs.Programs.{program_in};
 
@@ -48,14 +49,12 @@ impl Done {
     }
 }
 
-/// Nothing is sent, and no operation ends; these pages were dropped.
+/// Nothing is sent, and no operation ends; these pages were dropped. What was done is still fresh, so the rest is so already.
 pub(crate) fn quiet(dropped: Dropped, done: &mut Done)
+    requires fresh { IsFresh done.old }
     ensures { done.new ≡ record { frame = None; effects = record { dropped = dropped; sent = None; ended = None } } }
 {
-    done.frame = None;
     done.effects.dropped = dropped;
-    done.effects.sent = None;
-    done.effects.ended = None;
 }
 
 /// Counts one frame more to a node; how many there are then.
@@ -73,7 +72,7 @@ fn count(emitted: &mut [u64; MAX_NODES as usize], to: NodeId) -> u64
 // parts as a whole, right after they were written, takes longer than to write them.
 impl<P: Program, G: Pages> Machine<P, G> {
     ghost use Rattle.node_core.specs.Machines.{state_of, IsAtEvent};
-    ghost use Rattle.node_core.specs.Outcomes.{Sent as IsSent, Turns};
+    ghost use Rattle.node_core.specs.Outcomes.{IsFresh, Sent as IsSent, Turns};
 
     /// What comes of an operation that began at this place, where the desk says this to it.
     #[inline(always)]
@@ -85,6 +84,7 @@ impl<P: Program, G: Pages> Machine<P, G> {
         access: Access,
         done: &mut Done,
     ) -> Result<(), NoMemory>
+        requires fresh { IsFresh done.old }
         requires own { proc.node ≡ self.old.desk.node }
         requires at { IsAtEvent P.spent P.wants self.old }
         requires program { IsSome (program_in self.old.programs.items proc.number) }
@@ -118,6 +118,7 @@ impl<P: Program, G: Pages> Machine<P, G> {
         step: Step,
         done: &mut Done,
     ) -> Result<(), NoMemory>
+        requires fresh { IsFresh done.old }
         requires own { proc.node ≡ self.old.desk.node }
         requires at { IsAtEvent P.spent P.wants self.old }
         requires program { IsSome (program_in self.old.programs.items proc.number) }
@@ -150,6 +151,7 @@ impl<P: Program, G: Pages> Machine<P, G> {
         dropped: Dropped,
         done: &mut Done,
     ) -> Result<(), NoMemory>
+        requires fresh { IsFresh done.old }
         requires at { IsAtEvent P.spent P.wants self.old }
         requires program { IsSome (program_in self.old.programs.items proc.number) }
         requires fits { FitsWant (want_at self.old.procs proc.number) (Some reply) }
@@ -158,9 +160,7 @@ impl<P: Program, G: Pages> Machine<P, G> {
         let word = EndWord::of(&reply);
         let phase = self.procs[index_of(proc)].phase;
         self.tell(alloc, proc, Some(&reply), phase)?;
-        done.frame = None;
         done.effects.dropped = dropped;
-        done.effects.sent = None;
         done.effects.ended = Some((proc.number(), word));
         Ok(())
     }
@@ -176,6 +176,7 @@ impl<P: Program, G: Pages> Machine<P, G> {
         dropped: Dropped,
         done: &mut Done,
     )
+        requires fresh { IsFresh done.old }
         requires own { proc.node ≡ self.old.desk.node }
         requires at { IsAtEvent P.spent P.wants self.old }
         requires asks { IsSome (ask_of body) }
@@ -190,7 +191,8 @@ impl<P: Program, G: Pages> Machine<P, G> {
     /// A frame is sent: the next one on its link.
     #[inline(always)]
     pub(crate) fn sends(&mut self, frame: Frame, dropped: Dropped, done: &mut Done)
-        requires { (to : ℕ) → at self.old.emitted to 0 < 2 ^ 40 }
+        requires fresh { IsFresh done.old }
+        requires counted { (to : ℕ) → at self.old.emitted to 0 < 2 ^ 40 }
         ensures { IsSent self.old self.new done.new frame dropped }
     {
         let to = frame.to();
@@ -204,7 +206,6 @@ impl<P: Program, G: Pages> Machine<P, G> {
         done.frame = Some(frame);
         done.effects.dropped = dropped;
         done.effects.sent = Some(sent);
-        done.effects.ended = None;
     }
 
     /// The operation of a process waits for a page.
@@ -217,6 +218,7 @@ impl<P: Program, G: Pages> Machine<P, G> {
         dropped: Dropped,
         done: &mut Done,
     )
+        requires fresh { IsFresh done.old }
         requires at { IsAtEvent P.spent P.wants self.old }
         ensures { Turns P.spent P.wants P.becomes self.old self.new done.new proc.number begun (Turn.Waits uid page) dropped }
     {

@@ -1,9 +1,11 @@
-use Rattle.std.proofs.Common.{◌≡◌, ℕ, ◌≤◌, ◌<◌, length, get_or, map, ◌∷◌, Some, None, refl, sym, ap, subst, ◌∙◌}
+use Rattle.std.proofs.Common.{◌≡◌, ℕ, ◌≤◌, ◌<◌, length, get_or, map, ◌∷◌, Option, Some, None, refl, sym, ap, subst, ◌∙◌}
 use Rattle.uid_names.specs.Names.{IsProcNumber}
 use Rattle.dom_history.specs.declared.end_word.EndWord.{EndWord}
 use Rattle.dom_history.specs.declared.event.Effects.{Effects}
+use Rattle.dom_history.specs.declared.event.Sent.{Sent}
 use Rattle.node_runs.specs.NodeStates.{ProcState, first_proc, proc_of}
 use Rattle.node_core.specs.declared.machine.Machine.{Machine}
+use Rattle.node_core.specs.declared.turns.Done.{Done}
 use Rattle.node_core.specs.Processes.{proc_seen}
 use Rattle.node_core.specs.Machines.{state_of}
 use Rattle.node_core.proofs.Seen.{seen-silent, seen-at}
@@ -23,11 +25,12 @@ returns g c begun given op stage number wanted =
     let here : q ≡ proc_seen (get_or m.procs i d) = ap (λ k. get_or (map proc_seen m.procs) k first_proc) (sym c.index_of.ensures.value) ∙ seen-at m.procs i d inside in
     let phase = (get_or m.procs i d).phase in
     let effects : (n : ℕ) (word : EndWord) → Effects = λ n word. record { dropped = c.args.dropped; sent = None; ended = Some (n, word) } in
+    let sending : (s : Option Sent) → Effects = λ s. record { dropped = c.args.dropped; sent = s; ended = Some (c.number.result, c.of-word.result) } in
     led-told g.P.Program.spent g.P.Program.wants g.P.Program.becomes m c.tell.new.self _ _ p (Some c.args.reply)
     (record q { doing = None; phase = phase }) (record q { doing = None; heard = Some c.args.reply ∷ q.heard })
     c.requires.at proc told.state refl (record { doing = refl; last = refl; phase = sym (ap (λ (r : ProcState). r.phase) here) })
     (ap (λ hs. Some c.args.reply ∷ hs) (seen-silent m.procs p))
-    told.program told.others told.told told.wanted told.numbers refl
-    (ap (λ n. effects n c.of-word.result) c.number.ensures.value ∙ ap (effects p) c.of-word.ensures)
+    told.program told.others told.told told.wanted told.numbers (ap (λ (x : Done). x.frame) c.requires.fresh)
+    (ap (λ (x : Done). sending x.effects.sent) c.requires.fresh ∙ ap (λ n. effects n c.of-word.result) c.number.ensures.value ∙ ap (effects p) c.of-word.ensures)
     (ap (λ (x : Machine g.row.P.Denot g.row.G.Denot). x.greatest) told.same) (ap (λ (x : Machine g.row.P.Denot g.row.G.Denot). x.phases) told.same)
     (subst (λ (x : Machine g.row.P.Denot g.row.G.Denot). x.server.tick ≤ x.tick) (sym told.same) c.requires.at.earlier)

@@ -53,6 +53,7 @@ stepped-requires g c =
     let opened = sym c.open_call.ensures.value ∙ c.in-Some.is in
     let says = said-lock d p op.0 desk body c.in-Some.call (sym c.answers.ensures ∙ c.if-not-answers.false) opened c.in_default-call.not-Access in
     record {
+      fresh = c.requires.fresh;
       own = c.requires.own ∙ sym c.in_ok-step-in_default-call.ensures.node;
       at = c.requires.at;
       program = c.requires.program;
