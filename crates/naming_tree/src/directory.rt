@@ -64,7 +64,9 @@ fn slots(alloc: Global, records: &[[u8; RECORD_BYTES]]) -> Result<Vec<Slot>, Dir
         let Some(slot) = slot(record) else {
             return Err(DirFault::BadDir);
         };
-        slots.push(slot)?;
+        // A `push` moves the row twice more.
+        slots.reserve(1)?;
+        slots.push_reserved(slot);
     }
     Ok(slots)
 }

@@ -11,6 +11,7 @@ use uid_names::{ObjKind, Uid};
 pub(crate) type Slot = Option<DirRow>;
 
 /// The object of a number.
+#[inline(always)]
 fn object_of(number: u64) -> Option<Uid>
     ensures { result ≡ object_of_number number }
 {
@@ -25,6 +26,7 @@ fn object_of(number: u64) -> Option<Uid>
 }
 
 /// The number that stands in a record.
+#[inline(always)]
 fn number_in(record: &[u8; RECORD_BYTES]) -> u64
     ensures { result ≡ from_be_bytes w64 (take 8 (drop 36 record.now)) }
 {
@@ -34,6 +36,7 @@ fn number_in(record: &[u8; RECORD_BYTES]) -> u64
 }
 
 /// The name that stands in a record.
+#[inline(always)]
 fn name_in(record: &[u8; RECORD_BYTES]) -> Option<Component>
     ensures { result ≡ name_in record.now }
 {
@@ -45,6 +48,8 @@ fn name_in(record: &[u8; RECORD_BYTES]) -> Option<Component>
 }
 
 /// The row that stands in the fields of a record; None where they are of none.
+// Inlined, as are those beside it, so that a row is made where it is kept.
+#[inline(always)]
 fn row_in(record: &[u8; RECORD_BYTES]) -> Option<DirRow>
     ensures { result ≡ row_in record.now }
 {
@@ -55,6 +60,7 @@ fn row_in(record: &[u8; RECORD_BYTES]) -> Option<DirRow>
 }
 
 /// The row of a record, where the record is what is written of it.
+#[inline(always)]
 fn row_spelled(record: &[u8; RECORD_BYTES]) -> Option<DirRow>
     ensures { result ≡ spelled record.now (row_in record.now) }
 {
@@ -67,6 +73,7 @@ fn row_spelled(record: &[u8; RECORD_BYTES]) -> Option<DirRow>
 }
 
 /// What a record is; None where it is of neither form.
+#[inline(always)]
 pub(crate) fn slot(record: &[u8; RECORD_BYTES]) -> Option<Slot>
     ensures { result ≡ slot_of record.now }
 {
