@@ -19,7 +19,6 @@ use Rattle.dom_history.specs.Fitting.{Fits}
 use Rattle.dom_history.specs.Replies.{may_write}
 use Rattle.page_cache.specs.Caches.{Resident, page_at, free_count}
 use Rattle.page_cache.specs.Changes.{without_page}
-use Rattle.page_cache.specs.Victims.{oldest}
 use Rattle.page_cache.proofs.PageLemmas.{page_at-oldest}
 use Rattle.uid_names.proofs.Finds.{find-passes}
 use Rattle.uid_names.proofs.ListLemmas.{by_cases}

@@ -1,7 +1,6 @@
 -- A page can always be chosen to make room, and the chosen one is not in transit.
 use Rattle.std.proofs.Common.{◌≡◌, ℕ, ◌+◌, ◌≤◌, Bool, true, false, cond, List, [], ◌∷◌, ◌++◌, length, reverse, Option, Some, None, IsSome, count_by, refl, sym, ap, subst, ◌∙◌, arith}
 use Rattle.std.specs.Prelude.{not, ◌&&◌, ◌||◌}
-use Rattle.std.specs.List.{list_any}
 use Rattle.std.specs.Option.{option_or, option_map}
 use Rattle.std.proofs.lemmas.List.{reverse-append}
 use Rattle.std.proofs.lemmas.Bool.{and_parts, not-true}
@@ -10,13 +9,13 @@ use Rattle.uid_names.specs.Names.{ObjectName}
 use Rattle.page_cache.specs.Caches.{Resident, is_page, page_at, free_count}
 use Rattle.page_cache.specs.Victims.{oldest}
 use Rattle.uid_names.proofs.Finds.{find-passes}
-use Rattle.uid_names.proofs.ListLemmas.{count_by-cons, count_by-push, count_by-none, find-count_none}
+use Rattle.uid_names.proofs.ListLemmas.{count_by-cons, count_by-push, count_by-none}
 use Rattle.page_cache.proofs.PageLemmas.{page_at-oldest}
 use Rattle.fault_handler.specs.declared.entries.LockEntry.{LockEntry}
 use Rattle.fault_handler.specs.declared.transits.Transit.{Transit}
 use Rattle.fault_handler.specs.Victims.{Victim, MayMakeRoom, is_idle_clean, is_idle_dirty, is_idle_one, is_idle_page, victim_by, named_page, named_victim}
 use Rattle.fault_handler.specs.Transits.{is_moving, inward_count}
-use Rattle.fault_handler.specs.Desks.{DeskState, procs, at, count_of, moving_of, is_in_transit_there}
+use Rattle.fault_handler.specs.Desks.{DeskState, at, count_of, moving_of, is_in_transit_there}
 use Rattle.fault_handler.specs.Invariant.{IsProc, FitsWay, FitsTransit, IsDesk}
 use Rattle.fault_handler.proofs.Fours.{by_proc, first, second, third, fourth}
 use Rattle.fault_handler.proofs.PageLists.{AreOnce, found-uid, found-page}

@@ -1,5 +1,5 @@
 -- The marks of frames follow what processes move.
-use Rattle.std.proofs.Common.{◌≡◌, ◌≢◌, ℕ, ◌<◌, Bool, true, false, List, [], ◌∷◌, ◌++◌, map, reverse, length, Option, Some, None, inl, inr, ◌⊎◌, refl, sym, ap, subst, ◌∙◌, arith}
+use Rattle.std.proofs.Common.{◌≡◌, ℕ, Bool, true, false, List, [], ◌∷◌, map, reverse, length, Option, Some, None, inl, inr, ◌⊎◌, refl, sym, ap, subst, ◌∙◌, arith}
 use Rattle.std.specs.Prelude.{not, slice_index_or}
 use Rattle.std.specs.List.{All, find, list_any}
 use Rattle.std.specs.Option.{option_map, option_or}
@@ -14,7 +14,7 @@ use Rattle.page_cache.specs.Victims.{is_clean_choice, is_dirty_choice, oldest, v
 use Rattle.uid_names.proofs.ListLemmas.{by_cases, find-map}
 use Rattle.fault_handler.specs.declared.transits.Transit.{Transit}
 use Rattle.fault_handler.specs.Transits.{is_moving, coming, going}
-use Rattle.fault_handler.specs.ShownPages.{fresh_page, changed_page, settled}
+use Rattle.fault_handler.specs.ShownPages.{fresh_page, changed_page}
 use Rattle.fault_handler.specs.Desks.{procs, at, put_at, is_in_transit_there}
 use Rattle.fault_handler.specs.Victims.{is_idle_clean, is_idle_dirty, named_page}
 use Rattle.fault_handler.specs.Invariant.{IsProc, AreApart}

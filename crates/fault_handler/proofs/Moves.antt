@@ -1,5 +1,5 @@
 -- What is kept of the pages that processes move, where one process moves another page than before.
-use Rattle.std.proofs.Common.{◌≡◌, ◌≢◌, ℕ, ◌+◌, Bool, true, false, List, length, Option, Some, None, count_by, inl, inr, refl, sym, ap, subst, ◌∙◌, arith}
+use Rattle.std.proofs.Common.{◌≡◌, ◌≢◌, ℕ, ◌+◌, Bool, true, false, List, length, Option, Some, None, inl, inr, refl, sym, ap, subst, ◌∙◌, arith}
 use Rattle.std.specs.Prelude.{◌==◌, not, ◌&&◌}
 use Rattle.std.proofs.lemmas.Bool.{cases_eq}
 use Rattle.std.proofs.lemmas.Bool.Decides.{nat_tests}
@@ -186,12 +186,7 @@ module _ (pages : List Resident) (entries : List (List LockEntry)) (q : ℕ) whe
   FitsOpen-comes false None t comes fits = absurd (let h : t.inward ≡ false = fits.0 in cc)
   FitsOpen-comes false (Some task) t comes fits = absurd fits
 
--- no other process moves the page that one does
-pub alone-apart : (moving : List (Option Transit)) (p : ℕ) (u : ObjectName) (k : ℕ) → IsProc p → AreApart moving → is_moving u k (at moving p None) ≡ true
-    → (q : ℕ) → IsProc q → q ≢ p → (v : ObjectName) (j : ℕ) → is_moving v j (at moving p None) ≡ true → is_moving v j (at moving q None) ≡ true → ⊥
-alone-apart moving p u k is apart here q proc differs v j own other = differs (apart q p proc is v j other own)
-
--- none does where another was found not to bring it
+-- no other process moves a page that is not resident, where none was found to bring it
 pub alone-absent : (pages : List Resident) (entries : List (List LockEntry)) (frames : ℕ) (moving : List (Option Transit)) (p : ℕ) (u : ObjectName) (k : ℕ) → AreMoved frames pages entries moving → page_at pages u k ≡ None
     → others_fetch moving p u k ≡ false → (q : ℕ) → IsProc q → q ≢ p → is_moving u k (at moving q None) ≡ true → ⊥
 alone-absent pages entries frames moving p u k moved none alone q proc differs is =

@@ -1,5 +1,5 @@
 -- Changes of resident pages keep what each desk keeps.
-use Rattle.std.proofs.Common.{◌≡◌, ℕ, ◌+◌, ◌≤◌, true, false, List, ◌++◌, length, take, drop, Option, Some, None, IfSome, count_by, refl, sym, subst, ◌∙◌, arith, length-append, length-drop, inl, inr, ◌⊎◌}
+use Rattle.std.proofs.Common.{◌≡◌, ℕ, ◌+◌, ◌≤◌, true, false, List, ◌++◌, length, take, drop, Option, Some, None, IfSome, refl, sym, subst, ◌∙◌, arith, length-append, length-drop, inl, inr, ◌⊎◌}
 use Rattle.std.specs.Prelude.{not}
 use Rattle.std.proofs.lemmas.List.{length-take}
 use Rattle.uid_names.specs.Names.{ObjectName, same_uid}

@@ -1,5 +1,5 @@
 -- Lemmas on resident pages: what is found after a change, and how many pass a test.
-use Rattle.std.proofs.Common.{◌≡◌, ℕ, ◌+◌, ◌≤◌, Bool, true, false, cond, List, [], ◌∷◌, Option, Some, None, count_by, refl, sym, ap, ◌∙◌, arith}
+use Rattle.std.proofs.Common.{◌≡◌, ℕ, ◌≤◌, Bool, true, false, List, [], ◌∷◌, Option, Some, None, count_by, refl, sym, ap, ◌∙◌, arith}
 use Rattle.std.specs.Prelude.{◌==◌, not, ◌&&◌}
 use Rattle.std.specs.List.{find}
 use Rattle.std.specs.Option.{option_map}
@@ -8,7 +8,7 @@ use Rattle.uid_names.specs.Names.{ObjectName, same_uid}
 use Rattle.page_cache.specs.Caches.{Resident, is_of, is_page, page_at}
 use Rattle.page_cache.specs.Changes.{changed_if, without_page, without_object, used, with_front}
 use Rattle.uid_names.proofs.Finds.{find-passes}
-use Rattle.uid_names.proofs.ListLemmas.{by_cases, count_by-cons, count_by-cons_passes, count_by-cons_fails, find-count_none, count_by-none, filter_not-none, count_by-filter_takes, find-filter_leaves, count_by-to_front, find-map, count_by-map}
+use Rattle.uid_names.proofs.ListLemmas.{by_cases, count_by-cons_passes, count_by-cons_fails, find-count_none, count_by-none, filter_not-none, count_by-filter_takes, find-filter_leaves, count_by-to_front, find-map, count_by-map}
 use Rattle.uid_names.proofs.Orders.{same_uid_is}
 use Rattle.fault_handler.specs.ShownPages.{changed_page}
 
@@ -93,55 +93,6 @@ page_at-without_object_same pages u j =
 pub page_at-without_object_other : (pages : List Resident) (u v : ObjectName) (j : ℕ) → same_uid v u ≡ false → page_at (without_object pages u) v j ≡ page_at pages v j
 page_at-without_object_other pages u v j differ = find-filter_leaves (is_page v j) (λ r. not (is_of u r)) (λ r is. ap not (of_another u v j r differ is)) pages
 
--- a page less is in the list
-AreOnce-tail : (r : Resident) (pages : List Resident) → AreOnce (r ∷ pages) → AreOnce pages
-AreOnce-tail r pages once u k = omega (arith, count_by-cons (is_page u k) r pages, once u k)
-
--- where no page that passes is dropped, as many pass
-module _ (test : Resident → Bool) where
-  -- what a test says of a page, where it is resident
-  abbrev pub says : Option Resident → Bool
-  says None = false
-  says (Some r) = test r
-
-  pub count_by-without : (pages : List Resident) (u : ObjectName) (k : ℕ) → AreOnce pages → says (page_at pages u k) ≡ false → count_by test (without_page pages u k) ≡ count_by test pages
-  count_by-without [] u k once fails = refl
-  count_by-without (r ∷ pages) u k once fails =
-      by_cases
-      (is_page u k r)
-      (count_by test (without_page (r ∷ pages) u k) ≡ count_by test (r ∷ pages))
-      (λ is.
-      let no : test r ≡ false = rw is at fails in
-      let none = filter_not-none (is_page u k) pages (omega (arith, count_by-cons_passes (is_page u k) r pages is, once u k)) in
-      rw (is, none) (sym (count_by-cons_fails test r pages no)))
-      (λ is.
-      rw is
-      (count_by-cons test r (without_page pages u k)
-      ∙ ap (λ n. cond (test r) 1 0 + n) (count_by-without pages u k (AreOnce-tail r pages once) (rw is at fails))
-      ∙ sym (count_by-cons test r pages)))
-
-  -- what the test says of the pages behind the first
-  says-later : (r : Resident) (pages : List Resident) (u : ObjectName) → AreOnce (r ∷ pages) → ((k : ℕ) → says (page_at (r ∷ pages) u k) ≡ false) → (k : ℕ) → says (page_at pages u k) ≡ false
-  says-later r pages u once fails k =
-      by_cases
-      (is_page u k r)
-      (says (page_at pages u k) ≡ false)
-      (λ is. rw (find-count_none (is_page u k) pages (omega (arith, count_by-cons_passes (is_page u k) r pages is, once u k))) refl)
-      (λ is. rw is at (fails k))
-
-  pub count_by-without_object : (pages : List Resident) (u : ObjectName) → AreOnce pages → ((k : ℕ) → says (page_at pages u k) ≡ false) → count_by test (without_object pages u) ≡ count_by test pages
-  count_by-without_object [] u once fails = refl
-  count_by-without_object (r ∷ pages) u once fails =
-      let rest = count_by-without_object pages u (AreOnce-tail r pages once) (says-later r pages u once fails) in
-      by_cases
-      (is_of u r)
-      (count_by test (without_object (r ∷ pages) u) ≡ count_by test (r ∷ pages))
-      (λ is.
-      let here : is_page u r.page r ≡ true = grind (arith, nat_tests, is) in
-      let no : test r ≡ false = rw here at (fails r.page) in
-      rw is (rest ∙ sym (count_by-cons_fails test r pages no)))
-      (λ is. rw is (count_by-cons test r (without_object pages u) ∙ ap (λ n. cond (test r) 1 0 + n) rest ∙ sym (count_by-cons test r pages)))
-
 -- a page is changed in its place
 module _ (u : ObjectName) (k : ℕ) (change : Resident → Resident) where
   abbrev changing : Resident → Resident
@@ -164,27 +115,6 @@ module _ (u : ObjectName) (k : ℕ) (change : Resident → Resident) where
 
     pub count_by-changed : (pages : List Resident) → count_by test (changed_page u k change pages) ≡ count_by test pages
     count_by-changed pages = count_by-map changing test pages ∙ ap (λ t. count_by t pages) (λ i r. test-changing r i)
-
-  -- how many pass after the change
-  pub count_by-changed_one : (test : Resident → Bool) (pages : List Resident) (r : Resident) → AreOnce pages → page_at pages u k ≡ Some r → count_by test (changed_page u k change pages) + cond (test r) 1 0 ≡ count_by test pages + cond (test (change r)) 1 0
-  count_by-changed_one test [] r once found = absurd (cc)
-  count_by-changed_one test (s ∷ pages) r once found =
-      by_cases
-      (is_page u k s)
-      (count_by test (changed_page u k change (s ∷ pages)) + cond (test r) 1 0 ≡ count_by test (s ∷ pages) + cond (test (change r)) 1 0)
-      (λ is.
-      let e : Some s ≡ Some r = rw is at found in
-      let same : s ≡ r = cc in
-      let none = changed_page-none pages (omega (arith, count_by-cons_passes (is_page u k) s pages is, once u k)) in
-      rw (is, none, same) (omega (arith, count_by-cons test (change r) pages, count_by-cons test r pages)))
-      (λ is.
-      rw is
-      (omega (
-        arith,
-        count_by-cons test s (changed_page u k change pages),
-        count_by-cons test s pages,
-        count_by-changed_one test pages r (AreOnce-tail s pages once) (rw is at found),
-      )))
 
   -- a change that keeps names
   module _ (names : (v : ObjectName) (j : ℕ) (r : Resident) → is_page v j (change r) ≡ is_page v j r) where

@@ -3,7 +3,7 @@ use Rattle.std.proofs.Common.{◌≡◌, ◌∙◌, ℕ, ◌≤◌, Bool, true, 
 use Rattle.std.specs.Bool.{OnTrue, OnFalse}
 use Rattle.std.proofs.lemmas.List.{reverse-append, map-append}
 use Rattle.std.specs.List.{find}
-use Rattle.std.specs.Option.{option_map, option_or}
+use Rattle.std.specs.Option.{option_map}
 use Rattle.uid_names.specs.Names.{ObjectName}
 use Rattle.page_frames.specs.declared.frame.Flags.{Flags}
 use Rattle.page_cache.specs.Caches.{Resident, Cached, IsCache, IsResident, IsFrame, is_of, is_page, is_in, page_at, page_in}

@@ -28,8 +28,3 @@ moved_page u (Some t) = if same_uid t.uid u then Some t.page else None
 abbrev pub inward_count : Option Transit → ℕ
 inward_count None = 0
 inward_count (Some t) = if t.inward then 1 else 0
-
--- 1 where a page goes home
-abbrev pub outward_count : Option Transit → ℕ
-outward_count None = 0
-outward_count (Some t) = if t.inward then 0 else 1
