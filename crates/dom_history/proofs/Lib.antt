@@ -22,3 +22,4 @@ pub mod KeptMaps
 pub mod HeldObjects
 pub mod MapReplies
 pub mod EndTexts
+pub mod OrderedLogs

@@ -25,3 +25,4 @@ pub mod KeptFates
 pub mod NodeTexts
 pub mod EndWords
 pub mod Events
+pub mod MergedLogs

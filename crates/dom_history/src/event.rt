@@ -43,13 +43,14 @@ impl What {
     }
 }
 
-/// A frame that was sent: to which node, as which one on that link, of which kind, and the number of its call.
+/// A frame that was sent: as which one on its link, with which number of a call, to which node, and of which kind.
+// The numbers stand first, so that a frame takes 24 bytes.
 #[derive(Clone, Copy, Debug, PartialEq, Eq)]
 pub struct Sent {
-    pub to: NodeId,
     pub index: u64,
-    pub kind: u8,
     pub number: u64,
+    pub to: NodeId,
+    pub kind: u8,
 }
 
 /// Whether a page comes before another, by object and then by number.

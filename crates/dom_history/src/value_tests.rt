@@ -2,6 +2,7 @@
 ghost use Rattle.dom_history.specs.Plans.{is_set};
 
 use crate::*;
+use std::alloc::Global;
 use std::process::Abort;
 use std::test::Fail;
 use uid_names::{ByteList, FrameKind, NodeId, Place, Uid};
@@ -92,5 +93,65 @@ fn each_end_has_its_word(rt: HostRuntime) -> Result<(), Fail> {
     assert_eq!(rt; EndWord::of(&Reply::Size(0)).word(), "ok");
     assert_eq!(rt; EndWord::from_word(b"link-fault"), Some(EndWord::LinkFault));
     assert_eq!(rt; EndWord::from_word(b"Ok"), None);
+    Ok(())
+}
+
+/// An event of a node, at a tick.
+fn begins_at(alloc: Global, tick: u64, node: NodeId) -> Event {
+    let effects = Effects {
+        dropped: Dropped::new(alloc),
+        sent: None,
+        ended: None,
+    };
+    Event::new(Place { tick, node }, What::Begin(1), effects)
+}
+
+/// A log of a node with events at these ticks.
+fn log_at(alloc: Global, node: NodeId, ticks: &[u64]) -> Result<NodeLog, Fail> {
+    let mut events = EventList::new(alloc);
+    for tick in ticks {
+        events.push(begins_at(alloc, *tick, node))?;
+    }
+    Ok(NodeLog { node, events })
+}
+
+/// The next event of the log at a place, if there is one, comes.
+fn come(merged: &mut MergedLogs, i: usize) -> Result<bool, Fail> {
+    if i >= merged.logs().len() || merged.next(i).is_none() {
+        return Ok(false);
+    }
+    merged.pass(i)?;
+    Ok(true)
+}
+
+#[test]
+fn logs_are_read_in_the_order_in_which_their_events_came(rt: HostRuntime) -> Result<(), Fail> {
+    let alloc = rt.alloc();
+    let a = NodeId::new(1).ok_or("node")?;
+    let b = NodeId::new(2).ok_or("node")?;
+    let mut logs = Vec::new(alloc);
+    logs.push(log_at(alloc, a, &[1, 4])?)?;
+    logs.push(log_at(alloc, b, &[2, 3])?)?;
+    let mut merged = MergedLogs::new(alloc, logs)?;
+    for i in [0, 1, 1, 0] {
+        assert!(rt; come(&mut merged, i)?);
+    }
+    assert!(rt; !come(&mut merged, 0)?);
+    assert!(rt; !come(&mut merged, 1)?);
+    assert!(rt; !come(&mut merged, 2)?);
+    let list = merged.to_list(alloc)?;
+    let mut reader = merged.reader(alloc)?;
+    for tick in 1..5 {
+        let Some(event) = reader.next() else {
+            return Err("no event".into());
+        };
+        assert_eq!(rt; event.place().tick, tick);
+        assert!(rt;
+            list.items()
+                .get(tick as usize - 1)
+                .is_some_and(|other| other.place() == event.place())
+        );
+    }
+    assert!(rt; reader.next().is_none());
     Ok(())
 }

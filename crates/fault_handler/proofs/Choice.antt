@@ -16,13 +16,21 @@ use Rattle.fault_handler.specs.declared.transits.Transit.{Transit}
 use Rattle.fault_handler.specs.Victims.{Victim, MayMakeRoom, is_idle_clean, is_idle_dirty, is_idle_one, is_idle_page, victim_by, named_page, named_victim}
 use Rattle.fault_handler.specs.Transits.{is_moving, inward_count}
 use Rattle.fault_handler.specs.Desks.{DeskState, at, count_of, moving_of, is_in_transit_there}
-use Rattle.fault_handler.specs.Invariant.{IsProc, FitsWay, FitsTransit, IsDesk}
+use Rattle.fault_handler.specs.Invariant.{IsProc, is_dirty, FitsWay, FitsTransit, IsDesk}
 use Rattle.fault_handler.proofs.Fours.{by_proc, first, second, third, fourth}
 use Rattle.fault_handler.proofs.PageLists.{AreOnce, found-uid, found-page}
 
 -- whether a page is in transit
 abbrev is_moved : List (Option Transit) → Resident → Bool
 is_moved moving r = is_in_transit_there moving r.uid r.page
+
+-- an idle page is clean
+pub idle-clean : (d : DeskState) (u : ObjectName) (k : ℕ) → is_idle_page d u k ≡ true → is_dirty (page_at d.cache.pages u k) ≡ false
+idle-clean d u k = by_page (page_at d.cache.pages u k)
+  where
+    by_page : (o : Option Resident) → is_idle_one d.moving o ≡ true → is_dirty o ≡ false
+    by_page None is = refl
+    by_page (Some r) is = not-true r.flags.dirty (and_parts (not r.flags.dirty) (not (is_moved d.moving r)) is).0
 
 -- an idle page is not in transit
 pub idle-still : (d : DeskState) (u : ObjectName) (k : ℕ) → is_idle_page d u k ≡ true → is_in_transit_there d.moving u k ≡ false

@@ -8,3 +8,5 @@ pub mod Fields
 pub mod Parts
 pub mod Doings
 pub mod Events
+pub mod Pieces
+pub mod Short

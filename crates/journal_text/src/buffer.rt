@@ -91,6 +91,20 @@ impl LineBuffer {
         }
     }
 
+    /// How many bytes more there is room for. Takes no memory.
+    pub(crate) fn left(&self) -> usize
+        ensures { length self.now.text + result ≡ self.now.room }
+    {
+        self.bytes.len() - self.len
+    }
+
+    /// Takes out what was written. Takes no memory.
+    pub(crate) fn clear(&mut self)
+        ensures { self.new ≡ filled [] self.old.room }
+    {
+        self.len = 0;
+    }
+
     /// What was written. Takes no memory.
     pub fn bytes(&self) -> &[u8]
         ensures { result.now ≡ self.now.text }

@@ -1,9 +1,10 @@
 //! Whether the nodes of events have names.
-ghost use Rattle.std.specs.Prelude.{◌↔◌, IsTrue, All, IfSome};
+ghost use Rattle.std.specs.Prelude.{◌↔◌, IsTrue, All, IfSome, IfOk};
 ghost use Rattle.journal_text.specs.Lines.{IsNamed, NamesWhat, Names};
 
-use dom_history::{Event, EventList, NodeNames, Sent, What};
-use uid_names::NodeId;
+use dom_history::{Event, EventList, MergedLogs, NodeNames, Sent, What};
+use std::alloc::Global;
+use uid_names::{NoMemory, NodeId};
 
 fn is_named(names: &NodeNames, node: NodeId) -> bool
     ensures { IsTrue result ↔ IsNamed names.now node }
@@ -43,4 +44,21 @@ pub fn are_named(events: &EventList, names: &NodeNames) -> bool
     ensures { IsTrue result ↔ All (Names names.now) events.now }
 {
     events.items().iter().all(|event| names_event(names, event))
+}
+
+/// Whether each node that the events of several logs name has a name.
+pub fn are_merged_named(
+    alloc: Global,
+    events: &MergedLogs,
+    names: &NodeNames,
+) -> Result<bool, NoMemory>
+    ensures { IfOk result (λ named. IsTrue named ↔ All (Names names.now) events.now.events) }
+{
+    let mut left = events.reader(alloc)?;
+    while let Some(event) = left.next() {
+        if !names_event(names, event) {
+            return Ok(false);
+        }
+    }
+    Ok(true)
 }

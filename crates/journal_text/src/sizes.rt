@@ -139,7 +139,7 @@ fn effects_len(names: &NodeNames, effects: &Effects) -> Option<usize>
 }
 
 /// How many bytes the line of an event has; None where no length is as great.
-pub(crate) fn line_len(event: &Event, names: &NodeNames) -> Option<usize>
+fn line_len(event: &Event, names: &NodeNames) -> Option<usize>
     ensures { IfSome result (λ n. n ≡ length (line names.now event.now)) }
 {
     let place = place_len(names, event.place())?;

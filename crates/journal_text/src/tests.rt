@@ -4,7 +4,10 @@ ghost use Rattle.dom_history.specs.Ranges.{IsProcNumber};
 
 use super::*;
 use What::{Begin, Mark, Notice, Ready, Take};
-use dom_history::{Dropped, Effects, EndWord, Event, EventList, NodeNames, Sent, What};
+use dom_history::{
+    Dropped, Effects, EndWord, Event, EventList, MergedLogs, NodeLog, NodeNames, Sent, What,
+};
+use dom_io::MemSink;
 use std::alloc::Global;
 use std::process::Abort;
 use std::test::Fail;
@@ -316,5 +319,79 @@ fn texts_that_differ_from_a_line_are_refused(rt: HostRuntime) -> Result<(), Fail
         ("1 a begin 1; drop 0000000000200001 4294967296\n", 1),
     ];
     assert!(rt; are_refused(rt.alloc(), &rows)?);
+    Ok(())
+}
+
+/// Copies of the events of a node.
+fn log_of(alloc: Global, events: &EventList, node: NodeId) -> Result<NodeLog, Fail> {
+    let mut own = EventList::new(alloc);
+    for event in events.items() {
+        if event.place().node == node {
+            own.push(event.copy(alloc)?)?;
+        }
+    }
+    Ok(NodeLog { node, events: own })
+}
+
+/// The events of a journal of the nodes `a` and `b`, in their logs.
+fn merged_of(alloc: Global, text: &[u8]) -> Result<MergedLogs, Fail> {
+    let Ok(events) = read_journal(alloc, text, &names(alloc)?) else {
+        return Err("no journal".into());
+    };
+    let mut logs = Vec::new(alloc);
+    logs.push(log_of(alloc, &events, node(1)?)?)?;
+    logs.push(log_of(alloc, &events, node(2)?)?)?;
+    let mut merged = MergedLogs::new(alloc, logs)?;
+    for event in events.items() {
+        let i = usize::from(event.place().node == node(2)?);
+        if i >= merged.logs().len() || merged.next(i).is_none() {
+            return Err("no such event".into());
+        }
+        merged.pass(i)?;
+    }
+    Ok(merged)
+}
+
+/// Whether the lines are written of which a journal has these, and into a sink whose calls of these numbers fail whether they
+/// are not, and what the sink holds is how the journal begins.
+fn is_written_in_pieces(alloc: Global, text: &[u8], fails: &[u64]) -> Result<bool, Fail> {
+    let (merged, names) = (merged_of(alloc, text)?, names(alloc)?);
+    if !are_merged_named(alloc, &merged, &names)? {
+        return Err("a node without a name".into());
+    }
+    let mut sink = MemSink::new(alloc, text.len(), fails)?;
+    let written = JournalLines::new(alloc, &merged, &names)?
+        .write(&mut sink)
+        .is_ok();
+    Ok(
+        text.starts_with(sink.bytes())
+            && written == fails.is_empty()
+            && written == (sink.bytes().len() == text.len()),
+    )
+}
+
+/// A journal of so many lines, of two nodes in turn.
+fn long_journal(alloc: Global, lines: u64) -> Result<ByteList, Fail> {
+    let mut text = ByteList::new(alloc);
+    for tick in 1..=lines {
+        let node = if tick % 2 == 0 { "a" } else { "b" };
+        text.extend(format!(in alloc;
+            "{tick} {node} begin 1; send {node} {tick} page-in 3\n"
+        )?.as_bytes())?;
+    }
+    Ok(text)
+}
+
+#[test]
+fn journals_are_written_in_pieces(rt: HostRuntime) -> Result<(), Fail> {
+    assert!(rt; is_written_in_pieces(rt.alloc(), ONE_NODE.as_bytes(), &[])?);
+    assert!(rt; is_written_in_pieces(rt.alloc(), LOST_FRAME.as_bytes(), &[])?);
+    assert!(rt; is_written_in_pieces(rt.alloc(), LOST_FRAME.as_bytes(), &[1])?);
+    assert!(rt; is_written_in_pieces(rt.alloc(), b"", &[])?);
+    let text = long_journal(rt.alloc(), 4_000)?;
+    assert!(rt; is_written_in_pieces(rt.alloc(), text.bytes(), &[])?);
+    assert!(rt; is_written_in_pieces(rt.alloc(), text.bytes(), &[1])?);
+    assert!(rt; is_written_in_pieces(rt.alloc(), text.bytes(), &[2])?);
+    assert!(rt; is_written_in_pieces(rt.alloc(), text.bytes(), &[3])?);
     Ok(())
 }

@@ -1,7 +1,7 @@
 //! Scripts are run as the program runs them, from their bytes to the report's and the journal's. What is counted are events.
 ghost use Rattle.std.specs.Prelude.{◌<◌};
 
-use crate::sink::LineCount;
+use crate::sink::{Counter, Unit};
 use crate::work::{Work, head};
 use anyhow::Result;
 use dom_io::MemSource;
@@ -101,10 +101,10 @@ fn words_of(alloc: Global, turns: u32) -> Result<Vec<String>> {
 fn run_once(alloc: Global, script: &[u8], turns: u32) -> Result<u32> {
     let words = words_of(alloc, turns)?;
     let mut source = MemSource::new(alloc, script, &[])?;
-    let (mut out, mut journal) = (LineCount::new(), LineCount::new());
+    let (mut out, mut journal) = (Counter::new(Unit::Bytes), Counter::new(Unit::Lines));
     let status = run_domain(alloc, words.as_slice(), &mut source, &mut out, &mut journal);
     anyhow::ensure!(status == 0, "no run");
-    Ok(u32::try_from(journal.lines())?)
+    Ok(u32::try_from(journal.count())?)
 }
 
 /// Runs a script so often, each time in other turns.

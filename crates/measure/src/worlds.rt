@@ -12,13 +12,12 @@ ghost use Rattle.measure.specs.Teams.{IsTeam, IsMade, AreMade};
 
 use crate::micros;
 use crate::rounds::Rounds;
-use crate::sink::ByteCount;
+use crate::sink::{Counter, Unit};
 use crate::teams::team;
 use crate::work::{PHASES, Work, head};
 use anyhow::Result;
-use dom_history::{EventList, FaultPlan, NodeNames};
-use dom_io::write_all;
-use journal_text::{are_named, write_journal};
+use dom_history::{FaultPlan, MergedLogs, NodeNames};
+use journal_text::{JournalLines, are_merged_named};
 use node_core::{Node, NodeSetup};
 use page_store::BlockPages;
 use script_reader::{NodeRow, Script, read_script};
@@ -116,18 +115,26 @@ fn names_of(alloc: Global, rows: &[NodeRow]) -> Result<NodeNames, NoMemory>
     NodeNames::from_list(alloc, names.as_slice())
 }
 
+/// How many events there are.
+fn count(events: &MergedLogs) -> u64 {
+    let mut count = 0_u64;
+    for log in events.logs() {
+        count = count.saturating_add(log.events.items().len() as u64);
+    }
+    count
+}
+
 /// How long it takes to write the journal into a sink that counts its bytes.
-fn write(rt: &HostRuntime, script: &Script, events: &EventList) -> Result<u64> {
+fn write(rt: &HostRuntime, script: &Script, events: &MergedLogs) -> Result<u64> {
     let names = names_of(rt.alloc(), script.nodes())?;
-    if !are_named(events, &names) {
+    if !are_merged_named(rt.alloc(), events, &names)? {
         anyhow::bail!("no such node");
     }
+    let mut sink = Counter::new(Unit::Bytes);
     let start = micros(rt)?;
-    let lines = write_journal(rt.alloc(), events, &names)?;
-    let mut sink = ByteCount::new();
-    write_all(&mut sink, lines.bytes())?;
+    JournalLines::new(rt.alloc(), events, &names)?.write(&mut sink)?;
     let end = micros(rt)?;
-    anyhow::ensure!(sink.bytes() == lines.bytes().len(), "no journal");
+    anyhow::ensure!(sink.count() > 0, "no journal");
     Ok(end.saturating_sub(start))
 }
 
@@ -139,11 +146,11 @@ fn run_once(rt: &HostRuntime, work: Work, units: u32, turns: u32) -> Result<(u64
     let script = declared(rt.alloc(), work, units)?;
     let world = world_of(rt.alloc(), &script, work, units)?;
     let start = micros(rt)?;
-    let (events, _programs) = world.run_turns(rt.alloc(), u64::from(turns), LAST_TICK)?;
+    let (events, _programs) = world.run_merged(rt.alloc(), u64::from(turns), LAST_TICK)?;
     let end = micros(rt)?;
     let written = write(rt, &script, &events)?;
     Ok((
-        events.items().len() as u64,
+        count(&events),
         end.saturating_sub(start).saturating_add(written),
     ))
 }

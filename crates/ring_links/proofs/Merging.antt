@@ -9,10 +9,11 @@ use Rattle.std.proofs.lemmas.Option.{slice_get_within, get_or_from_slice_get}
 use Rattle.uid_names.specs.declared.ids.Place.{Place}
 use Rattle.dom_history.specs.Events.{Happening}
 use Rattle.dom_history.specs.Histories.{place_lt}
+use Rattle.dom_history.specs.MergedLogs.{next_at}
 use Rattle.dom_history.specs.declared.event.NodeLog.{NodeLog}
 use Rattle.node_runs.specs.Runs.{AreRising, is_above}
 use Rattle.world_runs.specs.ByPlace.{events_of}
-use Rattle.ring_links.specs.Merged.{AreLogs, AreMerged, IsFirst, next_at}
+use Rattle.ring_links.specs.Merged.{AreLogs, AreMerged, IsFirst}
 use Rattle.ring_links.proofs.Coming.{next_at_is, next_at_within}
 
 -- so many events of each log are merged, and each next one stands above them

@@ -1,13 +1,14 @@
 -- The places of the logs' next events, and which event comes first of all.
-use Rattle.std.proofs.Common.{◌≡◌, ◌≢◌, ℕ, ◌+◌, ◌<◌, ◌≤◌, false, Option, Some, None, List, [], ◌∷◌, ◌++◌, length, set, get_or, ◌⊎◌, inl, inr, refl, sym, ap, subst, ◌∙◌, below_more, length-append, arith}
+use Rattle.std.proofs.Common.{◌≡◌, ℕ, ◌+◌, ◌<◌, false, Option, Some, None, List, [], ◌∷◌, ◌++◌, length, set, get_or, ◌⊎◌, inl, inr, refl, sym, ap, subst, ◌∙◌, below_more, length-append, arith}
 use Rattle.std.proofs.lemmas.Bool.{cases_eq}
 use Rattle.std.proofs.lemmas.List.{get_or-set_same, get_or-set_other, length-set, get_or_append_left}
 use Rattle.std.proofs.Math.Seq.{get_or-append_seam}
 use Rattle.uid_names.specs.declared.ids.Place.{Place}
 use Rattle.dom_history.specs.Events.{Happening}
 use Rattle.dom_history.specs.Histories.{place_lt}
+use Rattle.dom_history.specs.MergedLogs.{next_at}
 use Rattle.dom_history.specs.declared.event.NodeLog.{NodeLog}
-use Rattle.ring_links.specs.Merged.{next_at, place_of, AreNext, IsFirst, IsLeast}
+use Rattle.ring_links.specs.Merged.{place_of, AreNext, IsFirst, IsLeast}
 use Rattle.ring_links.proofs.Coming.{some-same, next_at_other, next_at_within}
 
 -- the place of the next event of log j

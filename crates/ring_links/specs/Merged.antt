@@ -1,8 +1,9 @@
 -- Logs of nodes, merged by place. In a log, and in what is merged, the first event comes first.
-use Rattle.std.specs.Prelude.{◌≡◌, ◌≢◌, ℕ, zero, suc, ◌+◌, ◌-◌, ◌<◌, false, Option, Some, None, List, [], ◌∷◌, length, reverse, slice_get, slice_index_or, All, AllPairs}
+use Rattle.std.specs.Prelude.{◌≡◌, ◌≢◌, ℕ, ◌+◌, ◌-◌, ◌<◌, false, Option, Some, None, List, [], ◌∷◌, length, reverse, slice_index_or, All, AllPairs}
 use Rattle.uid_names.specs.declared.ids.Place.{Place}
 use Rattle.dom_history.specs.Events.{Happening}
 use Rattle.dom_history.specs.Histories.{place_lt}
+use Rattle.dom_history.specs.MergedLogs.{next_at}
 use Rattle.dom_history.specs.declared.event.NodeLog.{NodeLog}
 use Rattle.node_runs.specs.Runs.{AreRising}
 use Rattle.world_runs.specs.ByPlace.{events_of}
@@ -16,13 +17,6 @@ pub record IsLog (log : NodeLog) : Type 0 where
 pub record AreLogs (logs : List NodeLog) : Type 0 where
   pub each : All IsLog logs
   pub apart : AllPairs (λ a b. a.node ≢ b.node) logs
-
--- the event of this log that comes next, where so many of each came
-abbrev pub next_at : List NodeLog → List ℕ → ℕ → Option Happening
-next_at [] came j = None
-next_at (log ∷ logs) [] j = None
-next_at (log ∷ logs) (c ∷ came) zero = slice_get log.events c
-next_at (log ∷ logs) (c ∷ came) (suc j) = next_at logs came j
 
 -- no other log's next event comes before this log's
 pub record IsFirst (logs : List NodeLog) (came : List ℕ) (i : ℕ) : Type 0 where

@@ -81,6 +81,7 @@ impl<T: Drop> Link<T> {
     }
 
     /// A frame is sent that is never delivered.
+    // Not inlined, as the next two: such frames are few, and where frames pass nothing is made ready for them.
     #[inline(never)]
     pub fn lose(&mut self, alloc: Global) -> Result<(), NoMemory>
         requires few { self.old.frames < 2 ^ 63 }

@@ -1,10 +1,10 @@
-//! The events of several nodes in one list.
-ghost use Rattle.std.specs.Prelude.{◌≡◌, ◌+◌, ◌<◌, ◌++◌, ◌∷◌, [], IsSome, OnOk, slice_set, slice_index, slice_index_or, ℕ, true, None, length, IfOk, IfSome, MatchOption, slice_get, All};
-ghost use Rattle.std.specs.Option.{option_copied};
+//! The events of several nodes in one order.
+ghost use Rattle.std.specs.Prelude.{◌≡◌, ◌<◌, length, IfOk, IfSome, MatchOption, slice_index_or, None, ℕ, true};
 ghost use Rattle.dom_history.specs.Histories.{place_lt};
-ghost use Rattle.ring_links.specs.Merged.{AreLogs, AreMerged, AreNext, IsLeast, next_at, place_of};
+ghost use Rattle.dom_history.specs.MergedLogs.{next_at};
+ghost use Rattle.ring_links.specs.Merged.{AreLogs, AreMerged, AreNext, IsLeast, place_of};
 
-use dom_history::{Event, EventList, NodeLog};
+use dom_history::{MergedLogs, NodeLog};
 use std::alloc::Global;
 use uid_names::{NoMemory, Place};
 
@@ -14,45 +14,25 @@ fn is_before(a: Place, b: Place) -> bool
     a.tick < b.tick || (a.tick == b.tick && a.node.number() < b.node.number())
 }
 
-fn event_at(events: &[Event], at: usize) -> Option<&Event>
-    ensures { option_copied result ≡ slice_get events.now at }
-{
-    events.get(at)
-}
-
-/// The event of the log at `i` that comes next, where so many of each came.
-fn next_event<'a>(logs: &'a [NodeLog], came: &[usize], i: usize) -> Option<&'a Event>
-    requires same { length came.now ≡ length logs.now }
-    requires within { i < length logs.now }
-    ensures { option_copied result ≡ next_at logs.now came.now i }
-{
-    event_at(logs[i].events.items(), came[i])
-}
-
 /// The place of the event of the log at `i` that comes next.
-fn next_place(logs: &[NodeLog], came: &[usize], i: usize) -> Option<Place>
-    requires same { length came.now ≡ length logs.now }
-    requires within { i < length logs.now }
-    ensures { result ≡ place_of (next_at logs.now came.now i) }
+fn next_place(merged: &MergedLogs, i: usize) -> Option<Place>
+    requires { i < length merged.now.logs }
+    ensures { result ≡ place_of (next_at merged.now.logs merged.now.came i) }
 {
-    match next_event(logs, came, i) {
+    match merged.next(i) {
         Some(event) => Some(event.place()),
         None => None,
     }
 }
 
-/// The place of each log's next event, where so many of each came.
-fn next_places(
-    alloc: Global,
-    logs: &[NodeLog],
-    came: &[usize],
-) -> Result<Vec<Option<Place>>, NoMemory>
-    requires same { length came.now ≡ length logs.now }
-    ensures { IfOk result (λ nexts. AreNext logs.now came.now nexts.items) }
+/// The place of each log's next event.
+fn next_places(alloc: Global, merged: &MergedLogs) -> Result<Vec<Option<Place>>, NoMemory>
+    ensures { IfOk result (λ nexts. AreNext merged.now.logs merged.now.came nexts.items) }
 {
-    let mut nexts = Vec::with_capacity(alloc, logs.len())?;
-    for i in 0..logs.len() {
-        nexts.push(next_place(logs, came, i))?;
+    let count = merged.logs().len();
+    let mut nexts = Vec::with_capacity(alloc, count)?;
+    for i in 0..count {
+        nexts.push(next_place(merged, i))?;
     }
     Ok(nexts)
 }
@@ -89,74 +69,20 @@ fn first_log(nexts: &[Option<Place>]) -> Option<usize>
     }
 }
 
-/// How many events the logs have.
-fn total(logs: &[NodeLog]) -> Option<usize> {
-    let mut total: usize = 0;
-    for log in logs {
-        total = total.checked_add(log.events.items().len())?;
-    }
-    Some(total)
-}
-
-/// A zero for each log.
-fn none_came(alloc: Global, logs: &[NodeLog]) -> Result<Vec<usize>, NoMemory>
-    ensures same { IfOk result (λ came. length came.items ≡ length logs.now) }
-    ensures zeros { IfOk result (λ came. All (λ n. n ≡ 0) came.items) }
+/// All events of these logs by rising place.
+pub fn by_place(alloc: Global, logs: Vec<NodeLog>) -> Result<MergedLogs, NoMemory>
+    requires { AreLogs logs.items }
+    ensures { IfOk result (λ merged. AreMerged logs.items merged.events) }
 {
-    let mut came = Vec::new(alloc);
-    for _log in logs {
-        came.push(0)?;
-    }
-    Ok(came)
-}
-
-/// One event more of a log came.
-fn pass(log: &NodeLog, came: &mut usize)
-    requires { came.old < length log.now.events }
-    ensures { came.new ≡ came.old + 1 }
-{
-    let _length = log.events.items().len();
-    *came += 1;
-}
-
-/// The next event of the log at `i` is merged.
-fn merge_next(
-    alloc: Global,
-    logs: &[NodeLog],
-    came: &mut Vec<usize>,
-    events: &mut Vec<Event>,
-    i: usize,
-) -> Result<(), NoMemory>
-    requires same { length came.old.items ≡ length logs.now }
-    requires within { i < length logs.now }
-    requires next { IsSome (next_at logs.now came.old.items i) }
-    ensures came { OnOk result (came.new.items ≡ slice_set came.old.items i (slice_index came.old.items i + 1)) }
-    ensures events { OnOk result (IfSome (next_at logs.now came.old.items i) (λ e. events.new.items ≡ events.old.items ++ e ∷ [])) }
-{
-    match next_event(logs, came.as_slice(), i) {
-        Some(event) => events.push(event.copy(alloc)?)?,
-        None => unreachable!(),
-    }
-    pass(&logs[i], &mut came[i]);
-    Ok(())
-}
-
-/// All events by rising place.
-pub fn by_place(alloc: Global, logs: &[NodeLog]) -> Result<EventList, NoMemory>
-    requires { AreLogs logs.now }
-    ensures { IfOk result (AreMerged logs.now) }
-{
-    let mut came = none_came(alloc, logs)?;
-    let total = total(logs).ok_or(NoMemory)?;
-    let mut nexts = next_places(alloc, logs, came.as_slice())?;
-    let mut events = Vec::with_capacity(alloc, total)?;
+    let mut merged = MergedLogs::new(alloc, logs)?;
+    let mut nexts = next_places(alloc, &merged)?;
     loop {
         match first_log(nexts.as_slice()) {
             Some(i) => {
-                merge_next(alloc, logs, &mut came, &mut events, i)?;
-                nexts[i] = next_place(logs, came.as_slice(), i);
+                merged.pass(i)?;
+                nexts[i] = next_place(&merged, i);
             }
-            None => return Ok(EventList::from_vec(events)),
+            None => return Ok(merged),
         }
     }
 }

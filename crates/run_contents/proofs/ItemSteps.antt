@@ -26,6 +26,7 @@ use Rattle.fault_handler.specs.PageReplies.{PageAnswer}
 use Rattle.fault_handler.specs.LockCalls.{LockCall, LockAnswer}
 use Rattle.fault_handler.specs.Outcomes.{Turn}
 use Rattle.fault_handler.specs.Invariant.{IsProc, is_dirty, IsDesk}
+use Rattle.fault_handler.proofs.Choice.{idle-clean}
 use Rattle.fault_handler.proofs.Fours.{any-more}
 use Rattle.fault_handler.proofs.KnownRows.{known_of-with_known, uid-grown}
 use Rattle.fault_handler.proofs.Nothing.{unkept-clean}
@@ -40,7 +41,6 @@ use Rattle.desk_laws.specs.Told.{told_row}
 use Rattle.desk_laws.specs.Moves.{Change, Moves}
 use Rattle.desk_laws.proofs.DeskStays.{moves-desk}
 use Rattle.run_stamps.specs.Items.{Item, Value, page_value, known_value, desk_value, is_dirty_at}
-use Rattle.run_nodes.proofs.GoingPages.{idle-clean}
 
 -- the home took the item, as it was when it was sent, and it was not changed since: the desk is that before the answer
 abbrev pub Cleans : Cause → DeskState → ℕ → ObjectName → Item → Value → Type 0

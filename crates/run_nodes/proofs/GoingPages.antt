@@ -1,9 +1,8 @@
 -- What becomes of a page that goes home, at each change of its desk: a change of another process leaves it, or stores to it; one of
 -- its own process leaves it dirty.
 use Rattle.std.proofs.Common.{◌≡◌, ◌≢◌, ℕ, true, false, List, ◌∷◌, Option, Some, None, IsSome, refl, sym, ap, subst, ◌∙◌, arith}
-use Rattle.std.specs.Prelude.{◌==◌, ◌&&◌, not, if◌then◌else◌}
+use Rattle.std.specs.Prelude.{◌==◌, ◌&&◌, if◌then◌else◌}
 use Rattle.std.specs.Option.{option_map}
-use Rattle.std.proofs.lemmas.Bool.{and_parts, not-true}
 use Rattle.std.proofs.lemmas.Bool.Decides.{nat_tests}
 use Rattle.uid_names.specs.Names.{ObjectName, same_uid}
 use Rattle.uid_names.proofs.ListLemmas.{by_cases, none_is_no_some}
@@ -14,12 +13,11 @@ use Rattle.fault_handler.specs.declared.transits.Transit.{Transit}
 use Rattle.fault_handler.specs.ShownPages.{changed_page, fresh_page, written, stored, as_sent, settled}
 use Rattle.fault_handler.specs.Tasks.{page_of, start_of}
 use Rattle.fault_handler.specs.Transits.{coming, going, is_moving}
-use Rattle.fault_handler.specs.Victims.{is_idle_one, is_idle_page}
 use Rattle.fault_handler.specs.Desks.{DeskState, at, moving_of, any_keeps, is_in_transit_there}
 use Rattle.fault_handler.specs.Changes.{settled_by}
 use Rattle.fault_handler.specs.Outcomes.{Turn}
 use Rattle.fault_handler.specs.Invariant.{IsProc, is_dirty, FitsWay, FitsTransit, IsDesk}
-use Rattle.fault_handler.proofs.Choice.{idle-still}
+use Rattle.fault_handler.proofs.Choice.{idle-clean, idle-still}
 use Rattle.fault_handler.proofs.Fours.{at-put_same, any-not}
 use Rattle.fault_handler.proofs.Nothing.{none-there, unkept-clean}
 use Rattle.fault_handler.proofs.PageLists.{is_same, same-uid, same-page, page_at-used, page_at-without_other, page_at-without_object_other, page_at-changed_same, page_at-changed_other}
@@ -41,14 +39,6 @@ stored-at pages u k offset bytes r v j there = by_cases (is_same v j u k) (IsBes
     stored_to r offset bytes (subst (λ w. page_at pages w j ≡ Some r) (sym (same-uid v j u k is)) (subst (λ i. page_at pages u i ≡ Some r) (sym (same-page v j u k is)) there))
     (subst (λ w. page_at (stored u k offset bytes pages) w j ≡ Some (written offset bytes r)) (sym (same-uid v j u k is)) (subst (λ i. page_at (stored u k offset bytes pages) u i ≡ Some (written offset bytes r)) (sym (same-page v j u k is)) here)))
     (λ differs. kept (page_at-changed_other u k (written offset bytes) (λ w i s. refl) (used pages u k) v j differs ∙ page_at-used pages u k v j))
-
--- an idle page is clean
-pub idle-clean : (d : DeskState) (u : ObjectName) (k : ℕ) → is_idle_page d u k ≡ true → is_dirty (page_at d.cache.pages u k) ≡ false
-idle-clean d u k = by_page (page_at d.cache.pages u k)
-  where
-    by_page : (o : Option Resident) → is_idle_one d.moving o ≡ true → is_dirty o ≡ false
-    by_page None is = refl
-    by_page (Some r) is = not-true r.flags.dirty (and_parts (not r.flags.dirty) (not (is_in_transit_there d.moving r.uid r.page)) is).0
 
 -- what two transits say that are one
 pub going-uid : (u : ObjectName) (k : ℕ) (v : ObjectName) (j : ℕ) → going u k ≡ going v j → u ≡ v

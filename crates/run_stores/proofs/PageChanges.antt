@@ -26,6 +26,7 @@ use Rattle.fault_handler.specs.Outcomes.{Turn}
 use Rattle.fault_handler.specs.PageReplies.{PageAnswer}
 use Rattle.fault_handler.specs.LockCalls.{LockCall, LockAnswer}
 use Rattle.fault_handler.specs.Invariant.{IsDesk, is_dirty}
+use Rattle.fault_handler.proofs.Choice.{idle-clean}
 use Rattle.fault_handler.proofs.KnownRows.{known_of-with_known, uid-grown, uid-sent}
 use Rattle.fault_handler.proofs.Nothing.{unkept-clean}
 use Rattle.fault_handler.proofs.PageLists.{is_same, same-uid, same-page, page_at-used, page_at-without_same, page_at-without_other, page_at-without_object_same, page_at-without_object_other, page_at-changed_same, page_at-changed_other}
@@ -35,7 +36,6 @@ use Rattle.desk_laws.specs.Releasing.{IsPageSettled}
 use Rattle.desk_laws.specs.Told.{told_row}
 use Rattle.desk_laws.specs.Moves.{Change}
 use Rattle.desk_laws.proofs.Facts.{page_at-fresh}
-use Rattle.run_nodes.proofs.GoingPages.{idle-clean}
 
 -- the request sends this page home
 abbrev pub SendsThis : Turn → ObjectName → ℕ → Type 0

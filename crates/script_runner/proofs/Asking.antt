@@ -34,10 +34,11 @@ added_at status this other is (inl added) apart = added.1
 added_at status this other is (inr cut) apart = absurd (apart (sym is ∙ cut.0))
 
 -- the status where no write failed
-pub no_fault : (status : ℕ) → (status ≡ 0) ⊎ ((status ≡ 5) ⊎ (status ≡ 6)) → (status ≡ 5 → ⊥) → (status ≡ 6 → ⊥) → (status ≡ 0) ⊎ ((status ≡ 7) ⊎ (status ≡ 8))
+pub no_fault : (status : ℕ) → (status ≡ 0) ⊎ ((status ≡ 5) ⊎ ((status ≡ 6) ⊎ (status ≡ 7))) → (status ≡ 5 → ⊥) → (status ≡ 6 → ⊥) → (status ≡ 0) ⊎ ((status ≡ 7) ⊎ (status ≡ 8))
 no_fault status (inl done) out_fine journal_fine = inl done
 no_fault status (inr (inl is)) out_fine journal_fine = absurd (out_fine is)
-no_fault status (inr (inr is)) out_fine journal_fine = absurd (journal_fine is)
+no_fault status (inr (inr (inl is))) out_fine journal_fine = absurd (journal_fine is)
+no_fault status (inr (inr (inr is))) out_fine journal_fine = inr (inl is)
 
 -- so words that ask for one that is generated ask for no other
 pub is_generated : (words : List (List ℕ)) (origin : Origin) (turns : ℕ) → AskFor words origin turns → AskToGenerate words → (seed : ℕ) × (origin ≡ Generated seed)

@@ -2,7 +2,6 @@
 use Rattle.std.proofs.Common.{◌≡◌, ◌∙◌, refl, ap, subst, inl, ℕ, List, Option, Result, Ok, Err, rules}
 use Rattle.std.specs.Io.KnownBytes.{append_known}
 use Rattle.dom_io.specs.Known.{AppendsPrefix}
-use Rattle.journal_text.specs.Buffers.{Filled}
 use Rattle.std.specs.Prelude.{IfOk, IfErr, IsErrOf}
 use Rattle.script_reader.specs.Scripts.{Content}
 use Rattle.script_runner.specs.declared.domain.Due.{Due}
@@ -44,11 +43,11 @@ no_read_fault s turns (Err ReadFault) end is = end
 no_read_fault s turns (Err TickLimit) end is = absurd (search (rules, is))
 no_read_fault s turns (Err NoMemory) end is = absurd (search (rules, is))
 
-module _ (words : List (List ℕ)) (left : Option (List ℕ)) (origin : Origin) (turns : ℕ) (due : Due) (text : List ℕ) (lines : Filled) (asked : AskFor words origin turns) (is_due : IsDueText origin left turns due) (is : due ≡ Run text lines) where
-  texts : AreTextsOfSource origin left turns text lines.text
+module _ (words : List (List ℕ)) (left : Option (List ℕ)) (origin : Origin) (turns : ℕ) (due : Due) (text lines : List ℕ) (asked : AskFor words origin turns) (is_due : IsDueText origin left turns due) (is : due ≡ Run text lines) where
+  texts : AreTextsOfSource origin left turns text lines
   texts = subst (IsDueText origin left turns) is is_due
 
-  pub run_added : (out journal : Held) → Adds out.before out.after text → Adds journal.before journal.after lines.text → AddsRun words left out journal
+  pub run_added : (out journal : Held) → Adds out.before out.after text → Adds journal.before journal.after lines → AddsRun words left out journal
   run_added out journal told written =
       record {
         origin = origin;
@@ -59,7 +58,7 @@ module _ (words : List (List ℕ)) (left : Option (List ℕ)) (origin : Origin) 
         written = written ∙ ap (append_known journal.before) texts.written;
       }
 
-  pub journal_cut : (out journal : Held) → Adds out.before out.after text → AppendsPrefix journal.before journal.after lines.text → AddsPartOfRun words left out journal
+  pub journal_cut : (out journal : Held) → Adds out.before out.after text → AppendsPrefix journal.before journal.after lines → AddsPartOfRun words left out journal
   journal_cut out journal told part =
       record {
         origin = origin;

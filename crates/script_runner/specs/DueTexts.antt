@@ -36,7 +36,7 @@ pub record AreTextsOfSource (origin : Origin) (left : Option (List ℕ)) (turns 
 
 -- what is due for a script
 abbrev pub IsDueOf : Origin → Content → ℕ → Due → Type 0
-IsDueOf origin s turns (Run text lines) = AreTexts origin s turns text lines.text
+IsDueOf origin s turns (Run text lines) = AreTexts origin s turns text lines
 IsDueOf origin s turns (Refusal text) = ⊥
 
 -- why nothing is due for it
@@ -47,5 +47,5 @@ IsEndOf s turns NoMemory = Unit {0}
 
 -- what is due for the script of an origin: what is told of its run, and the journal; or what is said of the first bad line
 abbrev pub IsDueText : Origin → Option (List ℕ) → ℕ → Due → Type 0
-IsDueText origin left turns (Run text lines) = AreTextsOfSource origin left turns text lines.text
+IsDueText origin left turns (Run text lines) = AreTextsOfSource origin left turns text lines
 IsDueText origin left turns (Refusal text) = IsRefusalFrom origin left text

@@ -13,12 +13,12 @@ ghost use Rattle.script_runner.specs.DueTexts.{told_of, IsDueText, IsDueOf, IsEn
 
 use crate::names::names_of;
 use crate::report::report;
-use crate::run::{AnswerRow, run_script};
+use crate::run::{AnswerRow, MergedRan, run_merged};
+use crate::run_journal::RunJournal;
 use crate::summary::summary;
 use crate::words::{Asked, Origin, words_asked};
 use dom_io::{ReadEnd, Sink, Source, read_all, write_all};
 use dom_text::put_decimal;
-use journal_text::{LineBuffer, write_journal};
 use script_reader::laws::scripts_have_one_reading;
 use script_reader::{Cause, NodeRow, Script, ScriptFault, generate, read_script};
 use std::alloc::Global;
@@ -35,7 +35,7 @@ const LAST_TICK: u64 = 1 << 40;
 #[derive(Drop)]
 pub(crate) enum Due {
     /// What is told of the script's run, and its journal.
-    Run(ByteList, LineBuffer),
+    Run(ByteList, RunJournal),
     /// What is said of the first bad line.
     Refusal(ByteList),
 }
@@ -99,15 +99,14 @@ fn run_due(
     ensures due { IfOk result (IsDueOf origin script.now (seed_of turns)) }
     ensures end { IfErr result (IsEndOf script.now (seed_of turns)) }
 {
-    let ran = match run_script(alloc, script, turns, LAST_TICK) {
+    let MergedRan { events, answers } = match run_merged(alloc, script, turns, LAST_TICK) {
         Ok(ran) => ran,
         Err(RunFault::TickLimit(_)) => return Err(RunEnd::TickLimit),
         Err(RunFault::NoMemory) => return Err(RunEnd::NoMemory),
     };
-    let text = told(alloc, origin, script.nodes(), ran.answers.items())?;
+    let text = told(alloc, origin, script.nodes(), answers.items())?;
     let names = names_of(alloc, script.nodes())?;
-    let lines = write_journal(alloc, &ran.events, &names)?;
-    Ok(Due::Run(text, lines))
+    Ok(Due::Run(text, RunJournal::new(events, names)))
 }
 
 /// What is due for the bytes that a source has left.
@@ -166,22 +165,32 @@ fn write_text<O: Sink>(out: &mut O, text: &[u8], status: u8) -> u8
     }
 }
 
-/// Writes what is told of a run, and then the journal: 0, or 5 where a write of the text failed, 6 where one of the journal did.
-/// Takes no memory.
-fn write_run<O: Sink, J: Sink>(out: &mut O, journal: &mut J, text: &[u8], lines: &[u8]) -> u8
-    ensures status { (result ≡ 0) ⊎ ((result ≡ 5) ⊎ (result ≡ 6)) }
-    ensures told { result ≢ 5 → Adds (O.held out.old) (O.held out.new) text.now }
+/// Writes what is told of a run, and then the journal: 0, or 5 where a write of the text failed, 6 where one of the journal did,
+/// and 7, before anything is written, without memory.
+fn write_run<O: Sink, J: Sink>(
+    alloc: Global,
+    out: &mut O,
+    journal: &mut J,
+    text: &[u8],
+    run: &RunJournal,
+) -> u8
+    ensures status { (result ≡ 0) ⊎ ((result ≡ 5) ⊎ ((result ≡ 6) ⊎ (result ≡ 7))) }
+    ensures told { result ≢ 5 → result ≢ 7 → Adds (O.held out.old) (O.held out.new) text.now }
     ensures fault { result ≡ 5 → CountRose (O.faults out.old) (O.faults out.new) }
     ensures text_cut { result ≡ 5 → AppendsPrefix (O.held out.old) (O.held out.new) text.now }
-    ensures no_journal { result ≡ 5 → journal.new ≡ journal.old }
-    ensures written { result ≡ 0 → Adds (J.held journal.old) (J.held journal.new) lines.now }
+    ensures no_journal { (result ≡ 5) ⊎ (result ≡ 7) → journal.new ≡ journal.old }
+    ensures nothing_told { result ≡ 7 → out.new ≡ out.old }
+    ensures written { result ≡ 0 → Adds (J.held journal.old) (J.held journal.new) run.now }
     ensures journal_fault { result ≡ 6 → CountRose (J.faults journal.old) (J.faults journal.new) }
-    ensures lines_cut { result ≡ 6 → AppendsPrefix (J.held journal.old) (J.held journal.new) lines.now }
+    ensures lines_cut { result ≡ 6 → AppendsPrefix (J.held journal.old) (J.held journal.new) run.now }
 {
+    let Ok(lines) = run.lines(alloc) else {
+        return 7;
+    };
     if write_all(out, text).is_err() {
         return 5;
     }
-    match write_all(journal, lines) {
+    match lines.write(journal) {
         Ok(()) => 0,
         Err(_) => 6,
     }
@@ -258,7 +267,7 @@ pub fn run_domain<S: Source, O: Sink, J: Sink>(
     // So bytes that are a script have no bad line.
     scripts_have_one_reading();
     match asked_due(alloc, asked, script) {
-        Ok(Due::Run(text, lines)) => write_run(out, journal, text.bytes(), lines.bytes()),
+        Ok(Due::Run(text, lines)) => write_run(alloc, out, journal, text.bytes(), &lines),
         Ok(Due::Refusal(text)) => write_text(out, text.bytes(), 3),
         Err(RunEnd::ReadFault) => 4,
         Err(RunEnd::NoMemory) => 7,

@@ -8,6 +8,7 @@ mod plans;
 mod processes;
 mod report;
 pub mod run;
+mod run_journal;
 mod summary;
 #[cfg(test)]
 mod tests;

@@ -17,7 +17,7 @@ use crate::plans::copy_of;
 use crate::processes::processes_in;
 use aegis_shell::Shell;
 use aegis_shell::laws::shells_go_by_all_they_heard;
-use dom_history::EventList;
+use dom_history::{EventList, MergedLogs};
 use script_reader::Script;
 use script_runs::laws::{
     a_seed_picks_one_run_of_a_script, runs_of_scripts_are_as_one_store,
@@ -42,6 +42,13 @@ pub type AnswerRows = ItemList<AnswerRow>;
 pub struct Ran {
     pub events: EventList,
     pub answers: AnswerRows,
+}
+
+/// The same, with the events in the logs of their nodes.
+#[derive(Drop)]
+pub(crate) struct MergedRan {
+    pub(crate) events: MergedLogs,
+    pub(crate) answers: AnswerRows,
 }
 
 /// Copies of a process's answers.
@@ -96,16 +103,41 @@ fn run_nodes(
     script: &Script,
     turns: u64,
     last_tick: u64,
-) -> Result<(EventList, Vec<(ProcId, Shell)>), RunFault>
+) -> Result<(MergedLogs, Vec<(ProcId, Shell)>), RunFault>
     requires some { 1 ≤ last_tick }
     requires few { last_tick ≤ 2 ^ 40 }
-    ensures run { IfOk result (λ r. IsRunOf shell_wants shell_after (made_shell script.now) (setup_of script.now) script.now.plan turns last_tick r.0 r.1.items) }
+    ensures run { IfOk result (λ r. IsRunOf shell_wants shell_after (made_shell script.now) (setup_of script.now) script.now.plan turns last_tick r.0.events r.1.items) }
     ensures limit { IfErr result (IsFaultOf script.now turns last_tick) }
 {
     let nodes = nodes_of(alloc, script)?;
     let plan = copy_of(alloc, script.plan())?;
     let world = World::new(alloc, nodes, plan)?;
-    world.run_turns(alloc, turns, last_tick)
+    world.run_merged(alloc, turns, last_tick)
+}
+
+/// Runs a script on nodes, as `run_script` does, and leaves the events in the logs of their nodes.
+pub(crate) fn run_merged(
+    alloc: Global,
+    script: &Script,
+    turns: Option<u64>,
+    last_tick: u64,
+) -> Result<MergedRan, RunFault>
+    requires some { 1 ≤ last_tick }
+    requires few { last_tick ≤ 2 ^ 40 }
+    ensures named { IfOk result (λ ran. All (Names (names_of script.now)) ran.events.events) }
+    ensures ran { IfOk result (λ ran. IsRan script.now (seed_of turns) last_tick (record { events = ran.events.events; answers = ran.answers })) }
+    ensures limit { IfErr result (IsFaultOf script.now (seed_of turns) last_tick) }
+{
+    let (events, shells) = run_nodes(alloc, script, turns.unwrap_or(0), last_tick)?;
+    let procs = processes_in(alloc, script.commands())?;
+    let answers = answers(alloc, shells.as_slice(), procs.as_slice())?;
+    // So the run is planned, names its own nodes and is as one store would have it, and the shells were answered what it says.
+    let _start = script.opening().nodes();
+    a_seed_picks_one_run_of_a_script();
+    runs_of_scripts_name_their_nodes();
+    runs_of_scripts_are_as_one_store();
+    shells_go_by_all_they_heard();
+    Ok(MergedRan { events, answers })
 }
 
 /// Runs a script on nodes, in the turns that a number picks, those of 0 where none is given. TickLimit is answered where
@@ -122,14 +154,9 @@ pub fn run_script(
     ensures ran { IfOk result (IsRan script.now (seed_of turns) last_tick) }
     ensures limit { IfErr result (IsFaultOf script.now (seed_of turns) last_tick) }
 {
-    let (events, shells) = run_nodes(alloc, script, turns.unwrap_or(0), last_tick)?;
-    let procs = processes_in(alloc, script.commands())?;
-    let answers = answers(alloc, shells.as_slice(), procs.as_slice())?;
-    // So the run is planned, names its own nodes and is as one store would have it, and the shells were answered what it says.
-    let _start = script.opening().nodes();
-    a_seed_picks_one_run_of_a_script();
-    runs_of_scripts_name_their_nodes();
-    runs_of_scripts_are_as_one_store();
-    shells_go_by_all_they_heard();
-    Ok(Ran { events, answers })
+    let ran = run_merged(alloc, script, turns, last_tick)?;
+    Ok(Ran {
+        events: ran.events.to_list(alloc)?,
+        answers: ran.answers,
+    })
 }

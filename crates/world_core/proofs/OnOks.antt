@@ -1,5 +1,7 @@
--- What follows from what holds of an Ok.
-use Rattle.std.proofs.Common.{Result, Ok, Err, OnOk, IfOk}
+-- What follows from what holds of an Ok, or of an Err that is passed on.
+use Rattle.std.proofs.Common.{◌≡◌, ◌∙◌, sym, Result, Ok, Err, OnOk, IfOk}
+use Rattle.std.specs.Prelude.{IsErrAnd}
+use Rattle.world_core.specs.declared.run.RunFault.{RunFault}
 
 pub on_ok : {A E : Type 0} {P Q : Type 0} (r : Result A E) → (P → Q) → OnOk r P → OnOk r Q
 on_ok (Ok x) f p = f p
@@ -12,3 +14,8 @@ if_ok (Err e) p f = tt
 pub if_ok_and : {A E R : Type 0} {P Q : A → Type 0} (r : Result A E) → IfOk r P → OnOk r R → ((x : A) → P x → R → Q x) → IfOk r Q
 if_ok_and (Ok x) p o f = f x p o
 if_ok_and (Err e) p o f = tt
+
+-- a fault that is passed on is the same
+pub same_fault : {A : Type 0} (r : Result A RunFault) (e fault : RunFault) → IsErrAnd r (λ y. y ≡ e) → r ≡ Err fault → e ≡ fault
+same_fault (Ok x) e fault passed fails = absurd passed
+same_fault (Err y) e fault passed fails = sym passed ∙ (cc)

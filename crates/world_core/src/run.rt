@@ -10,7 +10,7 @@ ghost use Rattle.world_core.specs.Ended.{named, with_name, own_of, or_else, prog
 ghost use Rattle.world_core.specs.declared.run.RunFault.TheVariants as faults;
 
 use crate::world::World;
-use dom_history::{EventList, NodeLog, Program};
+use dom_history::{EventList, MergedLogs, NodeLog, Program};
 use node_core::Node;
 use page_store::Pages;
 use ring_links::{Draws, by_place};
@@ -109,6 +109,25 @@ impl<P: Program, G: Pages> World<P, G> {
         ensures limit { (n : ℕ) → IsErrOf result (faults.TickLimit n) → (made : ℕ → ℕ → Option P) (s : Setup) →
             Stands P.wants P.becomes made s self (first_world s) → ComesToLast s self.plan seed last_tick n }
     {
+        let (events, programs) = self.run_merged(alloc, seed, last_tick)?;
+        Ok((events.to_list(alloc)?, programs))
+    }
+
+    /// The same, with the events in the logs of their nodes, and no copy of them.
+    pub fn run_merged(
+        self,
+        alloc: Global,
+        seed: u64,
+        last_tick: u64,
+    ) -> Result<(MergedLogs, Vec<(ProcId, P)>), RunFault>
+        requires stands { (made : ℕ → ℕ → Option P) × (s : Setup) × Stands P.wants P.becomes made s self (first_world s) }
+        requires least { 1 ≤ last_tick }
+        requires greatest { last_tick ≤ 2 ^ 40 }
+        ensures run { IfOk result (λ r. (made : ℕ → ℕ → Option P) (s : Setup) → Stands P.wants P.becomes made s self (first_world s) →
+            IsRunOf P.wants P.becomes made s self.plan seed last_tick r.0.events r.1.items) }
+        ensures limit { (n : ℕ) → IsErrOf result (faults.TickLimit n) → (made : ℕ → ℕ → Option P) (s : Setup) →
+            Stands P.wants P.becomes made s self (first_world s) → ComesToLast s self.plan seed last_tick n }
+    {
         // So where no event is enabled all nodes have ended, and what was done is as one store would have it.
         no_turn_is_stuck();
         turns_are_a_run_by_place();
@@ -141,10 +160,10 @@ impl<P: Program, G: Pages> World<P, G> {
     }
 
     /// All events by rising place, and the programs.
-    fn end(self, alloc: Global) -> Result<(EventList, Vec<(ProcId, P)>), NoMemory>
+    fn end(self, alloc: Global) -> Result<(MergedLogs, Vec<(ProcId, P)>), NoMemory>
         requires logs { AreLogs (map (λ y. y.node.log) self.stations.items) }
         requires numbers { All (λ y. AreNumbered y.node) self.stations.items }
-        ensures events { IfOk result (λ r. AreMerged (map (λ y. y.node.log) self.stations.items) r.0) }
+        ensures events { IfOk result (λ r. AreMerged (map (λ y. y.node.log) self.stations.items) r.0.events) }
         ensures programs { IfOk result (λ r. (p : ProcName) → named r.1.items p ≡ program_at (map (λ y. y.node) self.stations.items) p) }
     {
         let mut logs = Vec::new(alloc);
@@ -152,6 +171,6 @@ impl<P: Program, G: Pages> World<P, G> {
         for station in self.stations {
             take_apart(station.node, &mut logs, &mut programs)?;
         }
-        Ok((by_place(alloc, logs.as_slice())?, programs))
+        Ok((by_place(alloc, logs)?, programs))
     }
 }

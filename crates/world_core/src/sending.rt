@@ -1,7 +1,7 @@
 //! What an event sends comes to the links, by the fault plan.
 ghost use Rattle.std.specs.Prelude.{◌≡◌, ◌^◌, ◌<◌, ◌-◌, ◌==◌, [], true, Option, Some, IfOk, OnOk, IfSome, All, length, slice_get};
 ghost use Rattle.uid_names.specs.declared.limits.TheConstants.{MAX_NODES};
-ghost use Rattle.dom_history.specs.Plans.{fate_of as planned_fate};
+ghost use Rattle.dom_history.specs.Plans.{fate_of};
 ghost use Rattle.dom_history.specs.declared.plan.Fate.TheVariants as fates;
 ghost use Rattle.node_runs.specs.Deliveries.{is_gone as is_gone_fate};
 ghost use Rattle.node_core.specs.declared.setup.Incoming.TheVariants as received;
@@ -14,7 +14,7 @@ ghost use Rattle.world_core.specs.Reached.{notice_if, ins_if, came_of, framed_in
 
 use crate::notices::Notice;
 use crate::world::World;
-use dom_history::{Fate, FaultPlan, Program};
+use dom_history::{Fate, Program};
 use node_core::{Emitted, Incoming};
 use page_store::Pages;
 use ring_links::Link;
@@ -88,16 +88,6 @@ fn is_gone(fate: Fate) -> bool
     }
 }
 
-/// The fate of the frame of this number on its link. A plan without rows is not searched.
-fn fate_of(plan: &FaultPlan, frame: &Frame, index: u64) -> Fate
-    ensures { result ≡ planned_fate plan.now frame.now.from frame.now.to index }
-{
-    if plan.rows().is_empty() {
-        return Fate::Pass;
-    }
-    plan.fate(frame.from(), frame.to(), index)
-}
-
 impl<P: Program, G: Pages> World<P, G> {
     /// What an event of the node at this place emits is sent: a mark, or a frame, or nothing.
     pub(crate) fn send(
@@ -139,7 +129,7 @@ impl<P: Program, G: Pages> World<P, G> {
             self.old.stations.items self.new.stations.items) }
         ensures others { SameBeside self.old self.new }
     {
-        let fate = fate_of(&self.plan, &frame, index);
+        let fate = self.plan.fate(frame.from(), frame.to(), index);
         if is_gone(fate) {
             return self.send_gone(alloc, at, index, fate, frame);
         }
@@ -157,7 +147,7 @@ impl<P: Program, G: Pages> World<P, G> {
         fate: Fate,
         frame: Frame,
     ) -> Result<(), NoMemory>
-        requires fate { fate ≡ planned_fate self.old.plan frame.from frame.to index }
+        requires fate { fate ≡ fate_of self.old.plan frame.from frame.to index }
         requires gone { is_gone_fate fate ≡ true }
         requires to { frame.to - 1 < length self.old.stations.items }
         requires caller { (caller_of frame).node - 1 < length self.old.stations.items }

@@ -1,4 +1,4 @@
-use Rattle.std.proofs.Common.{ℕ, Bool, true, false, Option, ◌+◌, sym, subst, arith}
+use Rattle.std.proofs.Common.{ℕ, Bool, Option, ◌+◌, sym, subst, arith}
 use Rattle.uid_names.specs.declared.ids.Place.{Place}
 use Rattle.ring_links.proofs.FirstSoFar.{FirstSoFar, IsTest, was-read, first-taken, first-kept, first-absent, first-of-all}
 use Rattle.ring_links.proofs.merge.first_log.Goals as goal

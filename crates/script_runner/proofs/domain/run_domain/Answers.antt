@@ -17,10 +17,11 @@ returns-in-Ok-Run-clause-run g c = λ is.
     let before = g.O.Sink.held c.args.out.now in
     let old = g.J.Sink.held c.args.journal.now in
     let whole : c.write_run.result ≢ 5 = λ five. absurd (search (rules, sym is ∙ five)) in
+    let there : c.write_run.result ≢ 7 = λ seven. absurd (search (rules, sym is ∙ seven)) in
     run_added (map string_bytes c.args.words.now) (g.S.Source.left c.args.script.now) c.in-Some.asked.origin (seed_of c.in-Some.asked.turns) c.in-Ok-Run.field-0 c.in-Ok-Run.text c.in-Ok-Run.lines
     c.in-Some.ensures c.in-Ok-Run.ensures.due c.in-Ok-Run.field-0-is
     (record { before = before; after = g.O.Sink.held c.write_run.new.out }) (record { before = old; after = g.J.Sink.held c.write_run.new.journal })
-    (c.write_run.ensures.told whole ∙ ap (append_known before) c.bytes.ensures) (c.write_run.ensures.written is ∙ ap (append_known old) c.bytes-in-Ok-Run.ensures)
+    (c.write_run.ensures.told whole there ∙ ap (append_known before) c.bytes.ensures) (c.write_run.ensures.written is)
 
 pub returns-in-Ok-Run-clause-text_cut : goal.returns-in-Ok-Run-clause-text_cut
 returns-in-Ok-Run-clause-text_cut g c = λ is taken.
@@ -36,11 +37,11 @@ returns-in-Ok-Run-clause-journal_cut g c = λ is.
     let old = g.J.Sink.held c.args.journal.now in
     let new = g.J.Sink.held c.write_run.new.journal in
     let whole : c.write_run.result ≢ 5 = λ five. absurd (search (rules, sym is ∙ five)) in
+    let there : c.write_run.result ≢ 7 = λ seven. absurd (search (rules, sym is ∙ seven)) in
     journal_cut (map string_bytes c.args.words.now) (g.S.Source.left c.args.script.now) c.in-Some.asked.origin (seed_of c.in-Some.asked.turns) c.in-Ok-Run.field-0 c.in-Ok-Run.text c.in-Ok-Run.lines
     c.in-Some.ensures c.in-Ok-Run.ensures.due c.in-Ok-Run.field-0-is
     (record { before = before; after = g.O.Sink.held c.write_run.new.out }) (record { before = old; after = new })
-    (c.write_run.ensures.told whole ∙ ap (append_known before) c.bytes.ensures)
-    (subst (AppendsPrefix old new) c.bytes-in-Ok-Run.ensures (c.write_run.ensures.lines_cut is))
+    (c.write_run.ensures.told whole there ∙ ap (append_known before) c.bytes.ensures) (c.write_run.ensures.lines_cut is)
 
 pub returns-in-Err-TickLimit-clause-limit : goal.returns-in-Err-TickLimit-clause-limit
 returns-in-Err-TickLimit-clause-limit g c = λ _.

@@ -13,10 +13,10 @@ pub names_of-requires : goal.names_of-requires
 names_of-requires c =
     subst (λ rows. AreNodeNames (map (λ n. n.name) rows)) (sym c.nodes-2.ensures.value) (node_names c.args.script.now c.nodes-2.ensures.content)
 
-pub write_journal-requires : goal.write_journal-requires
-write_journal-requires c =
+pub new-requires : goal.new-requires
+new-requires c =
     let are : c.in_ok-names.names ≡ names_of c.args.script.now = c.in_ok-names.ensures ∙ ap (λ rows. map (λ n. n.name) rows) c.nodes-2.ensures.value in
-    subst (λ names. All (Names names) c.in-Ok.ran.events) (sym are) c.in-Ok.ensures.named
+    subst (λ names. All (Names names) c.in-Ok.ran.events.events) (sym are) c.in-Ok.ensures.named
 
 pub returns-clause-due : goal.returns-clause-due
 returns-clause-due c =
@@ -31,5 +31,5 @@ returns-clause-due c =
           c.in_ok-text.ensures
           ∙ (ap (λ nodes. told_of c.args.origin (map (λ n. n.name) nodes) (map answers_in c.items.result.now)) c.nodes.ensures.value
           ∙ (ap (told_of c.args.origin (names_of c.args.script.now)) rows ∙ told_is c.args.origin c.args.script.now ran.run));
-      written = c.in_ok-lines.ensures ∙ (ap (λ names. journal names c.in-Ok.ran.events) names ∙ ap (journal (names_of c.args.script.now)) ran.by_place);
+      written = c.new.ensures ∙ (ap (λ names. journal names c.in-Ok.ran.events.events) names ∙ ap (journal (names_of c.args.script.now)) ran.by_place);
     }

@@ -4,21 +4,21 @@ use Rattle.script_runner.specs.Nodes.{made_shell}
 use Rattle.script_runner.proofs.RanNodes.{run_found, limit_found}
 use Rattle.script_runner.proofs.run.run_nodes.Goals as goal
 
-pub run_turns-requires-clause-stands : goal.run_turns-requires-clause-stands
-run_turns-requires-clause-stands c =
+pub run_merged-requires-clause-stands : goal.run_merged-requires-clause-stands
+run_merged-requires-clause-stands c =
     let s = c.args.script.now in
     (made_shell s, setup_of s, c.in_ok-world.ensures.stands (made_shell s) (setup_of s) c.in_ok-nodes.ensures)
 
 pub returns-clause-run : goal.returns-clause-run
 returns-clause-run c =
     let s = c.args.script.now in
-    run_found (λ r. r.0) (λ r. r.1.items) s c.args.turns c.args.last_tick c.in_ok-world.world c.run_turns.result
+    run_found (λ r. r.0.events) (λ r. r.1.items) s c.args.turns c.args.last_tick c.in_ok-world.world c.run_merged.result
     (c.in_ok-world.ensures.stands (made_shell s) (setup_of s) c.in_ok-nodes.ensures)
-    (c.in_ok-world.ensures.plan ∙ (c.in_ok-plan.ensures ∙ c.plan.ensures.value)) c.run_turns.ensures.run
+    (c.in_ok-world.ensures.plan ∙ (c.in_ok-plan.ensures ∙ c.plan.ensures.value)) c.run_merged.ensures.run
 
 pub returns-clause-limit : goal.returns-clause-limit
 returns-clause-limit c =
     let s = c.args.script.now in
-    limit_found s c.args.turns c.args.last_tick c.in_ok-world.world c.run_turns.result
+    limit_found s c.args.turns c.args.last_tick c.in_ok-world.world c.run_merged.result
     (c.in_ok-world.ensures.stands (made_shell s) (setup_of s) c.in_ok-nodes.ensures)
-    (c.in_ok-world.ensures.plan ∙ (c.in_ok-plan.ensures ∙ c.plan.ensures.value)) c.run_turns.ensures.limit
+    (c.in_ok-world.ensures.plan ∙ (c.in_ok-plan.ensures ∙ c.plan.ensures.value)) c.run_merged.ensures.limit

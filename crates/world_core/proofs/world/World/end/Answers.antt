@@ -37,13 +37,13 @@ pub by_place-requires : goal.by_place-requires
 by_place-requires g c =
     let all =
     all_taken c.into_iter-station-iterator.result c.loop-station.yielded c.loop-station.station-iterator c.args.self.stations.items c.loop-station.yielded_by c.into_iter-station-iterator.ensures.into_iter_gives.0 c.in-None.ensures.steps.0 in
-    subst AreLogs (sym (c.as_slice.ensures.value ∙ c.loop-station.invariant.0 ∙ ap (map (λ (y : Station g.row.P.Denot g.row.G.Denot). y.node.log)) all)) c.requires.logs
+    subst AreLogs (sym (c.loop-station.invariant.0 ∙ ap (map (λ (y : Station g.row.P.Denot g.row.G.Denot). y.node.log)) all)) c.requires.logs
 
 pub returns-clause-events : goal.returns-clause-events
 returns-clause-events g c =
     let all =
     all_taken c.into_iter-station-iterator.result c.loop-station.yielded c.loop-station.station-iterator c.args.self.stations.items c.loop-station.yielded_by c.into_iter-station-iterator.ensures.into_iter_gives.0 c.in-None.ensures.steps.0 in
-    subst (λ (ls : List NodeLog). AreMerged ls c.in_ok-by_place.field-0) (c.as_slice.ensures.value ∙ c.loop-station.invariant.0 ∙ ap (map (λ (y : Station g.row.P.Denot g.row.G.Denot). y.node.log)) all) c.in_ok-by_place.ensures
+    subst (λ (ls : List NodeLog). AreMerged ls c.in_ok-by_place.field-0.events) (c.loop-station.invariant.0 ∙ ap (map (λ (y : Station g.row.P.Denot g.row.G.Denot). y.node.log)) all) c.in_ok-by_place.ensures
 
 pub returns-clause-programs : goal.returns-clause-programs
 returns-clause-programs g c = λ p.

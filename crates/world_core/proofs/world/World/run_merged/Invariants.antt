@@ -5,7 +5,7 @@ use Rattle.node_runs.specs.Runs.{first_world}
 use Rattle.world_runs.specs.Draws.{state_after}
 use Rattle.world_core.specs.Stands.{Stands}
 use Rattle.world_core.proofs.Running.{IsRunning}
-use Rattle.world_core.proofs.world.World.run_turns.Given as goal
+use Rattle.world_core.proofs.world.World.run_merged.Given as goal
 
 abbrev pub invariant-loop-turn : goal.invariant-loop-turn
 invariant-loop-turn g l =
