@@ -1,7 +1,6 @@
-use Rattle.std.proofs.Common.{◌≡◌, ℕ, ◌*◌, ◌<◌, List, length, get_or, ap, sym, subst, ◌∙◌, arith}
-use Rattle.std.specs.Prelude.{IsSome}
+use Rattle.std.proofs.Common.{◌≡◌, ℕ, ◌<◌, List, length, get_or, sym, subst, ◌∙◌, arith}
 use Rattle.std.proofs.lemmas.List.{get_or_default}
-use Rattle.dom_history.specs.MergedLogs.{next_at, IsOrder}
+use Rattle.dom_history.specs.MergedLogs.{IsOrder}
 use Rattle.dom_history.proofs.OrderedLogs.{log_within, count_within, event_within}
 use Rattle.dom_history.proofs.merged_logs.LogReader.next.Goals as goal
 

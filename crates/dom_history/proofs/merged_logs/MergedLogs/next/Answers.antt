@@ -1,4 +1,4 @@
-use Rattle.std.proofs.Common.{◌≡◌, ℕ, ◌<◌, List, length, ap, sym, subst, ◌∙◌, arith}
+use Rattle.std.proofs.Common.{ℕ, ◌<◌, List, length, ap, sym, subst, ◌∙◌, arith}
 use Rattle.dom_history.specs.MergedLogs.{Merged}
 use Rattle.dom_history.proofs.OrderedLogs.{length-came}
 use Rattle.dom_history.proofs.merged_logs.MergedLogs.next.Goals as goal
