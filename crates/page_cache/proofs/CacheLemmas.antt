@@ -365,7 +365,7 @@ pub same_cache : (frames reserved : ℕ) (ps qs : List Resident) → ps ≡ qs �
 same_cache frames reserved ps qs same = rw same refl
 
 -- the name of a page
-abbrev name_of_page : ObjectName → ℕ → PageName
+abbrev pub name_of_page : ObjectName → ℕ → PageName
 name_of_page uid page = record { uid = uid; page = page }
 
 -- a page comes to the front where it is resident

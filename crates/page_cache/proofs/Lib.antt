@@ -4,3 +4,4 @@ pub mod NumberLemmas
 pub mod IndexLemmas
 pub mod PageLemmas
 pub mod LoopLemmas
+pub mod CountLemmas

@@ -1,25 +1,24 @@
 -- Lemmas on the loops over the slots, from the one used longest ago and from the one used last.
-use Rattle.std.proofs.Common.{◌≡◌, Bool, true, false, not, ◌&&◌, cond, List, [], ◌∷◌, ◌++◌, map, Some, refl, sym, ap, arith, count_by}
-use Rattle.std.specs.Bool.{beq}
+use Rattle.std.proofs.Common.{◌≡◌, ◌+◌, ◌<◌, Bool, true, false, not, ◌&&◌, cond, List, [], ◌∷◌, ◌++◌, map, reverse, Some, None, refl, sym, ap, ◌∙◌, arith, count_by}
+use Rattle.std.proofs.lemmas.Bool.Decides.{nat_tests}
 use Rattle.std.proofs.lemmas.List.{reverse-append, map-append}
+use Rattle.std.specs.Option.{option_or}
 use Rattle.page_frames.specs.declared.frame.Flags.{Flags}
-use Rattle.page_frames.specs.Pools.{Pool, frame_in}
+use Rattle.page_frames.specs.Pools.{Pool, IsTaken, frame_in}
 use Rattle.page_cache.specs.Caches.{Resident}
-use Rattle.page_cache.specs.Victims.{oldest, is_choice}
-use Rattle.page_cache.specs.Insides.{Slot, slot_in, seen}
-use Rattle.uid_names.proofs.ListLemmas.{count_by-cons, count_by-push}
-use Rattle.page_cache.proofs.CacheLemmas.{AreTaken}
+use Rattle.page_cache.specs.Victims.{oldest, is_clean_choice, is_dirty_choice}
+use Rattle.page_cache.specs.Insides.{Slot, are_clean, slot_in, seen}
+use Rattle.uid_names.proofs.ListLemmas.{count_by-cons, count_by-cons_passes, count_by-push, find-push}
+use Rattle.page_cache.proofs.CacheLemmas.{AreTaken, slot_limit-taken}
+use Rattle.page_cache.proofs.PageLemmas.{reverse-cons, option_or-none, oldest-none, oldest-some}
 
--- whether a page is a choice, by its two flags
-choice_by_flags : (dirty : Bool) (r : Resident) (d t : Bool) → r.flags.dirty ≡ d → r.flags.transit ≡ t → is_choice dirty r ≡ (beq d dirty && not t)
-choice_by_flags true r true t is in_transit = rw (is, in_transit) refl
-choice_by_flags true r false t is in_transit = rw is refl
-choice_by_flags false r true t is in_transit = rw is refl
-choice_by_flags false r false t is in_transit = rw (is, in_transit) refl
+-- a page is clean and not in transit as the flags of its frame say
+pub is_clean_choice-seen : (pool : Pool) (s : Slot) (flags : Flags) (clean : Bool) → flags ≡ (frame_in pool s.1).flags → clean ≡ are_clean flags → is_clean_choice (seen pool s) ≡ clean
+is_clean_choice-seen pool s flags clean of_frame is = sym (is ∙ ap are_clean of_frame)
 
--- the same by the flags of its frame
-pub is_choice-seen : (pool : Pool) (s : Slot) (dirty : Bool) (flags : Flags) → flags ≡ (frame_in pool s.1).flags → is_choice dirty (seen pool s) ≡ (beq flags.dirty dirty && not flags.transit)
-is_choice-seen pool s dirty flags is = choice_by_flags dirty (seen pool s) flags.dirty flags.transit (ap (λ f. f.dirty) (sym is)) (ap (λ f. f.transit) (sym is))
+-- and dirty and not in transit
+pub is_dirty_choice-seen : (pool : Pool) (s : Slot) (flags : Flags) → flags ≡ (frame_in pool s.1).flags → is_dirty_choice (seen pool s) ≡ (flags.dirty && not flags.transit)
+is_dirty_choice-seen pool s flags of_frame = sym (ap (λ f. f.dirty && not f.transit) of_frame)
 
 -- two tests fail where one does
 pub fails_either : (a b : Bool) → (a ≡ false) → (a && b) ≡ false
@@ -37,9 +36,19 @@ module _ (pool : Pool) (all rest : List Slot) (s : Slot) (is : all ≡ rest ++ s
       let more = ap (λ (xs : List Slot). count_by (slot_in frame) xs) is in
       omega (arith, taken frame, more, count_by-push (slot_in frame) rest s, count_by-cons (slot_in frame) s rest)
 
+  -- the last one's frame is taken
+  pub IsTaken-last : AreTaken pool all → IsTaken pool s.1
+  IsTaken-last taken =
+      let more = ap (λ (xs : List Slot). count_by (slot_in s.1) xs) is in
+      slot_limit-taken pool s.1 (omega (arith, taken s.1, more, count_by-push (slot_in s.1) rest s, count_by-cons_passes (slot_in s.1) s rest (grind (arith, nat_tests))))
+
   -- the last is the oldest where it passes, and else the oldest is before it
   oldest-last : (test : Resident → Bool) → oldest test (map (seen pool) all) ≡ cond (test (seen pool s)) (Some (seen pool s)) (oldest test (map (seen pool) rest))
   oldest-last test = rw (is, map-append (seen pool) rest (s ∷ []), reverse-append (map (seen pool) rest) (seen pool s ∷ [])) refl
+
+  -- where the last passes, it is the oldest
+  pub oldest-is_last : (test : Resident → Bool) → test (seen pool s) ≡ true → oldest test (map (seen pool) all) ≡ Some (seen pool s)
+  oldest-is_last test passes = rw (oldest-last test, passes) refl
 
   -- where the last fails, the oldest is before it
   pub oldest-before : (test : Resident → Bool) → test (seen pool s) ≡ false → oldest test (map (seen pool) all) ≡ oldest test (map (seen pool) rest)
@@ -51,3 +60,30 @@ module _ (pool : Pool) (all rest : List Slot) (s : Slot) (is : all ≡ s ∷ res
   AreTaken-behind taken frame =
       let more = ap (λ (xs : List Slot). count_by (slot_in frame) xs) is in
       omega (arith, taken frame, more, count_by-cons (slot_in frame) s rest)
+
+  -- the first one's frame is taken
+  pub IsTaken-first : AreTaken pool all → IsTaken pool s.1
+  IsTaken-first taken =
+      let more = ap (λ (xs : List Slot). count_by (slot_in s.1) xs) is in
+      slot_limit-taken pool s.1 (omega (arith, taken s.1, more, count_by-cons_passes (slot_in s.1) s rest (grind (arith, nat_tests))))
+
+  module _ (test : Resident → Bool) where
+    -- the oldest is behind the first, or else the first where it passes
+    oldest-first : oldest test (map (seen pool) all) ≡ option_or (oldest test (map (seen pool) rest)) (cond (test (seen pool s)) (Some (seen pool s)) None)
+    oldest-first = rw (is, reverse-cons (seen pool s) (map (seen pool) rest)) (find-push test (reverse (map (seen pool) rest)) (seen pool s))
+
+    -- one passes less where the first does
+    pub count-first : count_by test (map (seen pool) all) ≡ cond (test (seen pool s)) 1 0 + count_by test (map (seen pool) rest)
+    count-first = rw is (count_by-cons test (seen pool s) (map (seen pool) rest))
+
+    -- where the first fails, the oldest is behind it
+    pub oldest-behind_failed : test (seen pool s) ≡ false → oldest test (map (seen pool) all) ≡ oldest test (map (seen pool) rest)
+    oldest-behind_failed fails = rw (oldest-first, fails) (option_or-none (oldest test (map (seen pool) rest)))
+
+    -- so it is where some pass behind it
+    pub oldest-behind_more : 0 < count_by test (map (seen pool) rest) → oldest test (map (seen pool) all) ≡ oldest test (map (seen pool) rest)
+    oldest-behind_more some = oldest-first ∙ oldest-some test (map (seen pool) rest) _ some
+
+    -- where the first is the only one that passes, it is the oldest
+    pub oldest-is_first : test (seen pool s) ≡ true → count_by test (map (seen pool) rest) ≡ 0 → oldest test (map (seen pool) all) ≡ Some (seen pool s)
+    oldest-is_first passes none = rw (oldest-first, oldest-none test (map (seen pool) rest) none, passes) refl

@@ -9,14 +9,14 @@ use Rattle.page_cache.specs.Caches.{Resident, IsResident, is_page, is_in, page_a
 use Rattle.page_cache.specs.Changes.{changed_in}
 use Rattle.page_cache.specs.Victims.{oldest, name_of}
 use Rattle.page_cache.specs.Numbers.{is_dirty_of, lesser, dirty_page}
-use Rattle.uid_names.proofs.ListLemmas.{by_cases, count_by-cons, count_by-push, count_by-cons_passes, count_by-cons_fails, find-count_none, find_once, find-push}
+use Rattle.uid_names.proofs.ListLemmas.{by_cases, count_by-cons, count_by-push, count_by-cons_passes, count_by-cons_fails, find-count_none, count_by-none, find_once, find-push}
 
 -- the first comes last
-reverse-cons : {X : Type 0} (x : X) (xs : List X) → reverse (x ∷ xs) ≡ reverse xs ++ x ∷ []
+pub reverse-cons : {X : Type 0} (x : X) (xs : List X) → reverse (x ∷ xs) ≡ reverse xs ++ x ∷ []
 reverse-cons x xs = reverse-append (x ∷ []) xs
 
 -- nothing instead changes nothing
-option_or-none : {X : Type 0} (o : Option X) → option_or o None ≡ o
+pub option_or-none : {X : Type 0} (o : Option X) → option_or o None ≡ o
 option_or-none None = refl
 option_or-none (Some x) = refl
 
@@ -37,6 +37,18 @@ find-reverse p (x ∷ xs) once =
 count_by-reverse : {X : Type 0} (p : X → Bool) (xs : List X) → count_by p (reverse xs) ≡ count_by p xs
 count_by-reverse p [] = refl
 count_by-reverse p (x ∷ xs) = rw (reverse-cons x xs) (omega (arith, count_by-push p (reverse xs) x, count_by-cons p x (reverse xs), count_by-cons p x xs, count_by-reverse p xs))
+
+-- nothing is the oldest where no page passes
+pub oldest-none : (test : Resident → Bool) (pages : List Resident) → count_by test pages ≡ 0 → oldest test pages ≡ None
+oldest-none test pages none = find-count_none test (reverse pages) (count_by-reverse test pages ∙ none)
+
+-- nothing else is looked at where some pass
+pub oldest-some : (test : Resident → Bool) (pages : List Resident) (other : Option Resident) → 0 < count_by test pages → option_or (oldest test pages) other ≡ oldest test pages
+oldest-some test pages other some = by_choice (oldest test pages) refl
+  where
+    by_choice : (o : Option Resident) → oldest test pages ≡ o → option_or o other ≡ o
+    by_choice None is = absurd (omega (arith, some, count_by-none test (reverse pages) is, count_by-reverse test pages))
+    by_choice (Some r) is = refl
 
 module _ (pages : List Resident) (once : (uid : ObjectName) (page : ℕ) → count_by (is_page uid page) pages ≤ 1) where
   -- the oldest page that passes a test is resident

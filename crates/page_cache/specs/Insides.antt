@@ -1,6 +1,6 @@
 -- The cache that a pool, an order of slots and an index stand for. It decides nothing that a caller sees: only the
 -- bodies and the model of `Cache` speak of it.
-use Rattle.std.specs.Prelude.{◌≡◌, ℕ, ◌+◌, ◌≤◌, Bool, ◌&&◌, ◌==◌, nat_le, List, length, map, count_by, is_some, if◌then◌else◌}
+use Rattle.std.specs.Prelude.{◌≡◌, ℕ, ◌+◌, ◌≤◌, Bool, not, ◌&&◌, ◌==◌, nat_le, List, length, map, count_by, is_some, if◌then◌else◌}
 use Rattle.std.specs.BTreeMap.Range.{range_contains}
 use Rattle.std.specs.declared.cmp.Ordering.{Ordering}
 use Rattle.std.specs.declared.ops.Bound.{Bound}
@@ -8,10 +8,12 @@ use Rattle.std.specs.declared.ops.Bound.TheVariants.{Included}
 use Rattle.std.specs.FinMap.{len}
 use Rattle.std.specs.Ordering.{nat_cmp, ordering_then}
 use Rattle.uid_names.specs.Names.{ObjectName, same_uid}
+use Rattle.page_frames.specs.declared.frame.Flags.{Flags}
 use Rattle.page_frames.specs.declared.frame.TheConstants.{FEWEST_FRAMES, MOST_FRAMES}
 use Rattle.page_frames.specs.Pools.{Pool, frame_at, frame_in}
 use Rattle.page_cache.specs.declared.slots.PageName.{PageName}
 use Rattle.page_cache.specs.Caches.{Resident, Cached}
+use Rattle.page_cache.specs.Victims.{is_clean_choice}
 
 -- a slot: the name of a resident page, and its frame
 abbrev pub Slot : Type 0
@@ -62,6 +64,14 @@ seen pool s =
 -- the cache of this pool, so many reservations and these slots
 abbrev pub cache_of : Pool → ℕ → List Slot → Cached
 cache_of pool reserved slots = record { frames = pool.count; reserved = reserved; pages = map (seen pool) slots }
+
+-- whether a page with these flags is clean and not in transit
+abbrev pub are_clean : Flags → Bool
+are_clean flags = not flags.dirty && not flags.transit
+
+-- how many of the slots' pages are clean and not in transit
+abbrev pub clean_count : Pool → List Slot → ℕ
+clean_count pool slots = count_by is_clean_choice (map (seen pool) slots)
 
 -- as many slots as a frame may have: one where it is taken
 abbrev pub slot_limit : Pool → ℕ → ℕ

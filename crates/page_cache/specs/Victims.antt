@@ -1,5 +1,5 @@
 -- The page whose frame is taken for another where no frame is free.
-use Rattle.std.specs.Prelude.{ℕ, Bool, true, false, not, ◌&&◌, List, reverse, Option}
+use Rattle.std.specs.Prelude.{ℕ, Bool, not, ◌&&◌, List, reverse, Option}
 use Rattle.std.specs.List.{find}
 use Rattle.std.specs.Option.{option_or}
 use Rattle.uid_names.specs.Names.{ObjectName}
@@ -12,11 +12,6 @@ is_clean_choice r = not r.flags.dirty && not r.flags.transit
 -- dirty, and not in transit
 abbrev pub is_dirty_choice : Resident → Bool
 is_dirty_choice r = r.flags.dirty && not r.flags.transit
-
--- dirty or clean, as asked for, and not in transit
-abbrev pub is_choice : Bool → Resident → Bool
-is_choice true = is_dirty_choice
-is_choice false = is_clean_choice
 
 -- the page used longest ago that passes the test
 abbrev pub oldest : (Resident → Bool) → List Resident → Option Resident

@@ -5,7 +5,8 @@ ghost use Rattle.std.specs.List.{find};
 ghost use Rattle.page_frames.specs.Pools.{frame_at, with_frame, no_flags, free_count as frames_free};
 ghost use Rattle.page_cache.specs.Caches.{Cached, IsCache, IsResident, IsFrame, is_of, page_at, page_in, free_count};
 ghost use Rattle.page_cache.specs.Changes.{without_page, without_object, used, installed, with_flags, with_bytes};
-ghost use Rattle.page_cache.specs.Victims.{victim_of, name_of, oldest, is_choice};
+ghost use Rattle.page_cache.specs.Victims.{victim_of, name_of, oldest, is_clean_choice, is_dirty_choice};
+ghost use Rattle.page_cache.specs.Insides.{are_clean};
 ghost use Rattle.page_cache.specs.Numbers.{dirty_page, resident_pages};
 
 use crate::slots::{Index, Order, PageName, enter, leave, names_of, numbers_of};
@@ -30,6 +31,13 @@ fn fill_reserved(pool: &mut Frames, reserved: &mut u16, bytes: &[u8; PAGE_BYTES]
     pool.take(bytes)
 }
 
+// Whether a page with these flags is clean and not in transit.
+fn is_clean(flags: Flags) -> bool
+    ensures { result ≡ are_clean flags }
+{
+    !flags.dirty && !flags.transit
+}
+
 /// The resident pages, each in a frame of its own, and the frames that are reserved for pages to come.
 #[derive(Drop)]
 pub struct Cache {
@@ -39,6 +47,8 @@ pub struct Cache {
     order: Order,
     // The same by their names, so that an object's pages stand together.
     index: Index,
+    // How many of the pages are clean and not in transit.
+    clean: u16,
 }
 
 impl Model for Cache {
@@ -46,11 +56,12 @@ impl Model for Cache {
 
     ghost Value = { Cached };
 
-    ghost use Rattle.page_cache.specs.Insides.{cache_of, IsSound};
+    ghost use Rattle.std.specs.Prelude.{◌≡◌};
+    ghost use Rattle.page_cache.specs.Insides.{cache_of, clean_count, IsSound};
 
     ghost view = { λ c. cache_of c.pool c.reserved c.order.entries };
 
-    ghost invariant = { λ c. IsSound c.pool c.reserved c.order.entries c.order.cap c.index.entries };
+    ghost invariant = { λ c. IsSound c.pool c.reserved c.order.entries c.order.cap c.index.entries × (c.clean ≡ clean_count c.pool c.order.entries) };
 }
 
 impl Cache {
@@ -70,6 +81,7 @@ impl Cache {
                 reserved: 0,
                 order,
                 index: Index::new(alloc),
+                clean: 0,
             }),
             Err(page_frames::NoMemory) => Err(NoMemory),
         }
@@ -147,7 +159,10 @@ impl Cache {
         let frame = fill_reserved(&mut self.pool, &mut self.reserved, bytes);
         let name = PageName { uid, page };
         match enter(&mut self.order, &mut self.index, name, frame) {
-            Ok(()) => Ok(()),
+            Ok(()) => {
+                self.clean += 1;
+                Ok(())
+            }
             Err(error) => {
                 self.pool.give_back(frame);
                 self.reserved += 1;
@@ -162,20 +177,44 @@ impl Cache {
         ensures victim { result ≡ option_map name_of (victim_of self.now.pages) }
         ensures resident { IfSome result (λ name. IsResident self.now.pages name.0 name.1) }
     {
-        match self.oldest_choice(false) {
-            Some(name) => Some(name),
-            None => self.oldest_choice(true),
+        if self.clean == 0 {
+            self.oldest_dirty()
+        } else {
+            self.oldest_clean()
         }
     }
 
-    // The page used longest ago of those that are dirty, or clean, and not in transit.
-    fn oldest_choice(&self, dirty: bool) -> Option<(Uid, u32)>
-        ensures choice { result ≡ option_map name_of (oldest (is_choice dirty) self.now.pages) }
+    // The clean page used longest ago that is not in transit. It is looked for from both ends of the order at once,
+    // so that no more pages are passed than twice those on the shorter way. Beside many changed pages the clean ones
+    // stand near the new end: from there, the one with which as many are seen as there are is the oldest.
+    fn oldest_clean(&self) -> Option<(Uid, u32)>
+        ensures choice { result ≡ option_map name_of (oldest is_clean_choice self.now.pages) }
+        ensures cache { IsCache self.now }
+    {
+        let mut unseen = self.clean;
+        let from_old = self.order.iter().rev();
+        for ((new, new_frame), (old, old_frame)) in self.order.iter().zip(from_old) {
+            if is_clean(self.pool.flags(*old_frame)) {
+                return Some((old.uid, old.page));
+            }
+            if is_clean(self.pool.flags(*new_frame)) {
+                unseen -= 1;
+                if unseen == 0 {
+                    return Some((new.uid, new.page));
+                }
+            }
+        }
+        None
+    }
+
+    // The dirty page used longest ago that is not in transit.
+    fn oldest_dirty(&self) -> Option<(Uid, u32)>
+        ensures choice { result ≡ option_map name_of (oldest is_dirty_choice self.now.pages) }
         ensures cache { IsCache self.now }
     {
         for (name, frame) in self.order.iter().rev() {
             let flags = self.pool.flags(*frame);
-            if flags.dirty == dirty && !flags.transit {
+            if flags.dirty && !flags.transit {
                 return Some((name.uid, name.page));
             }
         }
@@ -188,6 +227,7 @@ impl Cache {
     {
         let name = PageName { uid, page };
         if let Some(frame) = leave(&mut self.order, &mut self.index, name) {
+            self.clean -= u16::from(is_clean(self.pool.flags(frame)));
             self.pool.give_back(frame);
         }
     }
@@ -252,6 +292,9 @@ impl Cache {
         requires { IsFrame self.old.pages frame }
         ensures { self.new ≡ record self.old { pages = with_flags self.old.pages frame flags } }
     {
+        let before = self.pool.flags(frame);
+        self.clean += u16::from(is_clean(flags));
+        self.clean -= u16::from(is_clean(before));
         self.pool.set_flags(frame, flags);
     }
 

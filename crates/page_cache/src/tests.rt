@@ -5,6 +5,12 @@ use samples::object;
 use std::test::Fail;
 use uid_names::{PAGE_BYTES, Uid};
 
+const CLEAN: Flags = Flags {
+    dirty: false,
+    sent: false,
+    transit: false,
+};
+
 const DIRTY: Flags = Flags {
     dirty: true,
     sent: false,
@@ -75,6 +81,55 @@ fn clean_pages_go_before_dirty_ones_and_those_in_transit_stay(rt: HostRuntime) -
     for page in 1..5 {
         set_flags(&mut cache, uid, page, IN_TRANSIT)?;
     }
+    assert_eq!(rt; cache.victim(), None);
+    Ok(())
+}
+
+/// Installs pages that follow one another, and makes them dirty. So the lower page is the older one.
+fn install_dirty(cache: &mut Cache, uid: Uid, pages: u32) -> Result<(), Fail> {
+    for page in 0..pages {
+        install(cache, uid, page, 0)?;
+        set_flags(cache, uid, page, DIRTY)?;
+    }
+    Ok(())
+}
+
+#[test]
+fn the_older_of_two_clean_pages_goes_wherever_they_stand(rt: HostRuntime) -> Result<(), Fail> {
+    let uid = object(2, 1)?;
+    let mut cache = Cache::new(rt.alloc(), 9)?;
+    install_dirty(&mut cache, uid, 9)?;
+    for first in 0..9 {
+        for second in 0..9 {
+            set_flags(&mut cache, uid, first, CLEAN)?;
+            set_flags(&mut cache, uid, second, CLEAN)?;
+            assert_eq!(rt; cache.victim(), Some((uid, first.min(second))));
+            set_flags(&mut cache, uid, first, DIRTY)?;
+            set_flags(&mut cache, uid, second, DIRTY)?;
+        }
+    }
+    assert_eq!(rt; cache.victim(), Some((uid, 0)));
+    Ok(())
+}
+
+#[test]
+fn a_page_that_is_gone_is_no_victim(rt: HostRuntime) -> Result<(), Fail> {
+    let (first, second) = (object(2, 1)?, object(2, 2)?);
+    let mut cache = Cache::new(rt.alloc(), 12)?;
+    install_dirty(&mut cache, first, 8)?;
+    for page in 0..4 {
+        install(&mut cache, second, page, 0)?;
+    }
+    for gone in 0..3 {
+        cache.remove(second, gone);
+        cache.remove(first, gone);
+        assert_eq!(rt; cache.victim(), Some((second, gone + 1)));
+    }
+    cache.drop_object(second);
+    assert_eq!(rt; cache.victim(), Some((first, 3)));
+    set_flags(&mut cache, first, 5, CLEAN)?;
+    assert_eq!(rt; cache.victim(), Some((first, 5)));
+    cache.drop_object(first);
     assert_eq!(rt; cache.victim(), None);
     Ok(())
 }

@@ -19,13 +19,13 @@ loop-name-init c =
       taken = λ frame. rw part (omega (
         arith,
         count_by-filter-le (slot_in frame) (λ (s : Slot). is_between c.args.uid s.0) index,
-        c.self.invariant.indexed (slot_in frame),
-        c.self.invariant.frames frame,
+        c.self.invariant.0.indexed (slot_in frame),
+        c.self.invariant.0.frames frame,
       ));
       rising = rw part (IsFrom-part_of c.args.uid index c.range-name-items.ensures.ordered);
       left = rw part
           (least-same (numbers (is_dirty_of c.args.uid) (map (seen c.self.inside.pool) c.self.inside.order.entries))
-          (map page_of (filter (λ s. (frame_in c.self.inside.pool s.1).flags.dirty) (part_of c.args.uid index))) (λ k. sym (copies-dirty c.self.inside.pool index c.self.inside.order.entries c.self.invariant.indexed c.self.invariant.numbered c.args.uid k)));
+          (map page_of (filter (λ s. (frame_in c.self.inside.pool s.1).flags.dirty) (part_of c.args.uid index))) (λ k. sym (copies-dirty c.self.inside.pool index c.self.inside.order.entries c.self.invariant.0.indexed c.self.invariant.0.numbered c.args.uid k)));
     }
 
 pub loop-name-preserved : goal.loop-name-preserved

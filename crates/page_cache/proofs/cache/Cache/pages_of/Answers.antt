@@ -13,4 +13,4 @@ returns c =
     rw (← c.self.view_is)
     (c.from_vec.ensures ∙ c.in_ok-items.ensures.pages
     ∙ rising-same (numbers (is_of c.args.uid) (map (seen c.self.inside.pool) slots)) (map page_of (part_of c.args.uid index)) (IsFrom-part_of c.args.uid index c.in_ok-items.ensures.ordered)
-    (copies-part_of c.self.inside.pool index slots c.self.invariant.indexed c.self.invariant.numbered c.args.uid))
+    (copies-part_of c.self.inside.pool index slots c.self.invariant.0.indexed c.self.invariant.0.numbered c.args.uid))
