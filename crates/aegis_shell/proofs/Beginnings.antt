@@ -20,14 +20,11 @@ use Rattle.aegis_shell.specs.Plans.{Talks, Writes, makes, talks, is_long, is_pat
 use Rattle.aegis_shell.specs.Ranges.{IsRanged}
 use Rattle.aegis_shell.specs.States.{Goes, Comes, on_turn, talk_goes, may_be, on_talk, begins, begins_by}
 use Rattle.aegis_shell.specs.NameTalks.{name_asks, name_after, name_says}
-use Rattle.aegis_shell.specs.FileTurns.{Asks as FileAsks}
-use Rattle.aegis_shell.specs.Talks.{talk_asks, name_turn, as_turn, talk_turn, MayBeTold}
+use Rattle.aegis_shell.specs.Talks.{talk_asks, name_turn, talk_turn, MayBeTold}
 use Rattle.aegis_shell.specs.Turns.{going, AsksIn}
 use Rattle.aegis_shell.specs.Work.{Part}
 use Rattle.aegis_shell.specs.declared.outcome.Outcome.TheVariants.{Came, Replied, Written}
 use Rattle.aegis_shell.specs.declared.stage.Stage.TheVariants.{First, Talks as Talking}
-use Rattle.aegis_shell.specs.declared.file_talk.FileTurn.{FileTurn}
-use Rattle.aegis_shell.specs.declared.file_talk.FileTurn.TheVariants as files
 use Rattle.aegis_shell.specs.declared.name_talk.NameTalk.{NameTalk}
 use Rattle.aegis_shell.specs.declared.name_talk.NameTalk.TheVariants.{Walk, List as ListRows, Add, Drop}
 use Rattle.aegis_shell.specs.declared.stage.Turn.{Turn}
@@ -53,11 +50,6 @@ name_goes talk last op says = ap (λ step. name_turn step (name_after talk last)
 
 pub name_comes : (talk : NameTalk) (last : Option Reply) (result : NameResult) → Some (Over result) ≡ name_says talk last → Some (turns.Comes (Came result)) ≡ talk_turn (Name talk) last
 name_comes talk last result says = ap (λ step. name_turn step (name_after talk last)) says
-
--- so does one of a file
-pub file_asking : (turn : FileTurn) (list : Option (List Op)) → FileAsks turn → AsksIn list (as_turn turn)
-file_asking (files.Goes talk op) list asks = asks
-file_asking (files.Comes outcome) list asks = tt
 
 -- a turn leads where it goes, if what it asks is in its ranges
 pub turn_leads : (turn : Turn) (found : Option Turn) (list : Option (List Op)) → Some turn ≡ found → AsksIn list turn → going turn ≡ on_turn found

@@ -1,4 +1,4 @@
--- What the code knows of copies of files, and of walks to files.
+-- What the code knows of the targets of copies, and of walks to files.
 use Rattle.std.proofs.Common.{◌≡◌, Option, Some, None, refl, ap, ◌∙◌}
 use Rattle.dom_history.specs.declared.op.Op.{Op}
 use Rattle.dom_history.specs.declared.op.Reply.{Reply}
@@ -10,24 +10,11 @@ use Rattle.naming_tree.specs.declared.step.NameStep.TheVariants as names
 use Rattle.naming_tree.specs.ByPaths.{by_path_after, by_path_asks}
 use Rattle.naming_tree.specs.Turns.{stood_after, stood_says}
 use Rattle.naming_tree.specs.Walking.{walking_after, walking_asks}
-use Rattle.mapped_streams.specs.declared.step.StreamResult.{StreamResult}
-use Rattle.mapped_streams.specs.declared.step.StreamStep.TheVariants as streams
-use Rattle.mapped_streams.specs.declared.streaming.Streaming.{Streaming}
-use Rattle.mapped_streams.specs.Dialogues.{said_to}
-use Rattle.mapped_streams.specs.States.{rest}
-use Rattle.mapped_streams.specs.Turns.{stood_after as stream_after}
-use Rattle.aegis_shell.specs.FileTalks.{closes, copied, copy_turn, copy_told, add_turn, add_told, seek_turn, file_turn}
+use Rattle.aegis_shell.specs.FileTalks.{add_turn, add_told, seek_turn, file_turn}
 use Rattle.aegis_shell.specs.Sources.{Sourced}
 use Rattle.aegis_shell.specs.declared.errand.Errand.{Errand}
-use Rattle.aegis_shell.specs.declared.file_talk.FileTalk.TheVariants.{Seeks, Adds, Copies}
+use Rattle.aegis_shell.specs.declared.file_talk.FileTalk.TheVariants.{Seeks, Adds}
 use Rattle.aegis_shell.specs.declared.file_talk.FileTurn.TheVariants.{Goes}
-
--- the bytes of a source
-pub copy_goes : (s : Sourced) (m : Option Streaming) (last : Option Reply) (op : Op) → Some (streams.Do op) ≡ said_to (rest m) last → Some (Goes (Copies s (stream_after m last)) op) ≡ copy_told s m last
-copy_goes s m last op says = ap (λ step. copy_turn s step (stream_after m last)) says
-
-pub copy_comes : (s : Sourced) (m : Option Streaming) (last : Option Reply) (come : StreamResult) → Some (streams.Over come) ≡ said_to (rest m) last → Some (closes s (copied come)) ≡ copy_told s m last
-copy_comes s m last come says = ap (λ step. copy_turn s step (stream_after m last)) says
 
 -- the target of a copy
 module _ (s : Sourced) (m : Option ByPath) (last : Option Reply) where

@@ -36,7 +36,7 @@ use Rattle.mapped_streams.specs.Streams.{read_all, count_lines, append, copy}
 use Rattle.mapped_streams.specs.Works.{IsText}
 use Rattle.mapped_streams.proofs.Turning.{IsOn}
 use Rattle.aegis_shell.specs.Dialogues.{Dialogue, Ends, Asks, by_name, by_stream, streamed, closing}
-use Rattle.aegis_shell.specs.FileTalks.{file_asks, file_turn, stream_turn, stream_told, closes, copied, copy_turn, copy_told, add_turn, begin_add, lock_turn, length_turn, map_turn, open_turn, first_outcome, closed_turn, close_turn, errand_turn, found_turn, seek_turn, opening_op}
+use Rattle.aegis_shell.specs.FileTalks.{file_asks, file_turn, over_turn, stream_turn, stream_told, closes, copied, add_turn, begin_add, lock_turn, length_turn, map_turn, open_turn, first_outcome, closed_turn, close_turn, errand_turn, found_turn, seek_turn, opening_op}
 use Rattle.aegis_shell.specs.Files.{on_found, on_file, room_for, shutting, on_copied, on_added, copy_open, map_source, measure_source, copy_from}
 use Rattle.aegis_shell.specs.Sources.{Sourced, Targeted, source_of, mapped, unmapped, closers, close_op}
 use Rattle.aegis_shell.specs.declared.errand.Errand.{Errand}
@@ -132,44 +132,31 @@ close_asks s outcome = close_asks_if s.fresh s outcome
 closes_on : (s : Sourced) (outcome : Option Outcome) → TurnOn (Some (closes s outcome)) (close_left s outcome)
 closes_on s outcome = (close_asks s outcome, refl)
 
--- a stream whose result is the command's
-module _ (make : Option Streaming → FileTalk) (same : (m : Option Streaming) (d : Dialogue) → StreamSim streamed m d → FileSim (make m) d) where
-  stream_goes : (left : streams.Dialogue) (step : Option StreamStep) (m : Option Streaming) → step ≡ Some (streams.says left) → IsOn m left → TurnOn (stream_turn make step m) (by_stream left streamed)
-  stream_goes (streams.Ends result) step m e on = subst (λ (x : Option StreamStep). TurnOn (stream_turn make x m) (streamed result)) (sym e) refl
+-- a stream, by what its result leads to
+module _ (further : StreamResult → Dialogue) (make : Option Streaming → FileTalk) (same : (m : Option Streaming) (d : Dialogue) → StreamSim further m d → FileSim (make m) d)
+    (over : (m : Option Streaming) (result : StreamResult) → TurnOn (Some (over_turn (make m) result)) (further result)) where
+  stream_goes : (left : streams.Dialogue) (step : Option StreamStep) (m : Option Streaming) → step ≡ Some (streams.says left) → IsOn m left → TurnOn (stream_turn step (make m)) (by_stream left further)
+  stream_goes (streams.Ends result) step m e on = subst (λ (x : Option StreamStep). TurnOn (stream_turn x (make m)) (further result)) (sym e) (over m result)
   stream_goes (streams.Asks op next) step m e on =
-      let d = Asks op (λ reply. by_stream (next reply) streamed) in
-      subst (λ (x : Option StreamStep). TurnOn (stream_turn make x m) d) (sym e) (refl, same m d (record { op = op; next = next; on = on; is = refl }))
+      let d = Asks op (λ reply. by_stream (next reply) further) in
+      subst (λ (x : Option StreamStep). TurnOn (stream_turn x (make m)) d) (sym e) (refl, same m d (record { op = op; next = next; on = on; is = refl }))
 
-  stream_starts : (s : Streaming) → IsStreaming s → TurnOn (stream_told make (Some s) None) (by_stream (left s) streamed)
+  stream_starts : (s : Streaming) → IsStreaming s → TurnOn (stream_told make (Some s) None) (by_stream (left s) further)
   stream_starts s h = let begun = stream_begun s h in stream_goes (left s) _ _ begun.0 begun.1
 
-  stream_next : (m : Option Streaming) (d : Dialogue) (reply : Reply) → StreamSim streamed m d → FitsAsked (asked d) (Some reply) → TurnOn (stream_told make m (Some reply)) (told d reply)
+  stream_next : (m : Option Streaming) (d : Dialogue) (reply : Reply) → StreamSim further m d → FitsAsked (asked d) (Some reply) → TurnOn (stream_told make m (Some reply)) (told d reply)
   stream_next m d reply h fits =
       let fitting : Fits h.op reply = subst (λ (x : Dialogue). FitsAsked (asked x) (Some reply)) h.is fits in
       let next = stream_told_on m (streams.Asks h.op h.next) reply h.on fitting in
       subst (λ (x : Dialogue). TurnOn (stream_told make m (Some reply)) (told x reply)) (sym h.is) (stream_goes (h.next reply) _ _ next.0 next.1)
 
--- a copy of bytes, behind which the source is closed
+-- behind a copy of bytes the source is closed
 copied_on : (s : Sourced) (result : StreamResult) → TurnOn (Some (closes s (copied result))) (on_copied (closers s) result)
 copied_on s results.Fine = closes_on s None
 copied_on s result = closes_on s (Some (Streamed result))
 
-copy_goes : (s : Sourced) (left : streams.Dialogue) (step : Option StreamStep) (m : Option Streaming) → step ≡ Some (streams.says left) → IsOn m left → TurnOn (copy_turn s step m) (by_stream left (on_copied (closers s)))
-copy_goes s (streams.Ends result) step m e on = subst (λ (x : Option StreamStep). TurnOn (copy_turn s x m) (on_copied (closers s) result)) (sym e) (copied_on s result)
-copy_goes s (streams.Asks op next) step m e on =
-    let d = Asks op (λ reply. by_stream (next reply) (on_copied (closers s))) in
-    subst (λ (x : Option StreamStep). TurnOn (copy_turn s x m) d) (sym e) (refl, record { op = op; next = next; on = on; is = refl })
-
-copy_starts : (s : Sourced) (v : ObjectName) → IsMapped s.at → TurnOn (copy_told s (Some (streaming_of v (works.Copy s.at 0 None))) None) (by_stream (copy s.at v) (on_copied (closers s)))
-copy_starts s v m =
-    let begun = stream_begun (streaming_of v (works.Copy s.at 0 None)) (record { work = (m, tt); stage = tt }) in
-    copy_goes s (copy s.at v) _ _ begun.0 begun.1
-
-copy_next : (s : Sourced) (m : Option Streaming) (d : Dialogue) (reply : Reply) → StreamSim (on_copied (closers s)) m d → FitsAsked (asked d) (Some reply) → TurnOn (copy_told s m (Some reply)) (told d reply)
-copy_next s m d reply h fits =
-    let fitting : Fits h.op reply = subst (λ (x : Dialogue). FitsAsked (asked x) (Some reply)) h.is fits in
-    let next = stream_told_on m (streams.Asks h.op h.next) reply h.on fitting in
-    subst (λ (x : Dialogue). TurnOn (copy_told s m (Some reply)) (told x reply)) (sym h.is) (copy_goes s (h.next reply) _ _ next.0 next.1)
+copy_starts : (s : Sourced) (v : ObjectName) → IsMapped s.at → TurnOn (stream_told (λ m. Copies s m) (Some (streaming_of v (works.Copy s.at 0 None))) None) (by_stream (copy s.at v) (on_copied (closers s)))
+copy_starts s v m = stream_starts (on_copied (closers s)) (λ m. Copies s m) (λ m d same. same) (λ m result. copied_on s result) (streaming_of v (works.Copy s.at 0 None)) (record { work = (m, tt); stage = tt })
 
 -- the target of a copy
 added_on : (s : Sourced) (m : Option ByPath) (result : NameResult) → IsMapped s.at → TurnOn (add_turn s (Some (names.says (names.Ends result))) m) (on_added (closers s) s.at result)
@@ -240,9 +227,9 @@ close_next s outcome d reply is = subst (λ (x : Dialogue). TurnOn (close_turn s
 
 -- an errand at its file
 errand_on : (errand : Errand) (u : ObjectName) → IsErrand errand → TurnOn (errand_turn errand u) (at_file errand u)
-errand_on errands.Read u h = stream_starts (λ m. Reads m) (λ m d same. same) (streaming_of u (works.Read 0 (All []))) (record { work = tt; stage = tt })
-errand_on errands.Count u h = stream_starts (λ m. Counts m) (λ m d same. same) (streaming_of u (works.Read 0 (Lines 0))) (record { work = omega arith; stage = tt })
-errand_on (errands.Append text) u h = stream_starts (λ m. Appends m) (λ m d same. same) (streaming_of u (works.Append text (Some Before))) (record { work = h; stage = tt })
+errand_on errands.Read u h = stream_starts streamed (λ m. Reads m) (λ m d same. same) (λ m result. refl) (streaming_of u (works.Read 0 (All []))) (record { work = tt; stage = tt })
+errand_on errands.Count u h = stream_starts streamed (λ m. Counts m) (λ m d same. same) (λ m result. refl) (streaming_of u (works.Read 0 (Lines 0))) (record { work = omega arith; stage = tt })
+errand_on (errands.Append text) u h = stream_starts streamed (λ m. Appends m) (λ m d same. same) (λ m result. refl) (streaming_of u (works.Append text (Some Before))) (record { work = h; stage = tt })
 errand_on (errands.Copy target) u h = (refl, record { path = h; long = lit≤ tt; is = refl })
 
 found_on : (errand : Errand) (at : Walked) → IsErrand errand → TurnOn (found_turn errand at) (on_found (at_file errand) at)
@@ -272,12 +259,12 @@ seek_next walk errand d reply h fits =
 -- a machine that is told what fits goes on as its dialogue does
 pub file_next : (talk : FileTalk) (d : Dialogue) (reply : Reply) → FileSim talk d → FitsAsked (asked d) (Some reply) → TurnOn (file_turn talk (Some reply)) (told d reply)
 file_next (Seeks walk errand) d reply h fits = seek_next walk errand d reply h fits
-file_next (Reads m) d reply h fits = stream_next (λ m. Reads m) (λ m d same. same) m d reply h fits
-file_next (Counts m) d reply h fits = stream_next (λ m. Counts m) (λ m d same. same) m d reply h fits
-file_next (Appends m) d reply h fits = stream_next (λ m. Appends m) (λ m d same. same) m d reply h fits
+file_next (Reads m) d reply h fits = stream_next streamed (λ m. Reads m) (λ m d same. same) (λ m result. refl) m d reply h fits
+file_next (Counts m) d reply h fits = stream_next streamed (λ m. Counts m) (λ m d same. same) (λ m result. refl) m d reply h fits
+file_next (Appends m) d reply h fits = stream_next streamed (λ m. Appends m) (λ m d same. same) (λ m result. refl) m d reply h fits
 file_next (Opens s stage target) d reply h fits = open_next s stage target d reply h fits
 file_next (Adds s m) d reply h fits = add_next s m d reply h fits
-file_next (Copies s m) d reply h fits = copy_next s m d reply h fits
+file_next (Copies s m) d reply h fits = stream_next (on_copied (closers s)) (λ m. Copies s m) (λ m d same. same) (λ m result. copied_on s result) m d reply h fits
 file_next (Closes s outcome) d reply h fits = close_next s outcome d reply h
 
 -- and asks what that asks

@@ -89,37 +89,33 @@ MayHearFile (Adds s m) last = IsSome m × FitsStood by_path_asks m last
 MayHearFile (Copies s m) last = MayHear (rest m) last
 MayHearFile (Closes s outcome) last = FitsOp (close_op s) last
 
--- a stream goes on, or comes to the command's result
-abbrev pub stream_turn : (Option Streaming → FileTalk) → Option StreamStep → Option Streaming → Option FileTurn
-stream_turn make None m = None
-stream_turn make (Some (streams.Do op)) m = Some (Goes (make m) op)
-stream_turn make (Some (streams.Over result)) m = Some (Comes (Streamed result))
-
-abbrev pub stream_told : (Option Streaming → FileTalk) → Option Streaming → Option Reply → Option FileTurn
-stream_told make m last = stream_turn make (said_to (rest m) last) (stream_after m last)
-
 -- the source is closed; behind a refusal that is the outcome
 abbrev pub closes : Sourced → Option Outcome → FileTurn
 closes s outcome = Goes (Closes s outcome) (close_op s)
 
--- a copy of bytes goes on, or the source is closed behind it
+-- a stream has come to this, which is the command's result; behind a copy of bytes the source is closed first
 abbrev pub copied : StreamResult → Option Outcome
 copied results.Fine = None
 copied result = Some (Streamed result)
 
-abbrev pub copy_turn : Sourced → Option StreamStep → Option Streaming → Option FileTurn
-copy_turn s None m = None
-copy_turn s (Some (streams.Do op)) m = Some (Goes (Copies s m) op)
-copy_turn s (Some (streams.Over result)) m = Some (closes s (copied result))
+abbrev pub over_turn : FileTalk → StreamResult → FileTurn
+over_turn (Copies s m) result = closes s (copied result)
+over_turn talk result = Comes (Streamed result)
 
-abbrev pub copy_told : Sourced → Option Streaming → Option Reply → Option FileTurn
-copy_told s m last = copy_turn s (said_to (rest m) last) (stream_after m last)
+-- a machine whose stream says this goes on, or has come to its end
+abbrev pub stream_turn : Option StreamStep → FileTalk → Option FileTurn
+stream_turn None talk = None
+stream_turn (Some (streams.Do op)) talk = Some (Goes talk op)
+stream_turn (Some (streams.Over result)) talk = Some (over_turn talk result)
+
+abbrev pub stream_told : (Option Streaming → FileTalk) → Option Streaming → Option Reply → Option FileTurn
+stream_told make m last = stream_turn (said_to (rest m) last) (make (stream_after m last))
 
 -- the target is added, and then takes the bytes
 abbrev pub add_turn : Sourced → Option NameStep → Option ByPath → Option FileTurn
 add_turn s None m = None
 add_turn s (Some (names.Do op)) m = Some (Goes (Adds s m) op)
-add_turn s (Some (names.Over (Added v))) m = copy_told s (Some (streaming_of v (works.Copy s.at 0 None))) None
+add_turn s (Some (names.Over (Added v))) m = stream_told (λ m. Copies s m) (Some (streaming_of v (works.Copy s.at 0 None))) None
 add_turn s (Some (names.Over result)) m = Some (closes s (Some (Came result)))
 
 abbrev pub add_told : Sourced → Option ByPath → Option Reply → Option FileTurn
@@ -193,5 +189,5 @@ file_turn (Counts m) last = stream_told (λ m. Counts m) m last
 file_turn (Appends m) last = stream_told (λ m. Appends m) m last
 file_turn (Opens s stage target) last = open_turn s stage target last
 file_turn (Adds s m) last = add_told s m last
-file_turn (Copies s m) last = copy_told s m last
+file_turn (Copies s m) last = stream_told (λ m. Copies s m) m last
 file_turn (Closes s outcome) last = close_turn s outcome last

@@ -6,79 +6,37 @@ ghost use Rattle.naming_tree.specs.ByPaths.{by_path_asks};
 ghost use Rattle.naming_tree.specs.Turns.{FitsStood};
 ghost use Rattle.naming_tree.specs.declared.step.NameResult.TheVariants.{Store};
 ghost use Rattle.naming_tree.specs.declared.step.NameStep.TheVariants.{Over};
-ghost use Rattle.mapped_streams.specs.Dialogues.{MayHear};
-ghost use Rattle.mapped_streams.specs.States.{rest, streaming_of};
+ghost use Rattle.mapped_streams.specs.States.{streaming_of};
 ghost use Rattle.mapped_streams.specs.declared.work.Work.TheVariants.{Copy as CopyWork};
 ghost use Rattle.uid_names.specs.declared.mode.Mode.TheVariants.{Read as ReadMode};
 ghost use Rattle.dom_history.specs.declared.op.Op.TheVariants.{Lock as LockOp};
-ghost use Rattle.aegis_shell.specs.FileTalks.{closes, copied as copied_so, copy_told, add_told, add_turn, begin_add, lock_turn, length_turn, map_turn, open_turn, opening_op, first_outcome as outcome_first, close_turn, FitsOp};
+ghost use Rattle.aegis_shell.specs.FileTalks.{closes, stream_told, add_told, add_turn, begin_add, lock_turn, length_turn, map_turn, open_turn, opening_op, FitsOp};
 ghost use Rattle.aegis_shell.specs.FileTurns.{Asks};
-ghost use Rattle.aegis_shell.specs.Sources.{source_of, close_op};
-ghost use Rattle.aegis_shell.specs.declared.file_talk.FileTalk.TheVariants.{Opens};
+ghost use Rattle.aegis_shell.specs.Sources.{source_of};
+ghost use Rattle.aegis_shell.specs.declared.file_talk.FileTalk.TheVariants.{Copies, Opens};
 ghost use Rattle.aegis_shell.specs.declared.file_talk.FileTurn.TheVariants.{Goes};
 ghost use Rattle.aegis_shell.specs.declared.file_talk.Opening.TheVariants.{Lock as LockStage};
 ghost use Rattle.aegis_shell.specs.declared.outcome.Outcome.TheVariants.{Came};
 
+use crate::closing::{close, refused};
 use crate::errand::Target;
 use crate::file_talk::{FileTalk, FileTurn, Opening};
 use crate::outcome::Outcome;
 use crate::source::Source;
+use crate::streaming::turned;
 use dom_history::{Op, Reply};
-use mapped_streams::{Copy as CopyStream, StreamResult, StreamStep};
 use naming_tree::{AddName, NameResult, NameStep};
 use std::alloc::Global;
 use uid_names::{Mode, NoMemory, Uid};
 
-/// The source is closed; this is what the command has come to, unless all was done.
-fn close(source: Source, outcome: Option<Outcome>) -> FileTurn
-    ensures turn { result ≡ closes source outcome }
-    ensures asks { Asks result }
-{
-    let op = source.close_op();
-    FileTurn::Goes(FileTalk::Closes(source, outcome), op)
-}
-
-/// A refusal as what a command comes to.
-fn refused(alloc: Global, reply: &Reply) -> Result<Outcome, NoMemory>
-    ensures { IfOk result (λ outcome. outcome ≡ Came (Store reply.now)) }
-{
-    Ok(Outcome::Came(NameResult::Store(reply.copy(alloc)?)))
-}
-
-/// What a copy of bytes has come to; None where all was done.
-fn copied(come: StreamResult) -> Option<Outcome>
-    ensures { result ≡ copied_so come }
-{
-    match come {
-        StreamResult::Fine => None,
-        come => Some(Outcome::Streamed(come)),
-    }
-}
-
-/// The bytes of a source that are put into its target.
-pub fn copy(
-    alloc: Global,
-    source: Source,
-    mut machine: CopyStream,
-    last: Option<&Reply>,
-) -> Result<FileTurn, NoMemory>
-    requires { MayHear (rest machine) (option_copied last) }
-    ensures turn { IfOk result (λ turn. Some turn ≡ copy_told source machine (option_copied last.entry)) }
-    ensures asks { IfOk result Asks }
-{
-    match machine.next(alloc, last)? {
-        StreamStep::Do(op) => Ok(FileTurn::Goes(FileTalk::Copies(source, machine), op)),
-        StreamStep::Over(come) => Ok(close(source, copied(come))),
-    }
-}
-
 /// The target of a copy is there: it takes the bytes.
 fn begin_copy(alloc: Global, source: Source, to: Uid) -> Result<FileTurn, NoMemory>
-    ensures turn { IfOk result (λ turn. Some turn ≡ copy_told source (Some (streaming_of to (CopyWork source.at 0 None))) None) }
+    ensures turn { IfOk result (λ turn. Some turn ≡ stream_told (λ m. Copies source m) (Some (streaming_of to (CopyWork source.at 0 None))) None) }
     ensures asks { IfOk result Asks }
 {
-    let machine = source.copy_to(to);
-    copy(alloc, source, machine, None)
+    let mut machine = source.copy_to(to);
+    let step = machine.next(alloc, None)?;
+    Ok(turned(FileTalk::Copies(source, machine), step))
 }
 
 /// The addition of the target of a copy has come to this.
@@ -217,43 +175,4 @@ pub fn begin_open(source: Source, target: Target) -> FileTurn
         FileTalk::Opens(source, Opening::Lock, target),
         Op::Lock { uid, mode },
     )
-}
-
-/// What the command has come to behind the reply to a closing: the first refusal counts.
-fn first_outcome(
-    alloc: Global,
-    outcome: Option<Outcome>,
-    reply: &Reply,
-) -> Result<Option<Outcome>, NoMemory>
-    ensures { IfOk result (λ first. first ≡ outcome_first outcome reply.now) }
-{
-    match outcome {
-        Some(outcome) => Ok(Some(outcome)),
-        None => match reply {
-            Reply::Fine => Ok(None),
-            _ => Ok(Some(refused(alloc, reply)?)),
-        },
-    }
-}
-
-/// The source, as it is closed.
-pub fn closed(
-    alloc: Global,
-    source: Source,
-    outcome: Option<Outcome>,
-    last: Option<&Reply>,
-) -> Result<FileTurn, NoMemory>
-    requires { FitsOp (close_op source) (option_copied last) }
-    ensures turn { IfOk result (λ turn. Some turn ≡ close_turn source outcome (option_copied last.entry)) }
-    ensures asks { IfOk result Asks }
-{
-    let Some(reply) = last else { unreachable!() };
-    let outcome = first_outcome(alloc, outcome, reply)?;
-    if source.is_fresh() {
-        return Ok(close(source.unmapped(), outcome));
-    }
-    match outcome {
-        Some(outcome) => Ok(FileTurn::Comes(outcome)),
-        None => Ok(FileTurn::Comes(Outcome::Streamed(StreamResult::Fine))),
-    }
 }

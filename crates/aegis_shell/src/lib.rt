@@ -4,6 +4,7 @@
 mod answer;
 mod begin;
 mod bindings;
+mod closing;
 mod copying;
 mod errand;
 mod file_talk;

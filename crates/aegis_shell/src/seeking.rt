@@ -6,15 +6,16 @@ ghost use Rattle.naming_tree.specs.Turns.{FitsStood};
 ghost use Rattle.naming_tree.specs.Walking.{walking_asks};
 ghost use Rattle.naming_tree.specs.declared.step.NameStep.TheVariants.{Over};
 ghost use Rattle.aegis_shell.specs.FileTalks.{errand_turn, found_turn, seek_turn, file_turn, MayHearFile};
-ghost use Rattle.aegis_shell.specs.FileTurns.{Asks};
+ghost use Rattle.aegis_shell.specs.FileTurns.{file_says, Asks};
 ghost use Rattle.aegis_shell.specs.declared.file_talk.FileTalk.TheVariants.{Seeks};
 
-use crate::copying::{add, begin_open, closed, copy, open};
+use crate::closing::closed;
+use crate::copying::{add, begin_open, open};
 use crate::errand::Errand;
 use crate::file_talk::{FileTalk, FileTurn};
 use crate::outcome::Outcome;
 use crate::source::Source;
-use crate::streaming::{append, count, read};
+use crate::streaming::turned;
 use dom_history::Reply;
 use mapped_streams::{Append, CountLines, ReadAll};
 use naming_tree::{NameResult, NameStep, Walk, Walked};
@@ -27,9 +28,21 @@ fn begin_errand(alloc: Global, errand: Errand, uid: Uid) -> Result<FileTurn, NoM
     ensures asks { IfOk result Asks }
 {
     match errand {
-        Errand::Read => read(alloc, ReadAll::new(alloc, uid), None),
-        Errand::Count => count(alloc, CountLines::new(uid), None),
-        Errand::Append(text) => append(alloc, Append::new(alloc, uid, text.bytes())?, None),
+        Errand::Read => {
+            let mut machine = ReadAll::new(alloc, uid);
+            let step = machine.next(alloc, None)?;
+            Ok(turned(FileTalk::Reads(machine), step))
+        }
+        Errand::Count => {
+            let mut machine = CountLines::new(uid);
+            let step = machine.next(alloc, None)?;
+            Ok(turned(FileTalk::Counts(machine), step))
+        }
+        Errand::Append(text) => {
+            let mut machine = Append::new(alloc, uid, text.bytes())?;
+            let step = machine.next(alloc, None)?;
+            Ok(turned(FileTalk::Appends(machine), step))
+        }
         Errand::Copy(target) => Ok(begin_open(Source::new(uid), target)),
     }
 }
@@ -87,22 +100,23 @@ fn seek(
 }
 
 impl FileTalk {
-    /// Tells it the reply to its operation; nothing at the first call.
-    #[tactic(none)]
+    /// Tells it the reply to its operation, where it is at no stream.
+    #[tactic(auto, using(crate::proofs::Streams::stream_said))]
     pub fn turn(self, alloc: Global, last: Option<&Reply>) -> Result<FileTurn, NoMemory>
-        requires { MayHearFile self (option_copied last) }
+        requires fits { MayHearFile self (option_copied last) }
+        requires apart { file_says self (option_copied last) ≡ None }
         ensures turn { IfOk result (λ turn. Some turn ≡ file_turn self (option_copied last.entry)) }
         ensures asks { IfOk result Asks }
     {
         match self {
             FileTalk::Seeks(walk, errand) => seek(alloc, walk, errand, last),
-            FileTalk::Reads(machine) => read(alloc, machine, last),
-            FileTalk::Counts(machine) => count(alloc, machine, last),
-            FileTalk::Appends(machine) => append(alloc, machine, last),
             FileTalk::Opens(source, stage, target) => open(alloc, source, stage, target, last),
             FileTalk::Adds(source, machine) => add(alloc, source, machine, last),
-            FileTalk::Copies(source, machine) => copy(alloc, source, machine, last),
             FileTalk::Closes(source, outcome) => closed(alloc, source, outcome, last),
+            FileTalk::Reads(_)
+            | FileTalk::Counts(_)
+            | FileTalk::Appends(_)
+            | FileTalk::Copies(..) => unreachable!(),
         }
     }
 }

@@ -57,6 +57,18 @@ impl Source {
         self.uid
     }
 
+    /// The same source once more.
+    pub fn again(&self) -> Source
+        ensures { result ≡ self.now }
+    {
+        Source {
+            uid: self.uid,
+            address: self.address,
+            length: self.length,
+            fresh: self.fresh,
+        }
+    }
+
     /// Its length is known.
     pub fn measured(self, length: u32) -> Source
         requires { IsLength length }

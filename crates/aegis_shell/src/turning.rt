@@ -1,10 +1,12 @@
 //! How the machines of commands go on.
-ghost use Rattle.std.specs.Prelude.{◌≡◌, Some, Option, List, IfOk};
+ghost use Rattle.std.specs.Prelude.{◌≡◌, Some, None, Option, List, IfOk, IfSome, IsSome, option_map};
 ghost use Rattle.std.specs.Option.{option_copied};
 ghost use Rattle.dom_history.specs.declared.op.Op.{Op};
+ghost use Rattle.aegis_shell.specs.FileTalks.{over_turn};
+ghost use Rattle.aegis_shell.specs.FileTurns.{file_says, Asks as FileAsks};
 ghost use Rattle.aegis_shell.specs.NameTalks.{MayHearName};
 ghost use Rattle.aegis_shell.specs.States.{talk_goes};
-ghost use Rattle.aegis_shell.specs.Talks.{turn_by, talk_turn, MayBeTold};
+ghost use Rattle.aegis_shell.specs.Talks.{turn_by, as_turn, of_file, talk_turn, MayBeTold};
 ghost use Rattle.aegis_shell.specs.Turns.{going, AsksIn};
 ghost use Rattle.aegis_shell.specs.declared.talk.Talk.TheVariants.{Name, File};
 
@@ -14,6 +16,7 @@ use crate::outcome::Outcome;
 use crate::stage::{Stage, Turn};
 use crate::talk::{Machine, Step, Talk};
 use dom_history::Reply;
+use mapped_streams::{StreamResult, StreamStep};
 use naming_tree::NameStep;
 use std::alloc::Global;
 use uid_names::NoMemory;
@@ -30,7 +33,54 @@ fn name_step(alloc: Global, talk: &mut NameTalk, last: Option<&Reply>) -> Result
     }
 }
 
-/// A machine of a file that is told this.
+/// A machine of a file stands where its turn leads.
+fn stand(talk: &mut Option<FileTalk>, turn: FileTurn) -> Step
+    requires { FileAsks turn }
+    ensures turn { turn_by result (File talk.new) ≡ as_turn turn }
+    ensures asks { (list : Option (List Op)) → AsksIn list (turn_by result (File talk.new)) }
+{
+    match turn {
+        FileTurn::Goes(machine, op) => {
+            *talk = Some(machine);
+            Step::Do(op)
+        }
+        FileTurn::Comes(outcome) => Step::Over(outcome),
+    }
+}
+
+/// The stream of a machine of a file has come to this.
+#[inline(never)]
+fn end_stream(talk: &mut Option<FileTalk>, come: StreamResult) -> Step
+    requires { IsSome talk.old }
+    ensures turn { Some (turn_by result (File talk.new)) ≡ of_file (option_map (λ m. over_turn m come) talk.old) }
+    ensures asks { (list : Option (List Op)) → AsksIn list (turn_by result (File talk.new)) }
+{
+    let Some(machine) = talk else { unreachable!() };
+    let turn = machine.over(come);
+    stand(talk, turn)
+}
+
+/// A machine of a file that is told this at no stream.
+#[inline(never)]
+fn move_on(
+    alloc: Global,
+    talk: &mut Option<FileTalk>,
+    last: Option<&Reply>,
+) -> Result<Step, NoMemory>
+    requires fits { MayBeTold (File talk.old) (option_copied last) }
+    requires apart { IfSome talk.old (λ m. file_says m (option_copied last) ≡ None) }
+    ensures turn { IfOk result (λ step. Some (turn_by step (File talk.new)) ≡ talk_turn (File talk.old) (option_copied last.entry)) }
+    ensures asks { IfOk result (λ step. (list : Option (List Op)) → AsksIn list (turn_by step (File talk.new))) }
+{
+    let Some(machine) = talk.take() else {
+        unreachable!()
+    };
+    let turn = machine.turn(alloc, last)?;
+    Ok(stand(talk, turn))
+}
+
+/// A machine of a file that is told this. It is large, and a long file takes many operations: so a stream goes on where it
+/// stands, and only what ends one, or is at none, is moved.
 fn file_step(
     alloc: Global,
     talk: &mut Option<FileTalk>,
@@ -40,15 +90,11 @@ fn file_step(
     ensures turn { IfOk result (λ step. Some (turn_by step (File talk.new)) ≡ talk_turn (File talk.old) (option_copied last.entry)) }
     ensures asks { IfOk result (λ step. (list : Option (List Op)) → AsksIn list (turn_by step (File talk.new))) }
 {
-    let Some(machine) = talk.take() else {
-        unreachable!()
-    };
-    match machine.turn(alloc, last)? {
-        FileTurn::Goes(machine, op) => {
-            *talk = Some(machine);
-            Ok(Step::Do(op))
-        }
-        FileTurn::Comes(outcome) => Ok(Step::Over(outcome)),
+    let Some(machine) = talk else { unreachable!() };
+    match machine.stream(alloc, last)? {
+        Some(StreamStep::Do(op)) => Ok(Step::Do(op)),
+        Some(StreamStep::Over(come)) => Ok(end_stream(talk, come)),
+        None => move_on(alloc, talk, last),
     }
 }
 
