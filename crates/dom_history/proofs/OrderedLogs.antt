@@ -57,6 +57,16 @@ length-came_by came (i ∷ order) = length-came_by (one_more came i) order ∙ l
 pub length-came : (logs : List NodeLog) (order : List ℕ) → length (came_by (none_came logs) order) ≡ length logs
 length-came logs order = length-came_by (none_came logs) order ∙ length-replicate (length logs) 0
 
+length-first_before : (o : Option Happening) (xs : List Happening) → IsSome o → length (first_before o xs) ≡ suc (length xs)
+length-first_before None xs some = absurd (cc)
+length-first_before (Some e) xs some = refl
+
+-- an order brings as many events as it has places
+pub length-in_order : (logs : List NodeLog) (came order : List ℕ) → IsOrder logs came order → length (in_order logs came order) ≡ length order
+length-in_order logs came [] is = refl
+length-in_order logs came (i ∷ order) is =
+    length-first_before (next_at logs came i) (in_order logs (one_more came i) order) is.0 ∙ ap suc (length-in_order logs (one_more came i) order is.1)
+
 pub came_by-more : (came order : List ℕ) (i : ℕ) → came_by came (order ++ i ∷ []) ≡ one_more (came_by came order) i
 came_by-more came [] i = refl
 came_by-more came (k ∷ order) i = came_by-more (one_more came k) order i

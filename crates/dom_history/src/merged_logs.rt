@@ -1,5 +1,5 @@
 //! The events of several logs in one order. They stay in their logs.
-ghost use Rattle.std.specs.Prelude.{◌≡◌, ◌+◌, ◌<◌, ◌++◌, ◌∷◌, [], IfOk, IfSome, IsSome, MatchOption, OnOk, length, slice_get};
+ghost use Rattle.std.specs.Prelude.{◌≡◌, ◌+◌, ◌<◌, ◌++◌, ◌∷◌, [], IfOk, IfSome, IsSome, MatchOption, OnErr, OnOk, length, slice_get};
 ghost use Rattle.std.specs.Option.{option_copied};
 ghost use Rattle.dom_history.specs.MergedLogs.{next_at, none_came, one_more};
 
@@ -95,16 +95,24 @@ impl MergedLogs {
         next_event(&self.logs, &self.came, i)
     }
 
-    /// The next event of the log at `i` comes.
+    /// The next event of the log at `i` comes; without memory nothing changes.
     pub fn pass(&mut self, i: usize) -> Result<(), NoMemory>
         requires { IsSome (next_at self.old.logs self.old.came i) }
         ensures logs { self.new.logs ≡ self.old.logs }
         ensures came { OnOk result (self.new.came ≡ one_more self.old.came i) }
         ensures events { OnOk result (IfSome (next_at self.old.logs self.old.came i) (λ e. self.new.events ≡ self.old.events ++ e ∷ [])) }
+        ensures err { OnErr result (self.new ≡ self.old) }
     {
         self.order.push(i)?;
         count(&self.logs[i], &mut self.came[i]);
         Ok(())
+    }
+
+    /// How many events came. Takes no memory.
+    pub fn len(&self) -> usize
+        ensures { result ≡ length self.now.events }
+    {
+        self.order.len()
     }
 
     /// Reads the events that came, from the first on.
@@ -123,7 +131,7 @@ impl MergedLogs {
     pub fn to_list(&self, alloc: Global) -> Result<EventList, NoMemory>
         ensures { IfOk result (λ list. list ≡ self.now.events) }
     {
-        let mut list = Vec::with_capacity(alloc, self.order.len())?;
+        let mut list = Vec::with_capacity(alloc, self.len())?;
         let mut reader = self.reader(alloc)?;
         while let Some(event) = reader.next() {
             list.push(event.copy(alloc)?)?;

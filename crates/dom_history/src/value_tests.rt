@@ -139,6 +139,7 @@ fn logs_are_read_in_the_order_in_which_their_events_came(rt: HostRuntime) -> Res
     assert!(rt; !come(&mut merged, 0)?);
     assert!(rt; !come(&mut merged, 1)?);
     assert!(rt; !come(&mut merged, 2)?);
+    assert_eq!(rt; merged.len(), 4);
     let list = merged.to_list(alloc)?;
     let mut reader = merged.reader(alloc)?;
     for tick in 1..5 {

@@ -10,9 +10,8 @@ use anyhow::Result;
 use dom_history::{Op, Spot, What};
 use node_core::{Incoming, Node, NodeSetup};
 use page_store::BlockPages;
-use ring_messages::Frame;
 use std::alloc::Global;
-use uid_names::{ByteList, Mode, NodeId, ObjKind, Opening, Uid};
+use uid_names::{ByteList, Mode, NoMemory, NodeId, ObjKind, Opening, Uid};
 
 /// What the process does in turn, once it has locked the object.
 #[derive(Clone, Copy)]
@@ -37,13 +36,14 @@ fn program(alloc: Global, deeds: Deeds, uid: Uid) -> Result<Repeat>
     })
 }
 
-/// A node, and the frame that waits there, with its index.
+/// A node, what its next event receives, and as which one on its link the frame was sent that is received.
 #[derive(Drop)]
 struct Side {
     alloc: Global,
     number: NodeId,
     node: Node<Repeat, BlockPages>,
-    waiting: Option<(u64, Frame)>,
+    incoming: Incoming,
+    index: u64,
 }
 
 impl Side {
@@ -64,22 +64,29 @@ impl Side {
             alloc,
             number,
             node,
-            waiting: None,
+            incoming: Incoming::Nothing,
+            index: 0,
         })
     }
 
     /// The frame is taken that waits, or the process begins what it wants; 1 where that was enabled.
-    fn happen(&mut self) -> Result<u32> {
+    fn happen(&mut self) -> Result<u32, NoMemory> {
         const LATEST: u64 = 1 << 40;
-        let (what, incoming) = match self.waiting.take() {
-            Some((index, frame)) => (What::Take(self.number, index), Incoming::Frame(frame)),
-            None => (What::Begin(1), Incoming::Nothing),
+        let (node, incoming) = (&mut self.node, &self.incoming);
+        let what = match incoming {
+            Incoming::Frame(_) => What::Take(self.number, self.index),
+            _ => What::Begin(1),
         };
-        let node = &mut self.node;
-        if !node.enabled(&what, &incoming) || node.tick() >= LATEST || incoming.tick() >= LATEST {
+        if !node.enabled(&what, incoming) || node.tick() >= LATEST || incoming.tick() >= LATEST {
             return Ok(0);
         }
-        self.waiting = node.step(self.alloc, what, &incoming)?.frame;
+        match node.step(self.alloc, what, incoming)?.frame {
+            Some((index, frame)) => {
+                self.index = index;
+                self.incoming = Incoming::Frame(frame);
+            }
+            None => self.incoming = Incoming::Nothing,
+        }
         Ok(1)
     }
 }

@@ -115,15 +115,6 @@ fn names_of(alloc: Global, rows: &[NodeRow]) -> Result<NodeNames, NoMemory>
     NodeNames::from_list(alloc, names.as_slice())
 }
 
-/// How many events there are.
-fn count(events: &MergedLogs) -> u64 {
-    let mut count = 0_u64;
-    for log in events.logs() {
-        count = count.saturating_add(log.events.items().len() as u64);
-    }
-    count
-}
-
 /// How long it takes to write the journal into a sink that counts its bytes.
 fn write(rt: &HostRuntime, script: &Script, events: &MergedLogs) -> Result<u64> {
     let names = names_of(rt.alloc(), script.nodes())?;
@@ -150,7 +141,7 @@ fn run_once(rt: &HostRuntime, work: Work, units: u32, turns: u32) -> Result<(u64
     let end = micros(rt)?;
     let written = write(rt, &script, &events)?;
     Ok((
-        count(&events),
+        events.len() as u64,
         end.saturating_sub(start).saturating_add(written),
     ))
 }
