@@ -1,5 +1,5 @@
 -- Each change of mappings keeps their layout.
-use Rattle.std.proofs.Common.{◌≡◌, ◌+◌, ◌<◌, ◌≤◌, Bool, true, false, List, [], ◌∷◌, ◌++◌, length, refl, sym, arith}
+use Rattle.std.proofs.Common.{◌≡◌, ◌+◌, ◌<◌, ◌≤◌, true, false, List, [], ◌∷◌, ◌++◌, length, sym, arith}
 use Rattle.std.specs.Prelude.{IsTrue, not, nat_le, ◌&&◌, None}
 use Rattle.std.proofs.lemmas.Bool.Decides.{nat_tests}
 use Rattle.uid_names.specs.declared.segment.TheConstants.{SEGMENTS}
@@ -20,6 +20,7 @@ use Rattle.uid_names.specs.Segments.{is_apart as is_apart_from}
 use Rattle.uid_names.proofs.Finds.{find-all_fail, not-not}
 use Rattle.uid_names.proofs.InOrder.{AllPairs-nil}
 use Rattle.std.proofs.lemmas.List.Folds.{list_all-map}
+use Rattle.std.proofs.lemmas.Bool.{and_parts}
 
 -- no two take one segment
 abbrev Apart : Mapping → Mapping → Type 0
@@ -33,16 +34,10 @@ Once m n = is_of n.uid m ≡ false
 pub IsLayout-none : IsLayout []
 IsLayout-none = record { few = omega arith; each = All-nil IsMapping; apart = AllPairs-nil Apart; once = AllPairs-nil Once }
 
--- both tests pass
-both : (a b : Bool) → (a && b) ≡ true → (a ≡ true) × (b ≡ true)
-both true true e = (refl, refl)
-both true false e = absurd cc
-both false b e = absurd cc
-
 -- a mapping is made in a free run
 pub IsLayout-push : (mappings : List Mapping) (new : Mapping) → IsLayout mappings → length mappings < PROCESS_MAPPINGS → 1 ≤ new.segments → mapping_of new.uid mappings ≡ None → is_free_run new.segments new.first mappings ≡ true → IsLayout (mappings ++ new ∷ [])
 IsLayout-push mappings new kept fewer some none free =
-    let parts = both (nat_le (new.first + new.segments) SEGMENTS) (list_all (is_apart new.segments new.first) mappings) (rw (← list_all-map (is_apart_from new.segments new.first) stretch_of mappings) free) in
+    let parts = and_parts (nat_le (new.first + new.segments) SEGMENTS) (list_all (is_apart new.segments new.first) mappings) (rw (← list_all-map (is_apart_from new.segments new.first) stretch_of mappings) free) in
     let within : new.first + new.segments ≤ SEGMENTS = grind (arith, nat_tests, parts.0) in
     let count : length (mappings ++ new ∷ []) ≡ length mappings + 1 = length-append mappings (new ∷ []) in
     record {

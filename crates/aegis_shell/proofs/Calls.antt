@@ -14,7 +14,7 @@ use Rattle.script_reader.specs.declared.command.Command.TheVariants.{Llkob}
 use Rattle.aegis_shell.specs.States.{Going, Comes, begins, on_list}
 use Rattle.aegis_shell.specs.Turns.{going, AsksIn}
 use Rattle.aegis_shell.specs.Work.{Part}
-use Rattle.aegis_shell.specs.declared.outcome.Outcome.TheVariants.{Replied, Written}
+use Rattle.command_talks.specs.declared.outcome.Outcome.TheVariants.{Replied, Written}
 use Rattle.aegis_shell.specs.declared.stage.Stage.TheVariants.{Lists}
 use Rattle.aegis_shell.specs.declared.stage.Turn.{Turn}
 use Rattle.aegis_shell.specs.declared.stage.Turn.TheVariants as turns

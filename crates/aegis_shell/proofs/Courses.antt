@@ -15,18 +15,19 @@ use Rattle.script_reader.specs.declared.command.Command.{Command}
 use Rattle.script_reader.specs.declared.command.Command.TheVariants.{Bind, Crf, Crd, Crl, Dlf, Catf, Lnf, Apf, Cpf, Ld, Wd, Llkob}
 use Rattle.script_reader.specs.Scripts.{Content, IsContent}
 use Rattle.script_reader.specs.Variables.{declared_object}
-use Rattle.aegis_shell.specs.Dialogues.{Dialogue, Ends as Finished, Asks as Asking}
+use Rattle.command_talks.specs.Dialogues.{Dialogue, Ends as Finished, Asks as Asking}
 use Rattle.aegis_shell.specs.declared.work.Job.{Job}
-use Rattle.aegis_shell.specs.declared.outcome.Outcome.{Outcome}
-use Rattle.aegis_shell.specs.declared.outcome.Outcome.TheVariants.{Replied, Written}
+use Rattle.command_talks.specs.declared.outcome.Outcome.{Outcome}
+use Rattle.command_talks.specs.declared.outcome.Outcome.TheVariants.{Replied, Written}
 use Rattle.aegis_shell.specs.declared.working.Working.{Working}
 use Rattle.aegis_shell.specs.Work.{Part, part_of, jobs_of, object_of, is_of_names}
 use Rattle.aegis_shell.specs.Ranges.{IsJob, AreJobs}
 use Rattle.aegis_shell.specs.Operations.{ops_of}
 use Rattle.aegis_shell.specs.Outcomes.{standing_after, lock_texts}
-use Rattle.aegis_shell.specs.Plans.{Plan, Makes, Talks, Lists, Writes, makes, plan_of, dialogue_of}
+use Rattle.command_talks.specs.Commands.{dialogue_of}
+use Rattle.aegis_shell.specs.Plans.{Plan, Makes, Talks, Lists, Writes, makes, plan_of}
 use Rattle.aegis_shell.specs.Replies.{can_be, is_op}
-use Rattle.aegis_shell.specs.Standing.{Standing, first_standing}
+use Rattle.aegis_shell.specs.Standing.{Standing, site_of, first_standing}
 use Rattle.aegis_shell.specs.AnswerTexts.{is_done, together, so_far}
 use Rattle.aegis_shell.specs.Asking.{Told, Reached, behind_phases, Course, Asks, Ends, on_reply, carry_out, on_said, converse, is_more, last_row, list_locks, carry, plan_at, course_of, on_course, on_phases, reach, reached, ask, answers}
 use Rattle.aegis_shell.proofs.Counts.{IsShort, AreShort, ops_short}
@@ -100,7 +101,7 @@ listed-more names home last text (Some reply ∷ told) rest more outcome is = en
 
 plan-more : (part : Part) (at : Standing) (command : Command) (plan : Plan) (told rest more : Told) (outcome : Outcome) → carry part at command plan told ≡ Ends outcome rest → carry part at command plan (told ++ more) ≡ Ends outcome (rest ++ more)
 plan-more part at command (Makes list) told rest more outcome is = carried-more Fine list told rest more outcome is
-plan-more part at command Talks told rest more outcome is = talked-more (dialogue_of part at.working command) told rest more outcome is
+plan-more part at command Talks told rest more outcome is = talked-more (dialogue_of (site_of part) at.working.dir command) told rest more outcome is
 plan-more part at command (Lists home) told rest more outcome is = listed-more part.names home None _ told rest more outcome is
 plan-more part at command (Writes text) told rest more outcome is = ends-more (Written text) outcome told rest more is
 

@@ -1,13 +1,7 @@
 pub mod Variables
 pub mod Counts
-pub mod Machines
-pub mod Streams
-pub mod Copies
-pub mod Sims
-pub mod Talking
 pub mod Fittings
 pub mod Lasts
-pub mod Readies
 pub mod Beginnings
 pub mod Calls
 pub mod Stages

@@ -1,13 +1,13 @@
 -- A process's part of a script.
 use Rattle.std.proofs.Common.{◌≡◌, ℕ, ◌+◌, ◌≤◌, ◌<◌, Bool, true, false, Option, Some, None, List, [], ◌∷◌, ◌++◌, length, take, drop, map, refl, ap, ◌∙◌, sym, subst, arith, add-one, append_assoc, append-nil, length-append, drop-cons, slice_index_or}
-use Rattle.std.specs.Prelude.{filter, not, if◌then◌else◌}
+use Rattle.std.specs.Prelude.{filter, if◌then◌else◌}
 use Rattle.std.proofs.Math.Seq.{take-suc, drop-append_seam}
 use Rattle.std.proofs.lemmas.List.{length-map, get_or-map, map-append}
 use Rattle.std.proofs.lemmas.List.Elements.{All-map, All-filter, All-weaker}
-use Rattle.std.proofs.lemmas.List.Filters.{length-filter_both}
 use Rattle.uid_names.specs.Names.{ProcName, same_proc}
 use Rattle.uid_names.specs.NameTexts.{IsNameText}
 use Rattle.uid_names.specs.declared.limits.TheConstants.{MAX_NODES}
+use Rattle.uid_names.proofs.ListLemmas.{length-filter_le}
 use Rattle.dom_history.specs.NodeTexts.{AreNodeNames}
 use Rattle.script_reader.specs.declared.command.Command.{Command}
 use Rattle.script_reader.specs.declared.script.NodeRow.{NodeRow}
@@ -20,7 +20,8 @@ use Rattle.script_reader.specs.Scripts.{Content, IsContent, IsNode}
 use Rattle.aegis_shell.specs.declared.work.Job.{Job}
 use Rattle.aegis_shell.specs.Bound.{Bound}
 use Rattle.aegis_shell.specs.Work.{job_of}
-use Rattle.aegis_shell.specs.Ranges.{IsRanged, IsJob, AreJobs}
+use Rattle.command_talks.specs.Ranges.{IsRanged}
+use Rattle.aegis_shell.specs.Ranges.{IsJob, AreJobs}
 
 -- the rows at these places
 abbrev pub rows_at : List CommandRow → List ℕ → List CommandRow
@@ -108,9 +109,6 @@ jobs_ranged s declared p content =
     All-map IsJob (job_of declared) (filter own s.commands)
     (All-filter own (λ row. IsJob (job_of declared row)) s.commands
     (All-weaker (IsCommandRow (length s.nodes) s.phases) (λ row. IsJob (job_of declared row)) (λ row h. job_ranged s declared row content.draft.few_nodes content.draft.phase_high h) s.commands content.draft.commands))
-
-length-filter_le : {X : Type 0} (test : X → Bool) (xs : List X) → length (filter test xs) ≤ length xs
-length-filter_le test xs = omega (arith, length-filter_both test (λ x. not (test x)) (λ x. refl) xs)
 
 -- no process has more jobs than the script has commands
 pub jobs_few : (s : Content) (declared : Bound) (p : ProcName) → IsContent s → length (map (job_of declared) (filter (λ row. same_proc row.proc p) s.commands)) ≤ 20000

@@ -7,15 +7,16 @@ use Rattle.script_reader.specs.declared.command.Command.TheVariants.{Wd, Llkob}
 use Rattle.aegis_shell.specs.AnswerTexts.{path_too_long}
 use Rattle.aegis_shell.specs.Asking.{carry}
 use Rattle.aegis_shell.specs.Operations.{ops_of}
-use Rattle.aegis_shell.specs.Plans.{Plan, Makes, Talks, Lists, Writes, makes, talks, is_long, is_sound, talk_plan, plan_of, dialogue_of, talk_of}
-use Rattle.aegis_shell.specs.Standing.{Standing}
+use Rattle.aegis_shell.specs.Plans.{Plan, Makes, Talks, Lists, Writes, makes, is_long, talk_plan, plan_of}
+use Rattle.aegis_shell.specs.Standing.{Standing, site_of}
 use Rattle.aegis_shell.specs.States.{begins_by, begins}
 use Rattle.aegis_shell.specs.Work.{Part}
 use Rattle.aegis_shell.specs.declared.working.Working.{Working}
 use Rattle.aegis_shell.proofs.Counts.{IsShort, AreShort, ops_short}
 use Rattle.aegis_shell.proofs.Stages.{Leads, stepped}
-use Rattle.aegis_shell.specs.Talks.{talk_turn}
-use Rattle.aegis_shell.proofs.Talking.{talk_starts}
+use Rattle.command_talks.specs.Commands.{talks, is_sound, dialogue_of, talk_of}
+use Rattle.command_talks.specs.Talks.{talk_turn}
+use Rattle.command_talks.proofs.Talking.{talk_starts}
 
 -- a plan is one of a command that has such operations, or such a dialogue
 abbrev pub IsPlanned : Option (List Op) → Command → Plan → Type 0
@@ -48,7 +49,9 @@ plan_leads : (part : Part) (at : Standing) (list : Option (List Op)) (command : 
 plan_leads part at list command (Makes []) h = elim h.1 [ ]
 plan_leads part at list command (Makes (op ∷ rest)) h = record { ops = op ∷ rest; are = h.0; short = h.1; course = λ told. refl }
 plan_leads part at list command Talks h =
-    stepped part.names list (carry part at command Talks) (talk_turn (talk_of part at.working command) None) (dialogue_of part at.working command) (talk_starts part at.working command h.0 h.1) (λ told. refl)
+    let site = site_of part in
+    let dir = at.working.dir in
+    stepped part.names list (carry part at command Talks) (talk_turn (talk_of site dir command) None) (dialogue_of site dir command) (talk_starts site dir command h.0 h.1) (λ told. refl)
 plan_leads part at list command (Lists home) h = λ told. refl
 plan_leads part at list command (Writes text) h = λ told. refl
 

@@ -24,22 +24,24 @@ use Rattle.script_reader.specs.declared.script.CommandRow.{CommandRow}
 use Rattle.script_reader.specs.Scripts.{Content, IsContent, IsObject}
 use Rattle.script_reader.specs.Variables.{declared_object}
 use Rattle.script_reader.specs.Commands.{IsHome, IsCommandRow}
-use Rattle.aegis_shell.specs.Dialogues.{Dialogue, Ends as Finished, Asks as Asking}
+use Rattle.command_talks.specs.Dialogues.{Dialogue, Ends as Finished, Asks as Asking}
 use Rattle.naming_tree.specs.declared.step.Walked.TheVariants.{At}
 use Rattle.naming_tree.specs.declared.step.NameResult.TheVariants as results
-use Rattle.aegis_shell.specs.declared.outcome.Outcome.{Outcome}
-use Rattle.aegis_shell.specs.declared.outcome.Outcome.TheVariants.{Replied, Came, Written}
+use Rattle.command_talks.specs.declared.outcome.Outcome.{Outcome}
+use Rattle.command_talks.specs.declared.outcome.Outcome.TheVariants.{Replied, Came, Written}
 use Rattle.aegis_shell.specs.declared.working.Working.{Working}
 use Rattle.aegis_shell.specs.declared.work.Job.{Job}
 use Rattle.aegis_shell.specs.Bound.{Bound, bind}
 use Rattle.aegis_shell.specs.Work.{Part, part_of, variable, object_in, or_else, object_of, job_of}
-use Rattle.aegis_shell.specs.Ranges.{IsRanged, IsJob, AreJobs}
+use Rattle.command_talks.specs.Ranges.{IsRanged}
+use Rattle.aegis_shell.specs.Ranges.{IsJob, AreJobs}
 use Rattle.aegis_shell.specs.Operations.{page_rest, behind, loads, loads_if, stores, stores_if, on_object, ops_of}
 use Rattle.aegis_shell.specs.AnswerTexts.{is_done, together, path_too_long}
 use Rattle.aegis_shell.specs.Outcomes.{bound_by, bind_if, lock_texts, standing_after}
-use Rattle.aegis_shell.specs.Plans.{Plan, Makes, Talks, Lists, Writes, makes, talks, is_long, is_sound, plan_of, dialogue_of}
+use Rattle.command_talks.specs.Commands.{talks, is_sound, dialogue_of}
+use Rattle.aegis_shell.specs.Plans.{Plan, Makes, Talks, Lists, Writes, makes, is_long, plan_of}
 use Rattle.aegis_shell.specs.Replies.{can_be, is_op, is_row, is_uid}
-use Rattle.aegis_shell.specs.Standing.{Standing, first_standing}
+use Rattle.aegis_shell.specs.Standing.{Standing, site_of, first_standing}
 use Rattle.aegis_shell.specs.Asking.{Told, Reached, behind_phases, Course, Asks, Ends, on_reply, carry_out, on_said, converse, is_more, last_row, list_locks, carry, plan_at, course_of, on_course, on_phases, reach, ask}
 use Rattle.aegis_shell.proofs.Fittings.{op_is, row_is, uid_is}
 use Rattle.aegis_shell.proofs.Parts.{jobs_ranged}
@@ -197,7 +199,7 @@ plan_ranged part working uid command own named h =
 
 course_in_range : (part : Part) (at : Standing) (command : Command) (plan : Plan) (told : Told) → IsRangedPlan plan → IsRangedCourse (carry part at command plan told)
 course_in_range part at command (Makes list) told h = carried_ranged Fine list told h
-course_in_range part at command Talks told h = talked_ranged (dialogue_of part at.working command) told
+course_in_range part at command Talks told h = talked_ranged (dialogue_of (site_of part) at.working.dir command) told
 course_in_range part at command (Lists home) told h = listed_ranged part.names home None _ told h tt
 course_in_range part at command (Writes text) told h = tt
 

@@ -8,22 +8,21 @@ use Rattle.dom_history.specs.declared.op.Reply.TheVariants.{Fine, Bytes, Locks}
 use Rattle.naming_tree.specs.Turns.{FitsAsked}
 use Rattle.aegis_shell.specs.AnswerTexts.{is_done, together, so_far}
 use Rattle.aegis_shell.specs.Asking.{Told, Course, Asks, Ends, on_reply, carry_out, on_said, converse, is_more, last_row, list_locks}
-use Rattle.aegis_shell.specs.Dialogues.{Dialogue, Ends as Finished, Asks as Asking}
+use Rattle.command_talks.specs.Dialogues.{Dialogue, Ends as Finished, Asks as Asking}
 use Rattle.aegis_shell.specs.Operations.{first_of, second_of}
 use Rattle.aegis_shell.specs.Outcomes.{lock_texts}
 use Rattle.aegis_shell.specs.Replies.{can_be, is_op}
 use Rattle.aegis_shell.specs.States.{Going, Goes, Comes, on_turn, is_granted, on_first, on_second, may_be, on_talk, on_list, goes_on, op_in}
-use Rattle.aegis_shell.specs.Talks.{talk_asks, talk_turn}
-use Rattle.aegis_shell.specs.declared.outcome.Outcome.TheVariants.{Replied, Written}
+use Rattle.command_talks.specs.Talks as turns
+use Rattle.command_talks.specs.Talks.{talk_asks, talk_turn}
+use Rattle.command_talks.specs.declared.outcome.Outcome.TheVariants.{Replied, Written}
 use Rattle.aegis_shell.specs.declared.stage.Stage.{Stage}
 use Rattle.aegis_shell.specs.declared.stage.Stage.TheVariants.{Between, First, Second, Talks as Talking, Lists as Listing}
-use Rattle.aegis_shell.specs.declared.stage.Turn.{Turn}
-use Rattle.aegis_shell.specs.declared.stage.Turn.TheVariants as turns
-use Rattle.aegis_shell.specs.declared.talk.Talk.{Talk}
+use Rattle.command_talks.specs.declared.talk.Talk.{Talk}
 use Rattle.aegis_shell.proofs.Counts.{IsShort}
 use Rattle.aegis_shell.proofs.Fittings.{fits_then}
-use Rattle.aegis_shell.proofs.Sims.{asked, told as told_to}
-use Rattle.aegis_shell.proofs.Talking.{TalkSim, TalkOn, talk_next, talk_asked}
+use Rattle.command_talks.proofs.Sims.{asked, told as told_to}
+use Rattle.command_talks.proofs.Talking.{TalkSim, TalkOn, talk_next, talk_asked}
 
 -- a course that carries these operations out
 pub record OnFirst (list : Option (List Op)) (c : Told → Course) : Type 0 where
@@ -160,14 +159,10 @@ module _ (names : List (List ℕ)) (list : Option (List Op)) where
     by_range true r = record { dialogue = d; sim = sim; op = op; said = said; ranged = r; course = course }
     by_range false r = λ future. course future ∙ (ap (λ (x : Dialogue). converse x future) asking.1 ∙ out_of_range op asking.0 future r)
 
-  pub stepped : (c : Told → Course) (turn : Option Turn) (d : Dialogue) → TalkOn turn d → ((future : Told) → c future ≡ converse d future) → Leads names list (on_turn turn) c
+  pub stepped : (c : Told → Course) (turn : Option turns.Turn) (d : Dialogue) → TalkOn turn d → ((future : Told) → c future ≡ converse d future) → Leads names list (on_turn turn) c
   stepped c None d on course = absurd on
   stepped c (Some (turns.Comes outcome)) d on course = λ future. course future ∙ ap (λ (x : Dialogue). converse x future) on
-  stepped c (Some (turns.Goes (Talking talk) op)) d on course = asks_on c talk op d on.0 on.1 course
-  stepped c (Some (turns.Goes Between op)) d on course = absurd on.1
-  stepped c (Some (turns.Goes First op)) d on course = absurd on.1
-  stepped c (Some (turns.Goes (Second first) op)) d on course = absurd on.1
-  stepped c (Some (turns.Goes (Listing home last text) op)) d on course = absurd on.1
+  stepped c (Some (turns.Goes talk op)) d on course = asks_on c talk op d on.0 on.1 course
 
   talk_goes_on : (c : Told → Course) (talk : Talk) (told : Option Reply) → OnTalk talk c → Leads names list (on_talk (may_be (talk_asks talk) told) talk told) (λ future. c (told ∷ future))
   talk_goes_on c talk told on =

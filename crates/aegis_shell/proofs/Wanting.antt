@@ -9,14 +9,15 @@ use Rattle.dom_history.specs.declared.op.Op.{Op}
 use Rattle.dom_history.specs.declared.op.Want.TheVariants.{Do, Phase}
 use Rattle.dom_history.specs.Ranges.{IsOp}
 use Rattle.aegis_shell.specs.declared.work.Job.{Job}
-use Rattle.aegis_shell.specs.declared.outcome.Outcome.{Outcome}
+use Rattle.command_talks.specs.declared.outcome.Outcome.{Outcome}
 use Rattle.aegis_shell.specs.declared.stage.Stage.{Stage}
 use Rattle.aegis_shell.specs.declared.stage.Stage.TheVariants.{Between}
 use Rattle.aegis_shell.specs.declared.stage.Turn.{Turn}
 use Rattle.aegis_shell.specs.declared.stage.Turn.TheVariants as turns
 use Rattle.aegis_shell.specs.Operations.{ops_of}
 use Rattle.aegis_shell.specs.Outcomes.{outcome_text}
-use Rattle.aegis_shell.specs.Ranges.{IsRanged, IsJob, AreJobs}
+use Rattle.command_talks.specs.Ranges.{IsRanged}
+use Rattle.aegis_shell.specs.Ranges.{IsJob, AreJobs}
 use Rattle.aegis_shell.specs.States.{State, left, object_at_job, begins, want_of, finished, at_stage, settled}
 use Rattle.aegis_shell.specs.Turns.{going, AsksIn}
 use Rattle.aegis_shell.specs.Work.{Part}

@@ -67,10 +67,6 @@ answer_text names NotMapped = codes "not mapped"
 abbrev pub not_bound : List ℕ
 not_bound = codes "not bound"
 
--- of one whose file is none
-abbrev pub not_a_file : List ℕ
-not_a_file = codes "not a file"
-
--- and of one whose working directory would have too long a text
+-- of one whose working directory would have too long a text
 abbrev pub path_too_long : List ℕ
 path_too_long = codes "path too long"

@@ -12,13 +12,14 @@ use Rattle.dom_history.specs.declared.op.Want.TheVariants.{Do, Phase, Done}
 use Rattle.dom_history.specs.Follows.{Heard}
 use Rattle.script_reader.specs.declared.command.Command.{Command}
 use Rattle.script_reader.specs.Scripts.{Content}
-use Rattle.aegis_shell.specs.Dialogues.{Dialogue, Ends as Over, Asks as Asking}
+use Rattle.command_talks.specs.Commands.{dialogue_of}
+use Rattle.command_talks.specs.Dialogues.{Dialogue, Ends as Over, Asks as Asking}
 use Rattle.aegis_shell.specs.declared.work.Job.{Job}
-use Rattle.aegis_shell.specs.declared.outcome.Outcome.{Outcome}
-use Rattle.aegis_shell.specs.declared.outcome.Outcome.TheVariants.{Replied, Written}
+use Rattle.command_talks.specs.declared.outcome.Outcome.{Outcome}
+use Rattle.command_talks.specs.declared.outcome.Outcome.TheVariants.{Replied, Written}
 use Rattle.aegis_shell.specs.Work.{Part, part_of, object_of}
-use Rattle.aegis_shell.specs.Standing.{Standing, first_standing}
-use Rattle.aegis_shell.specs.Plans.{Plan, Makes, Talks, Lists, Writes, plan_of, dialogue_of}
+use Rattle.aegis_shell.specs.Standing.{Standing, site_of, first_standing}
+use Rattle.aegis_shell.specs.Plans.{Plan, Makes, Talks, Lists, Writes, plan_of}
 use Rattle.aegis_shell.specs.Replies.{can_be, is_op, is_row}
 use Rattle.aegis_shell.specs.Outcomes.{outcome_text, standing_after, lock_texts}
 use Rattle.aegis_shell.specs.AnswerTexts.{is_done, together, so_far}
@@ -97,7 +98,7 @@ list_locks names home after text (last ∷ told) = Ends (Replied (so_far last)) 
 -- how far a command of this plan comes
 abbrev pub carry : Part → Standing → Command → Plan → Told → Course
 carry part at command (Makes list) told = carry_out Fine list told
-carry part at command Talks told = converse (dialogue_of part at.working command) told
+carry part at command Talks told = converse (dialogue_of (site_of part) at.working.dir command) told
 carry part at command (Lists home) told = list_locks part.names home None (codes "ok") told
 carry part at command (Writes text) told = Ends (Written text) told
 

@@ -7,16 +7,9 @@ pub mod Asked
 pub mod AnswerTexts
 pub mod Replies
 pub mod Standing
-pub mod Sources
-pub mod Dialogues
-pub mod Files
 pub mod Plans
 pub mod Outcomes
 pub mod Asking
-pub mod NameTalks
-pub mod FileTalks
-pub mod FileTurns
-pub mod Talks
 pub mod States
 pub mod Turns
 pub mod Shells

@@ -9,7 +9,7 @@ use Rattle.uid_names.specs.declared.mode.ObjKind.TheVariants as kinds
 use Rattle.dom_history.specs.declared.op.Reply.TheVariants.{Made}
 use Rattle.script_reader.specs.declared.command.Command.{Command}
 use Rattle.script_reader.specs.declared.command.Command.TheVariants.{New, Bind, Wd}
-use Rattle.naming_tree.specs.declared.row.DirRow.{DirRow}
+use Rattle.dir_records.specs.declared.row.DirRow.{DirRow}
 use Rattle.naming_tree.specs.declared.step.Walked.{Walked}
 use Rattle.naming_tree.specs.declared.step.Walked.TheVariants.{Root, At}
 use Rattle.naming_tree.specs.declared.step.NameResult.{NameResult}
@@ -22,8 +22,8 @@ use Rattle.aegis_shell.specs.Bound.{Bound, bind}
 use Rattle.aegis_shell.specs.Replies.{is_uid}
 use Rattle.aegis_shell.specs.Standing.{Standing, text_at}
 use Rattle.aegis_shell.specs.Work.{Part}
-use Rattle.aegis_shell.specs.declared.outcome.Outcome.{Outcome}
-use Rattle.aegis_shell.specs.declared.outcome.Outcome.TheVariants.{Replied, Came, Streamed, Written}
+use Rattle.command_talks.specs.declared.outcome.Outcome.{Outcome}
+use Rattle.command_talks.specs.declared.outcome.Outcome.TheVariants.{Replied, Came, Streamed, Written}
 use Rattle.aegis_shell.specs.declared.working.Working.{Working}
 
 abbrev pub kind_text : ObjKind → List ℕ

@@ -1,16 +1,12 @@
 -- The ranges that a process's commands keep.
 use Rattle.std.specs.Prelude.{◌+◌, ◌<◌, ◌≤◌, ◌^◌, ℕ, List, All}
-use Rattle.uid_names.specs.declared.limits.TheConstants.{MAX_NODES, PAGE_BYTES}
+use Rattle.uid_names.specs.declared.limits.TheConstants.{PAGE_BYTES}
 use Rattle.dom_history.specs.declared.op.Spot.{Spot}
 use Rattle.dom_history.specs.Ranges.{IsSpot}
-use Rattle.script_reader.specs.declared.command.Command.{Command}
-use Rattle.script_reader.specs.Commands.{IsCommand, IsCount}
+use Rattle.script_reader.specs.Commands.{IsCount}
+use Rattle.command_talks.specs.Ranges.{IsRanged}
 use Rattle.aegis_shell.specs.declared.work.Job.{Job}
 use Rattle.aegis_shell.specs.Operations.{place_of}
-
--- a command such as a script can have
-abbrev pub IsRanged : Command → Type 0
-IsRanged command = IsCommand MAX_NODES command
 
 -- so many bytes from a spot, as a command can name them
 abbrev pub IsRange : Spot → ℕ → Type 0

@@ -9,20 +9,20 @@ use Rattle.dom_history.specs.declared.op.Want.{Want}
 use Rattle.dom_history.specs.declared.op.Want.TheVariants.{Do, Phase, Done}
 use Rattle.script_reader.specs.declared.command.Command.{Command}
 use Rattle.aegis_shell.specs.declared.work.Job.{Job}
-use Rattle.aegis_shell.specs.declared.outcome.Outcome.{Outcome}
-use Rattle.aegis_shell.specs.declared.outcome.Outcome.TheVariants.{Replied, Written}
+use Rattle.command_talks.specs.declared.outcome.Outcome.{Outcome}
+use Rattle.command_talks.specs.declared.outcome.Outcome.TheVariants.{Replied, Written}
 use Rattle.aegis_shell.specs.declared.stage.Stage.{Stage}
 use Rattle.aegis_shell.specs.declared.stage.Stage.TheVariants.{Between, First, Second, Talks as Talking, Lists as Listing}
-use Rattle.aegis_shell.specs.declared.stage.Turn.{Turn}
-use Rattle.aegis_shell.specs.declared.stage.Turn.TheVariants as turns
-use Rattle.aegis_shell.specs.declared.talk.Talk.{Talk}
+use Rattle.command_talks.specs.declared.talk.Talk.{Talk}
 use Rattle.aegis_shell.specs.declared.working.Working.{Working}
 use Rattle.aegis_shell.specs.Bindings.{Rows, object_at, rebound}
 use Rattle.aegis_shell.specs.Work.{Part, object_of}
-use Rattle.aegis_shell.specs.Standing.{Standing, first_working}
+use Rattle.aegis_shell.specs.Standing.{Standing, site_of, first_working}
 use Rattle.aegis_shell.specs.Operations.{ops_of, first_of, second_of}
-use Rattle.aegis_shell.specs.Plans.{Plan, Makes, Talks, Lists, Writes, plan_of, talk_of}
-use Rattle.aegis_shell.specs.Talks.{talk_asks, talk_turn}
+use Rattle.aegis_shell.specs.Plans.{Plan, Makes, Talks, Lists, Writes, plan_of}
+use Rattle.command_talks.specs.Commands.{talk_of}
+use Rattle.command_talks.specs.Talks as turns
+use Rattle.command_talks.specs.Talks.{talk_asks, talk_turn}
 use Rattle.aegis_shell.specs.Replies.{can_be, is_op}
 use Rattle.aegis_shell.specs.Asking.{is_more, last_row}
 use Rattle.aegis_shell.specs.Outcomes.{outcome_text, bound_by, working_after, lock_texts}
@@ -58,9 +58,9 @@ pub data Going : Type 0 where
   Comes : (outcome : Outcome) → Going
 
 -- a machine was told something
-abbrev pub on_turn : Option Turn → Going
+abbrev pub on_turn : Option turns.Turn → Going
 on_turn (Some (turns.Comes outcome)) = Comes outcome
-on_turn (Some (turns.Goes stage op)) = cond (is_op op) (Goes stage) (Comes (Replied Fine))
+on_turn (Some (turns.Goes talk op)) = cond (is_op op) (Goes (Talking talk)) (Comes (Replied Fine))
 on_turn None = Comes (Replied Fine)
 
 abbrev pub talk_goes : Talk → Option Reply → Going
@@ -70,7 +70,7 @@ talk_goes talk last = on_turn (talk_turn talk last)
 abbrev pub begins_by : Part → Working → Command → Plan → Going
 begins_by part working command (Makes []) = Comes (Replied Fine)
 begins_by part working command (Makes (op ∷ list)) = Goes First
-begins_by part working command Talks = talk_goes (talk_of part working command) None
+begins_by part working command Talks = talk_goes (talk_of (site_of part) working.dir command) None
 begins_by part working command (Lists home) = Goes (Listing home None (codes "ok"))
 begins_by part working command (Writes text) = Comes (Written text)
 

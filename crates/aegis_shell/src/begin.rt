@@ -3,23 +3,23 @@ ghost use Rattle.std.specs.Prelude.{◌≡◌, false, codes, None, IfOk};
 ghost use Rattle.dom_history.specs.declared.op.Op.{Op};
 ghost use Rattle.dom_history.specs.declared.op.Op.TheVariants.{List as ListOp};
 ghost use Rattle.dom_history.specs.Ranges.{IsNodeNumber};
-ghost use Rattle.aegis_shell.specs.Ranges.{IsRanged};
+ghost use Rattle.command_talks.specs.Ranges.{IsRanged};
+ghost use Rattle.command_talks.specs.Commands.{talks};
 ghost use Rattle.aegis_shell.specs.Operations.{ops_of};
-ghost use Rattle.aegis_shell.specs.Plans.{is_long, makes, talks};
+ghost use Rattle.aegis_shell.specs.Plans.{is_long, makes};
 ghost use Rattle.aegis_shell.specs.States.{begins as begins_so, begins_by};
 ghost use Rattle.aegis_shell.specs.Turns.{going, AsksIn};
-ghost use Rattle.aegis_shell.specs.declared.outcome.Outcome.TheVariants.{Written};
+ghost use Rattle.command_talks.specs.declared.outcome.Outcome.TheVariants.{Written};
 ghost use Rattle.aegis_shell.specs.declared.stage.Stage.TheVariants.{Lists};
 ghost use Rattle.aegis_shell.specs.declared.stage.Turn.TheVariants.{Goes, Comes};
 
 use crate::names::directory_text;
-use crate::naming::talk;
 use crate::operation::first_operation;
-use crate::outcome::Outcome;
 use crate::stage::{Stage, Turn};
-use crate::turning::turn_of;
+use crate::talking::turn_of;
 use crate::work::{Job, Work};
 use crate::working::Working;
+use command_talks::{Outcome, machine_for};
 use dom_history::Op;
 use script_reader::Command;
 use std::alloc::Global;
@@ -122,7 +122,7 @@ pub fn begin(
     if is_too_long(alloc, work, working, &job.command)? {
         return written(alloc, b"path too long");
     }
-    match talk(alloc, work, working, &job.command)? {
+    match machine_for(alloc, work.site(), working.dir, &job.command)? {
         Some(machine) => turn_of(alloc, machine, None),
         None => begin_alone(alloc, work, working, &job.command, object),
     }

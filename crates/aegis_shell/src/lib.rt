@@ -4,27 +4,16 @@
 mod answer;
 mod begin;
 mod bindings;
-mod closing;
-mod copying;
-mod errand;
-mod file_talk;
 mod go;
 pub mod laws;
-mod name_talk;
 mod names;
-mod naming;
 mod operation;
-mod outcome;
 mod progress;
-mod seeking;
 mod shell;
-mod source;
 mod stage;
-mod streaming;
-mod talk;
+mod talking;
 #[cfg(test)]
 mod tests;
-mod turning;
 mod work;
 mod working;
 

@@ -6,12 +6,13 @@ ghost use Rattle.aegis_shell.specs.AnswerTexts.{node_name};
 ghost use Rattle.aegis_shell.specs.Outcomes.{kind_text as text_of_kind, row_text, row_texts, node_texts, lock_text, lock_texts, stream_text as text_of_stream, result_text as text_of_result, found_text, entered_text, came_text as text_that_came, outcome_text as text_of_outcome};
 
 use crate::answer::{answer_text, counted, loaded, put_process};
-use crate::outcome::Outcome;
 use crate::work::Work;
 use crate::working::Working;
+use command_talks::Outcome;
+use dir_records::DirRow;
 use dom_history::NodeNames;
 use mapped_streams::StreamResult;
-use naming_tree::{DirRow, NameResult, Walked};
+use naming_tree::{NameResult, Walked};
 use script_reader::Command;
 use std::alloc::Global;
 use uid_names::{ByteList, LockRow, NoMemory, ObjKind, Uid};

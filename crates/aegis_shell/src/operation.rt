@@ -3,7 +3,8 @@ ghost use Rattle.std.specs.Prelude.{◌≡◌, ◌+◌, ◌<◌, ◌≤◌, ◌^
 ghost use Rattle.dom_history.specs.Ranges.{IsOp};
 ghost use Rattle.aegis_shell.specs.Operations.{page_rest as rest_of_page, place_of, behind as spot_behind, loads, stores, ops_of, first_of, second_of, head_of};
 ghost use Rattle.aegis_shell.specs.Asked.{ops_asked, IsAsked};
-ghost use Rattle.aegis_shell.specs.Ranges.{IsRanged, IsRange};
+ghost use Rattle.command_talks.specs.Ranges.{IsRanged};
+ghost use Rattle.aegis_shell.specs.Ranges.{IsRange};
 ghost use Rattle.uid_names.specs.Rooms.{IsRoom};
 ghost use Rattle.uid_names.specs.declared.mode.ObjKind.TheVariants.{File};
 ghost use Rattle.dom_history.specs.declared.op.Op.TheVariants.{New};

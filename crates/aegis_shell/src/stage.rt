@@ -1,6 +1,5 @@
 //! How far a process is in its next command.
-use crate::outcome::Outcome;
-use crate::talk::Machine;
+use command_talks::{Machine, Outcome};
 use dom_history::{Op, Reply};
 use uid_names::{ByteList, NodeId, ProcId, Uid};
 

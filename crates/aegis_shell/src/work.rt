@@ -10,6 +10,7 @@ ghost use Rattle.aegis_shell.specs.Ranges.{AreJobs};
 
 use crate::bindings::Bindings;
 use dom_history::NodeNames;
+use naming_tree::Site;
 use script_reader::{Command, CommandRow, NodeRow, Script};
 use std::alloc::Global;
 use std::marker::Model;
@@ -262,8 +263,7 @@ fn jobs(alloc: Global, script: &Script, proc: ProcId) -> Result<Vec<Job>, NoMemo
 /// A process's part of a script.
 #[derive(Drop)]
 pub struct Work {
-    node: NodeId,
-    names: NodeNames,
+    site: Site,
     jobs: Vec<Job>,
 }
 
@@ -274,37 +274,46 @@ impl Model for Work {
 
     ghost Value = { Part };
 
-    ghost view = { λ w. record { node = w.node; names = w.names; jobs = w.jobs.items } };
+    ghost view = { λ w. record { node = w.site.own; names = w.site.names; jobs = w.jobs.items } };
 
     ghost invariant = { λ w. AreJobs w.jobs.items × (length w.jobs.items < 2 ^ 32) };
 }
 
 impl Work {
+    ghost use Rattle.aegis_shell.specs.Standing.{site_of};
+
     /// The part of a process of a script. It goes over the nodes and over the process's own commands.
     pub fn new(alloc: Global, script: &Script, proc: ProcId) -> Result<Work, NoMemory>
         ensures { IfOk result (λ work. work ≡ part_of script.now proc) }
     {
         let names = names(alloc, script.nodes())?;
         let jobs = jobs(alloc, script, proc)?;
-        Ok(Work {
-            node: proc.node(),
+        let site = Site {
+            own: proc.node(),
             names,
-            jobs,
-        })
+        };
+        Ok(Work { site, jobs })
     }
 
     /// The process's node.
     pub fn node(&self) -> NodeId
         ensures { result ≡ self.now.node }
     {
-        self.node
+        self.site.own
     }
 
     /// The names of all nodes.
     pub fn names(&self) -> &NodeNames
         ensures { result.now ≡ self.now.names }
     {
-        &self.names
+        &self.site.names
+    }
+
+    /// Where the names of its commands are looked up.
+    pub fn site(&self) -> &Site
+        ensures { result.now ≡ site_of self.now }
+    {
+        &self.site
     }
 
     /// The process's commands, in order.

@@ -9,6 +9,7 @@ use Rattle.uid_names.proofs.InOrder.{chosen, AllPairs-nil}
 use Rattle.uid_names.specs.InOrder.{AreInOrder}
 use Rattle.uid_names.specs.Names.{ProcName, IsProcName, same_proc, proc_lt}
 use Rattle.uid_names.specs.declared.limits.TheConstants.{PROCESSES}
+use Rattle.uid_names.proofs.Orders.{same_proc-itself}
 use Rattle.call_once.specs.declared.served.Kept.{Kept}
 use Rattle.call_once.specs.Calls.{Call, call_of, with_call, AreByProcess}
 use Rattle.call_once.specs.Slots.{proc_at, call_in, calls_in}
@@ -16,10 +17,6 @@ use Rattle.call_once.specs.Slots.{proc_at, call_in, calls_in}
 -- each place has a process of its own
 same_proc-apart : (i j : ℕ) → i ≢ j → same_proc (proc_at i) (proc_at j) ≡ false
 same_proc-apart i j apart = grind (arith, nat_tests)
-
--- a process is itself
-same_proc-same : (p : ProcName) → same_proc p p ≡ true
-same_proc-same p = grind (arith, nat_tests)
 
 -- and is not below itself
 proc_lt-same : (p : ProcName) → proc_lt p p ≡ false
@@ -45,7 +42,7 @@ call_of-calls_in first k place [] e = refl
 call_of-calls_in first zero place (None ∷ slots) e = none_before (suc first) place slots (omega arith)
 call_of-calls_in first zero place (Some kept ∷ slots) e =
     let same : place ≡ first = omega arith in
-    rw (same, same_proc-same (proc_at first)) refl
+    rw (same, same_proc-itself (proc_at first)) refl
 call_of-calls_in first (suc k) place (None ∷ slots) e = call_of-calls_in (suc first) k place slots (omega arith)
 call_of-calls_in first (suc k) place (Some kept ∷ slots) e = rw (same_proc-apart first place (omega arith)) (call_of-calls_in (suc first) k place slots (omega arith))
 
@@ -63,7 +60,7 @@ calls_in-set first zero place kept (None ∷ slots) e within =
     rw (same, with_call-before (record { proc = proc_at first; number = kept.number; body = kept.body }) (suc first) first slots refl (omega arith)) refl
 calls_in-set first zero place kept (Some old ∷ slots) e within =
     let same : place ≡ first = omega arith in
-    rw (same, proc_lt-same (proc_at first), same_proc-same (proc_at first)) refl
+    rw (same, proc_lt-same (proc_at first), same_proc-itself (proc_at first)) refl
 calls_in-set first (suc k) place kept (None ∷ slots) e within = calls_in-set (suc first) k place kept slots (omega arith) (omega arith)
 calls_in-set first (suc k) place kept (Some old ∷ slots) e within =
     rw (proc_lt-proc_at first place (omega arith)) (ap (λ calls. record { proc = proc_at first; number = old.number; body = old.body } ∷ calls) (calls_in-set (suc first) k place kept slots (omega arith) (omega arith)))

@@ -18,14 +18,14 @@ use Rattle.fault_handler.specs.Invariant.{IsProc, IsDesk}
 use Rattle.fault_handler.specs.Conditions.{IsIdle}
 use Rattle.fault_handler.proofs.Beginning.{target-within, load-allowed, store-allowed}
 use Rattle.desk_laws.specs.Causes.{Cause, op_of}
-use Rattle.desk_laws.specs.Moves.{Change, Moves}
+use Rattle.desk_laws.specs.DeskMoves.{Change, DeskMoves}
 use Rattle.desk_laws.specs.Refusals.{Refuses}
 use Rattle.desk_laws.specs.Turns.{Says, IsMade}
 use Rattle.desk_laws.proofs.PageMoves.{page_access-made}
 
 -- where it is refused nothing changes
 pub refused-made : (c : Cause) (p : ℕ) (d : DeskState) (reply : Reply) → Refuses d p c reply → IsMade c p d (ended d reply)
-refused-made c p d reply refuses = record { moves = Moves.none; says = Says.refuses c reply refuses refl; may = tt }
+refused-made c p d reply refuses = record { moves = DeskMoves.none; says = Says.refuses c reply refuses refl; may = tt }
 
 module _ (d : DeskState) (p : ℕ) (is : IsDesk d) (proc : IsProc p) (idle : IsIdle d p) where
   module _ (spot : Spot) (u : ObjectName) (offset : ℕ) (target : target_of d p spot ≡ Some (u, offset)) where
@@ -34,7 +34,7 @@ module _ (d : DeskState) (p : ℕ) (is : IsDesk d) (proc : IsProc p) (idle : IsI
     load_by-made count some within false past h e = refused-made (Cause.Accesses (DeskOp.Loads spot count)) p d Reply.NoLock (Refuses.load_unheld spot count u offset target h)
     load_by-made count some within true true h e = refused-made (Cause.Accesses (DeskOp.Loads spot count)) p d Reply.PastEnd (Refuses.load_past_end spot count u offset target h e)
     load_by-made count some within true false h e =
-        page_access-made (Cause.Accesses (DeskOp.Loads spot count)) p d d (task_at u offset (Load count)) (λ turn. Moves.none)
+        page_access-made (Cause.Accesses (DeskOp.Loads spot count)) p d d (task_at u offset (Load count)) (λ turn. DeskMoves.none)
         (record { idle = idle; allowed = load-allowed d p is proc idle u offset count some within h e; given = (target, refl, e) })
         (target, refl, e) proc is tt (λ v k may. may)
 
@@ -45,7 +45,7 @@ module _ (d : DeskState) (p : ℕ) (is : IsDesk d) (proc : IsProc p) (idle : IsI
     store_by-made bytes some within true false past h w e = refused-made (Cause.Accesses (DeskOp.Stores spot bytes)) p d Reply.WrongMode (Refuses.store_mode spot bytes u offset target h w)
     store_by-made bytes some within true true true h w e = refused-made (Cause.Accesses (DeskOp.Stores spot bytes)) p d Reply.PastRoom (Refuses.store_past_room spot bytes u offset target h w e)
     store_by-made bytes some within true true false h w e =
-        page_access-made (Cause.Accesses (DeskOp.Stores spot bytes)) p d d (task_at u offset (Store bytes)) (λ turn. Moves.none)
+        page_access-made (Cause.Accesses (DeskOp.Stores spot bytes)) p d d (task_at u offset (Store bytes)) (λ turn. DeskMoves.none)
         (record { idle = idle; allowed = store-allowed d p is proc idle u offset bytes some within h w e; given = (target, refl, e) })
         (target, refl, e) proc is tt (λ v k may. may)
 
@@ -63,15 +63,15 @@ module _ (d : DeskState) (p : ℕ) (is : IsDesk d) (proc : IsProc p) (idle : IsI
 
   length_by-made : (u : ObjectName) (held : Bool) → is_held (state_of d p u) ≡ held → Always p (IsMade (Cause.Accesses (DeskOp.Measures u)) p d) (length_by d u held)
   length_by-made u false h = refused-made (Cause.Accesses (DeskOp.Measures u)) p d Reply.NoLock (Refuses.length_unheld u h)
-  length_by-made u true h = record { moves = Moves.none; says = Says.measures u h; may = tt }
+  length_by-made u true h = record { moves = DeskMoves.none; says = Says.measures u h; may = tt }
 
   map_by-made : (u : ObjectName) (held : Bool) → is_held (state_of d p u) ≡ held → Always p (IsMade (Cause.Accesses (DeskOp.Maps u)) p d) (map_by d p u held)
   map_by-made u false h = refused-made (Cause.Accesses (DeskOp.Maps u)) p d Reply.NoLock (Refuses.map_unheld u h)
-  map_by-made u true h = record { moves = Moves.next Moves.none (Change.maps u refl idle h); says = Says.maps u h; may = tt }
+  map_by-made u true h = record { moves = DeskMoves.next DeskMoves.none (Change.maps u refl idle h); says = Says.maps u h; may = tt }
 
   unmap_by-made : (u : ObjectName) (there : Bool) → is_some (mapping_of u (maps_of d p)) ≡ there → Always p (IsMade (Cause.Accesses (DeskOp.Unmaps u)) p d) (unmap_by d p u there)
   unmap_by-made u false h = refused-made (Cause.Accesses (DeskOp.Unmaps u)) p d Reply.NotMapped (Refuses.unmap_none u h)
-  unmap_by-made u true h = record { moves = Moves.next Moves.none (Change.unmaps u refl idle h); says = Says.unmaps u h; may = tt }
+  unmap_by-made u true h = record { moves = DeskMoves.next DeskMoves.none (Change.unmaps u refl idle h); says = Says.unmaps u h; may = tt }
 
   pub access_of-made : (op : DeskOp) → IsOp (op_of op) → Always p (IsMade (Cause.Accesses op) p d) (access_of d p op)
   access_of-made (DeskOp.Loads spot count) range = load_at-made spot count (target_of d p spot) refl range.1.0 (target-within d p spot count range.1)

@@ -3,6 +3,7 @@ use Rattle.std.proofs.Common.{◌≡◌, ℕ, ◌≤◌, Bool, true, false, [], 
 use Rattle.std.proofs.lemmas.Bool.Decides.{nat_tests}
 use Rattle.uid_names.specs.Names.{ObjectName, same_uid}
 use Rattle.uid_names.specs.declared.mode.Mode.{Mode}
+use Rattle.uid_names.proofs.Somes.{there_is}
 use Rattle.dom_history.specs.declared.deed.LockState.{LockState}
 use Rattle.dom_history.specs.declared.deed.LockState.TheVariants.{Free, Held, Taking, Releasing, Deleting}
 use Rattle.dom_history.specs.declared.op.Reply.TheVariants.{Fine, Conflict, Kept, Doubt}
@@ -22,7 +23,7 @@ use Rattle.fault_handler.specs.Ready.{IsReady, CallStands, LockStands, WriterSta
 use Rattle.fault_handler.proofs.Fours.{at-put_same}
 use Rattle.fault_handler.proofs.PageLists.{page_at-without_object_same}
 use Rattle.fault_handler.proofs.LockKeeps.{entry_after, entry_of-after_same}
-use Rattle.fault_handler.proofs.TransitKeeps.{there_is, keeps_writing-keeps, going-resident}
+use Rattle.fault_handler.proofs.TransitKeeps.{keeps_writing-keeps, going-resident}
 use Rattle.lock_validate.specs.Answers.{dropped_of, removed, answered, answer_came_of}
 use Rattle.lock_validate.specs.Faults.{failed, call_failed_of}
 use Rattle.lock_validate.proofs.Dropping.{unkept-before}
@@ -32,7 +33,7 @@ use Rattle.desk_laws.specs.Causes.{Cause, IsLockAnswer}
 use Rattle.desk_laws.specs.Releasing.{IsPageSettled}
 use Rattle.desk_laws.specs.Told.{state_set}
 use Rattle.desk_laws.specs.Calls.{Closes}
-use Rattle.desk_laws.specs.Moves.{Change, Moves}
+use Rattle.desk_laws.specs.DeskMoves.{Change, DeskMoves}
 use Rattle.desk_laws.specs.Turns.{Says, IsMade}
 use Rattle.desk_laws.proofs.DeskStays.{moves-desk}
 use Rattle.desk_laws.proofs.Facts.{answer-may, known-kept, node-there}
@@ -61,20 +62,20 @@ module _ (d : DeskState) (p : ℕ) (is : IsDesk d) (proc : IsProc p) where
       by_state Deleting = refl
 
   module _ (c : Cause) (turn : Turn) where
-    shut-moves : (call : LockCall) → Closes c call → open_call_of d p ≡ Some (open_call call) → CallStands d p call → Moves c turn p d shut []
-    shut-moves call closes opened stands = Moves.next Moves.none (Change.closes call closes opened stands)
+    shut-moves : (call : LockCall) → Closes c call → open_call_of d p ≡ Some (open_call call) → CallStands d p call → DeskMoves c turn p d shut []
+    shut-moves call closes opened stands = DeskMoves.next DeskMoves.none (Change.closes call closes opened stands)
 
     -- the page that was sent before a release is on its way no more
-    page_done-moves : (u : ObjectName) (k : ℕ) (delete taken : Bool) → IsPageSettled c u taken → Moves c turn p d shut [] → WriterStands d p u delete → moving_of d p ≡ going u k → Moves c turn p d (with_page_done shut p taken) []
+    page_done-moves : (u : ObjectName) (k : ℕ) (delete taken : Bool) → IsPageSettled c u taken → DeskMoves c turn p d shut [] → WriterStands d p u delete → moving_of d p ≡ going u k → DeskMoves c turn p d (with_page_done shut p taken) []
     page_done-moves u k delete taken given moves stands goes =
         let there = there_is (page_at d.cache.pages u k) (going-resident d p is proc u k goes).0 in
-        Moves.next moves (Change.page_settles u k there.0 taken given shut-call (record { moves = goes; there = there.1 }) stands.writes stands.others)
+        DeskMoves.next moves (Change.page_settles u k there.0 taken given shut-call (record { moves = goes; there = there.1 }) stands.writes stands.others)
 
     -- a state is set that is not Held: of an object on which the process is Free, or whose release it noted
-    set-moves : (call : LockCall) (u : ObjectName) (s : LockState) → state_set shut p c ≡ Some (call, u, s, 0) → is_held s ≡ false → Moves c turn p d shut [] → CallStands d p call → moving_of d p ≡ None
-        → keeps (entry_at d.entries p u) ≡ false → IsNode d.nodes u.home → Moves c turn p d (with_state shut p u s 0) []
+    set-moves : (call : LockCall) (u : ObjectName) (s : LockState) → state_set shut p c ≡ Some (call, u, s, 0) → is_held s ≡ false → DeskMoves c turn p d shut [] → CallStands d p call → moving_of d p ≡ None
+        → keeps (entry_at d.entries p u) ≡ false → IsNode d.nodes u.home → DeskMoves c turn p d (with_state shut p u s 0) []
     set-moves call u s given unheld moves stands still unkept node =
-        Moves.next moves (Change.sets call u s 0 (record {
+        DeskMoves.next moves (Change.sets call u s 0 (record {
           given = given;
           closed = shut-call;
           still = still;
@@ -85,12 +86,12 @@ module _ (d : DeskState) (p : ℕ) (is : IsDesk d) (proc : IsProc p) where
           node = node;
         }))
 
-    lock-moves : (u : ObjectName) (m : Mode) (s : LockState) → state_set shut p c ≡ Some (LockCall.Lock u m, u, s, 0) → is_held s ≡ false → Moves c turn p d shut [] → LockStands d p u → Moves c turn p d (with_state shut p u s 0) []
+    lock-moves : (u : ObjectName) (m : Mode) (s : LockState) → state_set shut p c ≡ Some (LockCall.Lock u m, u, s, 0) → is_held s ≡ false → DeskMoves c turn p d shut [] → LockStands d p u → DeskMoves c turn p d (with_state shut p u s 0) []
     lock-moves u m s given unheld moves stands =
         set-moves (LockCall.Lock u m) u s given unheld moves stands stands.still (unheld-unkept (entry_at d.entries p u) (free-unheld (state_of d p u) stands.free)) stands.node
 
-    release-moves : (call : LockCall) (u : ObjectName) (s : LockState) → state_set shut p c ≡ Some (call, u, s, 0) → is_held s ≡ false → Moves c turn p d shut [] → CallStands d p call → ReleaseStands d p u
-        → Moves c turn p d (with_state shut p u s 0) []
+    release-moves : (call : LockCall) (u : ObjectName) (s : LockState) → state_set shut p c ≡ Some (call, u, s, 0) → is_held s ≡ false → DeskMoves c turn p d shut [] → CallStands d p call → ReleaseStands d p u
+        → DeskMoves c turn p d (with_state shut p u s 0) []
     release-moves call u s given unheld moves stands release =
         set-moves call u s given unheld moves stands release.still (released-unkept (entry_at d.entries p u) release.noted) (node-there d p u is proc release.there)
 
@@ -99,23 +100,23 @@ module _ (d : DeskState) (p : ℕ) (is : IsDesk d) (proc : IsProc p) where
     kept : keeps (entry_at d.entries p u) ≡ true
     kept = keeps_writing-keeps (entry_at d.entries p u) stands.writes
 
-    page-made : (k : ℕ) → moving_of d p ≡ going u k → ((turn : Turn) → Moves (Cause.AnswerCame (LockAnswer.PageSettled u delete taken stamp)) turn p d shut [])
+    page-made : (k : ℕ) → moving_of d p ≡ going u k → ((turn : Turn) → DeskMoves (Cause.AnswerCame (LockAnswer.PageSettled u delete taken stamp)) turn p d shut [])
         → IsMade (Cause.AnswerCame (LockAnswer.PageSettled u delete taken stamp)) p d (answered shut p (LockAnswer.PageSettled u delete taken stamp))
     page-made k goes moves =
         let c = Cause.AnswerCame (LockAnswer.PageSettled u delete taken stamp) in
         let g = with_raised (with_page_done shut p taken) u stamp in
         let idle : IsIdle g p = record { no_call = shut-call; no_page = at-put_same d.moving p None None is.four.moving proc; keeping = stands.others } in
-        let moved : (turn : Turn) → Moves c turn p d g [] = λ turn. Moves.next (page_done-moves c turn u k delete taken (refl, refl) (moves turn) stands goes) (Change.raises u stamp refl least (known-kept d p is proc u kept) tt) in
+        let moved : (turn : Turn) → DeskMoves c turn p d g [] = λ turn. DeskMoves.next (page_done-moves c turn u k delete taken (refl, refl) (moves turn) stands goes) (Change.raises u stamp refl least (known-kept d p is proc u kept) tt) in
         release_of-made c p d g u moved proc (moves-desk c (Turn.Ends Fine) p proc d g [] is (moved (Turn.Ends Fine))) idle delete
         (record { given = refl; idle = idle; writes = stands.writes; may = stands.may })
 
-    length-made : (n : ℕ) → moving_of d p ≡ None → ((turn : Turn) → Moves (Cause.AnswerCame (LockAnswer.LengthSettled u n delete taken stamp)) turn p d shut [])
+    length-made : (n : ℕ) → moving_of d p ≡ None → ((turn : Turn) → DeskMoves (Cause.AnswerCame (LockAnswer.LengthSettled u n delete taken stamp)) turn p d shut [])
         → IsMade (Cause.AnswerCame (LockAnswer.LengthSettled u n delete taken stamp)) p d (answered shut p (LockAnswer.LengthSettled u n delete taken stamp))
     length-made n still moves =
         let c = Cause.AnswerCame (LockAnswer.LengthSettled u n delete taken stamp) in
         let g = with_raised (with_length_done shut u n taken) u stamp in
         let idle : IsIdle g p = record { no_call = shut-call; no_page = still; keeping = stands.others } in
-        let moved : (turn : Turn) → Moves c turn p d g [] = λ turn. Moves.next (Moves.next (moves turn) (Change.length_settles u n delete taken stamp refl (record { no_call = shut-call; no_page = still; keeping = stands.others }) stands.writes))
+        let moved : (turn : Turn) → DeskMoves c turn p d g [] = λ turn. DeskMoves.next (DeskMoves.next (moves turn) (Change.length_settles u n delete taken stamp refl (record { no_call = shut-call; no_page = still; keeping = stands.others }) stands.writes))
         (Change.raises u stamp refl least (known-sent taken (known-kept d p is proc u kept)) tt) in
         release_of-made c p d g u moved proc (moves-desk c (Turn.Ends Fine) p proc d g [] is (moved (Turn.Ends Fine))) idle delete
         (record { given = refl; idle = idle; writes = stands.writes; may = stands.may })
@@ -125,7 +126,7 @@ module _ (d : DeskState) (p : ℕ) (is : IsDesk d) (proc : IsProc p) where
         known-sent false known = known
 
   -- the object was removed
-  removed-made : (u : ObjectName) → keeps (entry_at d.entries p u) ≡ false → Moves (Cause.AnswerCame (LockAnswer.Removed u)) (Turn.Ends Fine) p d (with_state shut p u Free 0) [] → (keeping : Bool)
+  removed-made : (u : ObjectName) → keeps (entry_at d.entries p u) ≡ false → DeskMoves (Cause.AnswerCame (LockAnswer.Removed u)) (Turn.Ends Fine) p d (with_state shut p u Free 0) [] → (keeping : Bool)
       → any_keeps (with_state shut p u Free 0).entries u ≡ keeping → IsMade (Cause.AnswerCame (LockAnswer.Removed u)) p d (removed (with_state shut p u Free 0) u keeping)
   removed-made u unkept moves true e = record {
     moves = moves;
@@ -137,7 +138,7 @@ module _ (d : DeskState) (p : ℕ) (is : IsDesk d) (proc : IsProc p) where
     may = tt;
   }
   removed-made u unkept moves false e = record {
-    moves = Moves.next (Moves.dropping moves (Change.drops_all u (LockAnswer.Removed u) refl refl e e)) (Change.forgets u refl e (page_at-without_object_same d.cache.pages u));
+    moves = DeskMoves.next (DeskMoves.dropping moves (Change.drops_all u (LockAnswer.Removed u) refl refl e e)) (Change.forgets u refl e (page_at-without_object_same d.cache.pages u));
     says = Says.answers (LockAnswer.Removed u) Fine refl (record {
       free = state-set u Free refl;
       pages = λ none. page_at-without_object_same d.cache.pages u;
@@ -146,7 +147,7 @@ module _ (d : DeskState) (p : ℕ) (is : IsDesk d) (proc : IsProc p) where
     may = answer-may d p (LockAnswer.Removed u) (dropped_of true (with_state shut p u Free 0) u) (unkept-before d p u unkept proc e);
   }
 
-  answered-made : (a : LockAnswer) (call : LockCall) → IsClosed d p a call → ((turn : Turn) → Moves (Cause.AnswerCame a) turn p d shut []) → IsMade (Cause.AnswerCame a) p d (answered shut p a)
+  answered-made : (a : LockAnswer) (call : LockCall) → IsClosed d p a call → ((turn : Turn) → DeskMoves (Cause.AnswerCame a) turn p d shut []) → IsMade (Cause.AnswerCame a) p d (answered shut p a)
   answered-made (LockAnswer.Granted u m grant stamp room n) call at_call moves =
       let stands = closed-stands d p (LockCall.Lock u m) (subst (CallStands d p) at_call.closes at_call.stands) in
       granted-made d p is.known u m grant stamp room n moves shut-call stands at_call.told.0 at_call.told.1 at_call.told.2 at_call.told.3 is.four.entries proc
@@ -174,7 +175,7 @@ module _ (d : DeskState) (p : ℕ) (is : IsDesk d) (proc : IsProc p) where
       answered-made a came.call at_call (λ turn. shut-moves (Cause.AnswerCame a) turn came.call at_call.closes at_call.opened at_call.stands)
 
   -- a link fault ended the call
-  failed-made : (call : LockCall) → CallStands d p call → ((turn : Turn) → Moves (Cause.CallFailed call) turn p d shut []) → IsMade (Cause.CallFailed call) p d (failed shut p call)
+  failed-made : (call : LockCall) → CallStands d p call → ((turn : Turn) → DeskMoves (Cause.CallFailed call) turn p d shut []) → IsMade (Cause.CallFailed call) p d (failed shut p call)
   failed-made (LockCall.Lock u m) stands moves = record {
     moves = lock-moves (Cause.CallFailed (LockCall.Lock u m)) (Turn.Ends Doubt) u m (Taking m) refl refl (moves _) stands;
     says = Says.call_fails (LockCall.Lock u m) (state-set u (Taking m) refl);

@@ -19,7 +19,7 @@ use Rattle.fault_handler.proofs.Fours.{at-put_other}
 use Rattle.fault_handler.specs.Outcomes.{Turn}
 use Rattle.desk_laws.specs.Causes.{Cause}
 use Rattle.desk_laws.specs.Untouched.{IsUntouched, IsSameDesk}
-use Rattle.desk_laws.specs.Moves.{Change, Moves}
+use Rattle.desk_laws.specs.DeskMoves.{Change, DeskMoves}
 
 -- after two changes
 untouched-then : (d e f : DeskState) (q : ℕ) → IsUntouched d e q → IsUntouched e f q → IsUntouched d f q
@@ -53,21 +53,21 @@ module _ (c : Cause) (turn : Turn) (p q : ℕ) (proc : IsProc p) (other : IsProc
   change-beside d e dropped (Change.unmaps u given idle there) = record { nodes = refl; entries = refl; maps = beside d.maps _ []; call = refl; task = refl; moving = refl }
   change-beside d e dropped change = record { nodes = refl; entries = refl; maps = refl; call = refl; task = refl; moving = refl }
 
-  pub moves-beside : (d e : DeskState) (dropped : List (ObjectName × ℕ)) → Moves c turn p d e dropped → IsUntouched d e q
-  moves-beside d e dropped Moves.none = record { nodes = refl; entries = refl; maps = refl; call = refl; task = refl; moving = refl }
-  moves-beside d e dropped (Moves.next {e = f} moves change) = untouched-then d f e q (moves-beside d f dropped moves) (change-beside f e [] change)
-  moves-beside d e dropped (Moves.dropping {e = f} moves change) = untouched-then d f e q (moves-beside d f [] moves) (change-beside f e dropped change)
+  pub moves-beside : (d e : DeskState) (dropped : List (ObjectName × ℕ)) → DeskMoves c turn p d e dropped → IsUntouched d e q
+  moves-beside d e dropped DeskMoves.none = record { nodes = refl; entries = refl; maps = refl; call = refl; task = refl; moving = refl }
+  moves-beside d e dropped (DeskMoves.next {e = f} moves change) = untouched-then d f e q (moves-beside d f dropped moves) (change-beside f e [] change)
+  moves-beside d e dropped (DeskMoves.dropping {e = f} moves change) = untouched-then d f e q (moves-beside d f [] moves) (change-beside f e dropped change)
 
 module _ (c : Cause) (turn : Turn) (p : ℕ) where
   change-same : (d e : DeskState) (dropped : List (ObjectName × ℕ)) → Change c turn p d e dropped → IsSameDesk d e
   change-same d e dropped (Change.fetches task does missing frame asks) = record { node = refl; nodes = refl; frames = refl }
   change-same d e dropped change = record { node = refl; nodes = refl; frames = refl }
 
-  pub moves-same : (d e : DeskState) (dropped : List (ObjectName × ℕ)) → Moves c turn p d e dropped → IsSameDesk d e
-  moves-same d e dropped Moves.none = record { node = refl; nodes = refl; frames = refl }
-  moves-same d e dropped (Moves.next {e = f} moves change) =
+  pub moves-same : (d e : DeskState) (dropped : List (ObjectName × ℕ)) → DeskMoves c turn p d e dropped → IsSameDesk d e
+  moves-same d e dropped DeskMoves.none = record { node = refl; nodes = refl; frames = refl }
+  moves-same d e dropped (DeskMoves.next {e = f} moves change) =
       let a = moves-same d f dropped moves in let b = change-same f e [] change in record { node = b.node ∙ a.node; nodes = b.nodes ∙ a.nodes; frames = b.frames ∙ a.frames }
-  moves-same d e dropped (Moves.dropping {e = f} moves change) =
+  moves-same d e dropped (DeskMoves.dropping {e = f} moves change) =
       let a = moves-same d f [] moves in let b = change-same f e dropped change in record { node = b.node ∙ a.node; nodes = b.nodes ∙ a.nodes; frames = b.frames ∙ a.frames }
 
 -- what is untouched stands as before

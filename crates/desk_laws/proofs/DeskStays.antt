@@ -35,7 +35,7 @@ use Rattle.lock_validate.proofs.Releasing.{dirty-another, changed-another}
 use Rattle.desk_laws.specs.Causes.{Cause}
 use Rattle.desk_laws.specs.Settled.{IsSettled}
 use Rattle.desk_laws.specs.Calls.{lock_object}
-use Rattle.desk_laws.specs.Moves.{Change, Moves}
+use Rattle.desk_laws.specs.DeskMoves.{Change, DeskMoves}
 
 -- a process of which no call is open, or one that is not a load's or store's
 closed-other : (d : DeskState) (p : ℕ) → open_call_of d p ≡ None → IsNotAccessing d p
@@ -110,7 +110,7 @@ module _ (c : Cause) (turn : Turn) (p : ℕ) (proc : IsProc p) where
   change-desk d e dropped desk (Change.maps u given idle held) = IsDesk-with_maps d p _ desk proc (IsLayout-mappings_after u (segments (room_of (known_of u d.known))) (maps_of d p) (desk.maps p proc) (segments-least d p desk proc idle u held))
   change-desk d e dropped desk (Change.unmaps u given idle there) = IsDesk-with_maps d p _ desk proc (IsLayout-without_mapping u (maps_of d p) (desk.maps p proc))
 
-  pub moves-desk : (d e : DeskState) (dropped : List (ObjectName × ℕ)) → IsDesk d → Moves c turn p d e dropped → IsDesk e
-  moves-desk d e dropped desk Moves.none = desk
-  moves-desk d e dropped desk (Moves.next {e = f} moves change) = change-desk f e [] (moves-desk d f dropped desk moves) change
-  moves-desk d e dropped desk (Moves.dropping {e = f} moves change) = change-desk f e dropped (moves-desk d f [] desk moves) change
+  pub moves-desk : (d e : DeskState) (dropped : List (ObjectName × ℕ)) → IsDesk d → DeskMoves c turn p d e dropped → IsDesk e
+  moves-desk d e dropped desk DeskMoves.none = desk
+  moves-desk d e dropped desk (DeskMoves.next {e = f} moves change) = change-desk f e [] (moves-desk d f dropped desk moves) change
+  moves-desk d e dropped desk (DeskMoves.dropping {e = f} moves change) = change-desk f e dropped (moves-desk d f [] desk moves) change

@@ -1,24 +1,13 @@
 -- The lowest dirty page of an object is dirty.
-use Rattle.std.proofs.Common.{◌≡◌, ℕ, true, min, List, [], ◌∷◌, Option, Some, None, inl, inr, ◌⊎◌, refl, ap, arith}
+use Rattle.std.proofs.Common.{◌≡◌, ℕ, true, List, [], ◌∷◌, Option, Some, None, inl, inr, ◌⊎◌, refl, arith}
 use Rattle.std.proofs.lemmas.Bool.Decides.{nat_tests}
-use Rattle.std.proofs.lemmas.Option.{same_Some}
 use Rattle.uid_names.specs.Names.{ObjectName}
 use Rattle.uid_names.proofs.ListLemmas.{by_cases, count_by-cons_passes, count_by-cons, count_by-found}
 use Rattle.page_cache.specs.Caches.{Resident, is_page, page_at}
-use Rattle.page_cache.specs.Numbers.{is_dirty_of, lesser, dirty_page}
+use Rattle.page_cache.specs.Numbers.{is_dirty_of, dirty_page}
+use Rattle.page_cache.proofs.PageLemmas.{lesser_is}
 use Rattle.fault_handler.specs.Invariant.{is_dirty}
 use Rattle.fault_handler.proofs.PageLists.{AreOnce}
-
--- the lesser of two is one of them
-lesser-is : (a k : ℕ) (o : Option ℕ) → lesser (Some a) o ≡ Some k → (a ≡ k) ⊎ (o ≡ Some k)
-lesser-is a k None found = inl (same_Some a k found)
-lesser-is a k (Some b) found = let least : min a b ≡ k = same_Some (min a b) k found in by_cases_min
-  where
-    by_cases_min : (a ≡ k) ⊎ (Some b ≡ Some k)
-    by_cases_min = elim (one (same_Some (min a b) k found)) [ inl e ↦ inl e | inr e ↦ inr (ap Some e) ]
-      where
-        one : min a b ≡ k → (a ≡ k) ⊎ (b ≡ k)
-        one e = grind arith
 
 -- a page that is dirty behind a page is dirty before it too
 later-dirty : (r : Resident) (pages : List Resident) (u : ObjectName) (k : ℕ) → AreOnce (r ∷ pages) → is_dirty (page_at pages u k) ≡ true → is_dirty (page_at (r ∷ pages) u k) ≡ true
@@ -39,7 +28,7 @@ lowest-dirty (r ∷ pages) u k once found =
     by_cases
     (is_dirty_of u r)
     (is_dirty (page_at (r ∷ pages) u k) ≡ true)
-    (λ dirty. elim (lesser-is r.page k (dirty_page pages u) (rw dirty at found)) [
+    (λ dirty. elim (lesser_is r.page k (dirty_page pages u) (rw dirty at found)) [
       | inl same ↦ (let here : is_page u k r ≡ true = grind (arith, nat_tests, dirty, same) in let flag : r.flags.dirty ≡ true = grind (arith, nat_tests, dirty) in rw here flag)
       | inr later ↦ later-dirty r pages u k once (lowest-dirty pages u k (tail once) later)
     ])

@@ -17,7 +17,7 @@ use Rattle.fault_handler.specs.Invariant.{IsProc, IsDesk}
 use Rattle.fault_handler.proofs.PageLists.{AreOnce}
 use Rattle.fault_handler.specs.Outcomes.{Turn}
 use Rattle.desk_laws.specs.Causes.{Cause}
-use Rattle.desk_laws.specs.Moves.{Change, Moves}
+use Rattle.desk_laws.specs.DeskMoves.{Change, DeskMoves}
 use Rattle.desk_laws.proofs.DeskStays.{moves-desk}
 
 -- a number goes to its place as any element does
@@ -100,7 +100,7 @@ module _ (c : Cause) (turn : Turn) (p : ℕ) (proc : IsProc p) where
   change-rise d e dropped desk (Change.drops_all u a given object may none) = emptied-rise u d.cache.pages desk.pages.once
   change-rise d e dropped desk change = none-rise
 
-  pub moves-rise : (d e : DeskState) (dropped : List (ObjectName × ℕ)) → IsDesk d → Moves c turn p d e dropped → ArePagesRising dropped
-  moves-rise d e dropped desk Moves.none = none-rise
-  moves-rise d e dropped desk (Moves.next {e = f} moves change) = moves-rise d f dropped desk moves
-  moves-rise d e dropped desk (Moves.dropping {e = f} moves change) = change-rise f e dropped (moves-desk c turn p proc d f [] desk moves) change
+  pub moves-rise : (d e : DeskState) (dropped : List (ObjectName × ℕ)) → IsDesk d → DeskMoves c turn p d e dropped → ArePagesRising dropped
+  moves-rise d e dropped desk DeskMoves.none = none-rise
+  moves-rise d e dropped desk (DeskMoves.next {e = f} moves change) = moves-rise d f dropped desk moves
+  moves-rise d e dropped desk (DeskMoves.dropping {e = f} moves change) = change-rise f e dropped (moves-desk c turn p proc d f [] desk moves) change

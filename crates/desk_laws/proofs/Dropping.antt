@@ -22,7 +22,7 @@ use Rattle.fault_handler.proofs.Accessing.{absent-without}
 use Rattle.fault_handler.specs.Outcomes.{Turn}
 use Rattle.desk_laws.specs.Causes.{Cause}
 use Rattle.desk_laws.specs.Loading.{LooksUp}
-use Rattle.desk_laws.specs.Moves.{Change, Moves}
+use Rattle.desk_laws.specs.DeskMoves.{Change, DeskMoves}
 
 -- at this cause a page comes
 abbrev IsCame : Cause → Type 0
@@ -188,14 +188,14 @@ module _ (c : Cause) (turn : Turn) (p : ℕ) where
   came-keeps d e dropped came (Change.drops_all u a given object may none) = absurd (subst IsCame given came)
   came-keeps d e dropped came change = refl
 
-  came-keeps_all : (d e : DeskState) (dropped : List (ObjectName × ℕ)) → IsCame c → Moves c turn p d e dropped → dropped ≡ []
-  came-keeps_all d e dropped came Moves.none = refl
-  came-keeps_all d e dropped came (Moves.next {e = f} moves change) = came-keeps_all d f dropped came moves
-  came-keeps_all d e dropped came (Moves.dropping {e = f} moves change) = came-keeps f e dropped came change
+  came-keeps_all : (d e : DeskState) (dropped : List (ObjectName × ℕ)) → IsCame c → DeskMoves c turn p d e dropped → dropped ≡ []
+  came-keeps_all d e dropped came DeskMoves.none = refl
+  came-keeps_all d e dropped came (DeskMoves.next {e = f} moves change) = came-keeps_all d f dropped came moves
+  came-keeps_all d e dropped came (DeskMoves.dropping {e = f} moves change) = came-keeps f e dropped came change
 
-  pub moves-drop : (d e : DeskState) (dropped : List (ObjectName × ℕ)) → Moves c turn p d e dropped → DropsOnly d.cache.pages e.cache.pages dropped
-  moves-drop d e dropped Moves.none = none-dropped d.cache.pages d.cache.pages (λ u k some. some)
-  moves-drop d e dropped (Moves.next {e = f} moves change) =
+  pub moves-drop : (d e : DeskState) (dropped : List (ObjectName × ℕ)) → DeskMoves c turn p d e dropped → DropsOnly d.cache.pages e.cache.pages dropped
+  moves-drop d e dropped DeskMoves.none = none-dropped d.cache.pages d.cache.pages (λ u k some. some)
+  moves-drop d e dropped (DeskMoves.next {e = f} moves change) =
       let before = moves-drop d f dropped moves in
       let after = change-after f e [] change in
       record {
@@ -205,7 +205,7 @@ module _ (c : Cause) (turn : Turn) (p : ℕ) where
         ];
         left = λ u k h some. after.drops.left u k refl (before.left u k h some);
       }
-  moves-drop d e dropped (Moves.dropping {e = f} moves change) =
+  moves-drop d e dropped (DeskMoves.dropping {e = f} moves change) =
       let before = moves-drop d f [] moves in
       let after = change-after f e dropped change in
       record { gone = after.drops.gone; left = λ u k h some. after.drops.left u k h (before.left u k refl some) }

@@ -5,6 +5,7 @@ use Rattle.std.proofs.lemmas.Bool.Decides.{nat_tests}
 use Rattle.uid_names.specs.Names.{ObjectName, same_uid}
 use Rattle.uid_names.specs.declared.limits.TheConstants.{PAGE_BYTES}
 use Rattle.uid_names.proofs.Tables.{row_of-named}
+use Rattle.uid_names.proofs.Orders.{same_uid-itself}
 use Rattle.dom_history.specs.declared.op.Spot.{Spot}
 use Rattle.dom_history.specs.declared.op.Spot.TheVariants.{Of, Addr}
 use Rattle.page_cache.specs.Caches.{Resident, is_page, page_at}
@@ -22,7 +23,6 @@ use Rattle.fault_handler.specs.Accesses.{DeskOp, Accessed, Always, target_of}
 use Rattle.fault_handler.specs.PageReplies.{PageAnswer}
 use Rattle.fault_handler.specs.LockCalls.{LockAnswer}
 use Rattle.fault_handler.proofs.KnownRows.{known_of-with_known, uid-grown}
-use Rattle.fault_handler.proofs.LockKeeps.{same_uid-own}
 use Rattle.lock_validate.specs.GrantDrops.{MayDropAt}
 use Rattle.lock_validate.proofs.States.{there-some}
 use Rattle.desk_laws.specs.Causes.{Cause}
@@ -35,7 +35,7 @@ Always-then p P Q follows (Accessed.Settled m) holds = follows m holds
 Always-then p P Q follows (Accessed.NeedsRoom d task) holds = λ victim may. follows _ (holds victim may)
 
 -- a spot means the same where the mappings do
-target_of-same : (d e : DeskState) (p : ℕ) (spot : Spot) → e.maps ≡ d.maps → target_of e p spot ≡ target_of d p spot
+pub target_of-same : (d e : DeskState) (p : ℕ) (spot : Spot) → e.maps ≡ d.maps → target_of e p spot ≡ target_of d p spot
 target_of-same d e p (Of u offset) same = refl
 target_of-same d e p (Addr address) same = ap (λ maps. target_in address (mapping_at address (at maps p []))) same
 
@@ -78,7 +78,7 @@ length-grown u end rows known = by_row (known_of u rows) refl known
     by_row None found some = absurd (cc)
     by_row (Some k) found some =
         let named : (grown end k).uid ≡ u = uid-grown end k ∙ row_of-named known_name u rows k found in
-        let own : same_uid u (grown end k).uid ≡ true = rw named (same_uid-own u) in
+        let own : same_uid u (grown end k).uid ≡ true = rw named (same_uid-itself u) in
         rw (known_of-with_known (grown end k) rows u, own) (long-enough k (nat_lt k.length end) refl)
 
 -- something is known of an object that a process keeps

@@ -8,7 +8,7 @@ use Rattle.fault_handler.specs.Transits.{is_moving, going}
 use Rattle.fault_handler.specs.Desks.{DeskState, at, moving_of, is_in_transit_there}
 use Rattle.fault_handler.specs.Invariant.{IsProc, FitsWay, FitsTransit, IsDesk}
 use Rattle.fault_handler.proofs.Fours.{any-of}
-use Rattle.fault_handler.proofs.Moves.{moving-uid, moving-page, FitsWay-named}
+use Rattle.fault_handler.proofs.MovingOthers.{moving-uid, moving-page, FitsWay-named}
 
 module _ (d : DeskState) (is : IsDesk d) (u : ObjectName) (k : ℕ) (there : IsSome (page_at d.cache.pages u k)) where
   outward : (q : ℕ) (t : Option Transit) → FitsTransit d.cache.pages d.entries q t → is_moving u k t ≡ true → t ≡ going u k

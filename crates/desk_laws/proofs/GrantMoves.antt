@@ -2,10 +2,12 @@
 use Rattle.std.proofs.Common.{◌≡◌, ℕ, ◌≤◌, Bool, true, false, [], length, Option, Some, None, IsSome, refl, sym, ap, ◌∙◌, arith}
 use Rattle.std.specs.Prelude.{not, ◌&&◌, ◌==◌}
 use Rattle.std.proofs.lemmas.Bool.Decides.{nat_tests}
+use Rattle.std.proofs.lemmas.Bool.{not-true}
 use Rattle.uid_names.specs.Names.{ObjectName, same_uid}
 use Rattle.uid_names.proofs.ListLemmas.{by_cases}
 use Rattle.uid_names.specs.Rooms.{IsRoom, IsLength}
 use Rattle.uid_names.specs.declared.mode.Mode.{Mode}
+use Rattle.uid_names.proofs.Passed.{left-true, right-true}
 use Rattle.dom_history.specs.declared.deed.LockState.TheVariants.{Held}
 use Rattle.dom_history.specs.declared.op.Reply.TheVariants.{Fine, NoObject}
 use Rattle.version_stamps.specs.Stamps.{stamp_of, raised}
@@ -24,14 +26,13 @@ use Rattle.fault_handler.proofs.Fours.{at-put_same, any-at, any-of}
 use Rattle.fault_handler.proofs.KnownRows.{known_of-with_known}
 use Rattle.fault_handler.proofs.LockKeeps.{entry_of-after_same}
 use Rattle.fault_handler.proofs.PageLists.{page_at-without_object_same}
-use Rattle.fault_handler.proofs.Replying.{not-true}
 use Rattle.lock_validate.specs.Answers.{after_drop, dropped_of, is_seen, is_fresh, known_learned, learned, granted, gone}
-use Rattle.lock_validate.proofs.Dropping.{right-true, none-keeps, left-true}
+use Rattle.lock_validate.proofs.Dropping.{none-keeps}
 use Rattle.lock_validate.proofs.States.{free-unheld, unheld-unkept}
 use Rattle.desk_laws.specs.Causes.{Cause}
 use Rattle.desk_laws.specs.Dropped.{MayDropPages}
 use Rattle.desk_laws.specs.Told.{told_row}
-use Rattle.desk_laws.specs.Moves.{Change, Moves}
+use Rattle.desk_laws.specs.DeskMoves.{Change, DeskMoves}
 use Rattle.desk_laws.specs.Turns.{Says, IsMade}
 use Rattle.desk_laws.proofs.Facts.{answer-may}
 use Rattle.desk_laws.proofs.LockSaid.{known-with}
@@ -50,7 +51,7 @@ module _ (d : DeskState) (p : ℕ) (are_known : AreKnown d.seen d.known d.entrie
   abbrev g : DeskState
   g = with_call d p None
 
-  module _ (m : Mode) (grant stamp room n : ℕ) (moves : (turn : Turn) → Moves (Cause.AnswerCame (LockAnswer.Granted u m grant stamp room n)) turn p d g []) (closed : open_call_of g p ≡ None) (stands : LockStands g p u)
+  module _ (m : Mode) (grant stamp room n : ℕ) (moves : (turn : Turn) → DeskMoves (Cause.AnswerCame (LockAnswer.Granted u m grant stamp room n)) turn p d g []) (closed : open_call_of g p ≡ None) (stands : LockStands g p u)
       (grants : 1 ≤ grant) (least : 1 ≤ stamp) (is_room : IsRoom room) (is_length : IsLength n) where
     abbrev cause : Cause
     cause = Cause.AnswerCame (LockAnswer.Granted u m grant stamp room n)
@@ -62,10 +63,10 @@ module _ (d : DeskState) (p : ℕ) (are_known : AreKnown d.seen d.known d.entrie
     alone-keeps alone = none-keeps g p u unkept (not-true (others_keep g.entries p u) alone)
 
     -- pages of another stamp are dropped
-    dropped-moves : (b : Bool) → (not (others_keep g.entries p u) && not (is_seen stamp (stamp_of u g.seen))) ≡ b → Moves cause (Turn.Ends Fine) p d (after_drop b g u) (dropped_of b g u)
+    dropped-moves : (b : Bool) → (not (others_keep g.entries p u) && not (is_seen stamp (stamp_of u g.seen))) ≡ b → DeskMoves cause (Turn.Ends Fine) p d (after_drop b g u) (dropped_of b g u)
     dropped-moves true e =
         let none = alone-keeps (left-true (not (others_keep g.entries p u)) (not (is_seen stamp (stamp_of u g.seen))) e) in
-        Moves.dropping (moves _) (Change.drops_all u (LockAnswer.Granted u m grant stamp room n) refl refl
+        DeskMoves.dropping (moves _) (Change.drops_all u (LockAnswer.Granted u m grant stamp room n) refl refl
         (none, not-true (is_seen stamp (stamp_of u g.seen)) (right-true (not (others_keep g.entries p u)) (not (is_seen stamp (stamp_of u g.seen))) e)) none)
     dropped-moves false e = moves _
 
@@ -80,10 +81,10 @@ module _ (d : DeskState) (p : ℕ) (are_known : AreKnown d.seen d.known d.entrie
     row = told_row u room n
 
     learned-moves : (b f : Bool) → (not (others_keep g.entries p u) && not (is_seen stamp (stamp_of u g.seen))) ≡ b → (not (others_keep g.entries p u) && is_fresh stamp (stamp_of u g.seen)) ≡ f
-        → Moves cause (Turn.Ends Fine) p d (record (after_drop b g u) { known = known_learned f row g.known }) (dropped_of b g u)
+        → DeskMoves cause (Turn.Ends Fine) p d (record (after_drop b g u) { known = known_learned f row g.known }) (dropped_of b g u)
     learned-moves b true drops e =
         let alone = left-true (not (others_keep g.entries p u)) (is_fresh stamp (stamp_of u g.seen)) e in
-        Moves.next (dropped-moves b drops)
+        DeskMoves.next (dropped-moves b drops)
         (Change.learns u m grant stamp room n refl (not-true (others_keep g.entries p u) alone) (alone-keeps alone) (right-true (not (others_keep g.entries p u)) (is_fresh stamp (stamp_of u g.seen)) e) is_room is_length)
     learned-moves b false drops e = dropped-moves b drops
 
@@ -129,9 +130,9 @@ module _ (d : DeskState) (p : ℕ) (are_known : AreKnown d.seen d.known d.entrie
     is-learned false e none fresh = absurd (let alone = none-else none in let h : (not (others_keep g.entries p u) && is_fresh stamp (stamp_of u g.seen)) ≡ true = rw (alone, fresh) refl in let x : true ≡ false = sym h ∙ e in cc)
 
     granted-by : (alone_drop alone_fresh : Bool) → (not (others_keep g.entries p u) && not (is_seen stamp (stamp_of u g.seen))) ≡ alone_drop → (not (others_keep g.entries p u) && is_fresh stamp (stamp_of u g.seen)) ≡ alone_fresh
-        → Moves cause (Turn.Ends Fine) p d (with_state (learned alone_fresh (after_drop alone_drop g u) u stamp room n) p u (Held m) grant) (dropped_of alone_drop g u)
+        → DeskMoves cause (Turn.Ends Fine) p d (with_state (learned alone_fresh (after_drop alone_drop g u) u stamp room n) p u (Held m) grant) (dropped_of alone_drop g u)
     granted-by b f drops fresh =
-        Moves.next (Moves.next (learned-moves b f drops fresh) (Change.raises u stamp refl least (known-learned f fresh) (record { pages = left b drops; known = is-learned f fresh })))
+        DeskMoves.next (DeskMoves.next (learned-moves b f drops fresh) (Change.raises u stamp refl least (known-learned f fresh) (record { pages = left b drops; known = is-learned f fresh })))
         (Change.sets (LockCall.Lock u m) u (Held m) grant (record {
           given = refl;
           closed = closed;
@@ -156,10 +157,10 @@ module _ (d : DeskState) (p : ℕ) (are_known : AreKnown d.seen d.known d.entrie
     }
 
   -- the object is gone
-  pub gone-made : ((turn : Turn) → Moves (Cause.AnswerCame (LockAnswer.Gone u)) turn p d g []) → (keeping : Bool) → any_keeps g.entries u ≡ keeping → IsMade (Cause.AnswerCame (LockAnswer.Gone u)) p d (gone g u keeping)
+  pub gone-made : ((turn : Turn) → DeskMoves (Cause.AnswerCame (LockAnswer.Gone u)) turn p d g []) → (keeping : Bool) → any_keeps g.entries u ≡ keeping → IsMade (Cause.AnswerCame (LockAnswer.Gone u)) p d (gone g u keeping)
   gone-made moves true e = record { moves = moves _; says = Says.answers (LockAnswer.Gone u) NoObject refl (λ none k. absurd (let h : true ≡ false = sym e ∙ none in cc)); may = tt }
   gone-made moves false e = record {
-    moves = Moves.dropping (moves _) (Change.drops_all u (LockAnswer.Gone u) refl refl e e);
+    moves = DeskMoves.dropping (moves _) (Change.drops_all u (LockAnswer.Gone u) refl refl e e);
     says = Says.answers (LockAnswer.Gone u) NoObject refl (λ none. page_at-without_object_same d.cache.pages u);
     may = answer-may d p (LockAnswer.Gone u) (dropped_of true g u) e;
   }

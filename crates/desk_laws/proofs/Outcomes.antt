@@ -5,6 +5,7 @@ use Rattle.std.proofs.lemmas.Bool.Decides.{nat_tests}
 use Rattle.std.proofs.lemmas.Option.{same_Some}
 use Rattle.uid_names.specs.Names.{ObjectName, same_uid}
 use Rattle.uid_names.proofs.ListLemmas.{by_cases}
+use Rattle.uid_names.proofs.Passed.{right-true}
 use Rattle.dom_history.specs.Replies.{may_write, may_delete}
 use Rattle.page_cache.specs.Numbers.{lesser}
 use Rattle.fault_handler.specs.declared.transits.Transit.{Transit}
@@ -17,7 +18,6 @@ use Rattle.fault_handler.specs.Invariant.{IsProc}
 use Rattle.fault_handler.proofs.Fours.{first, second, third, fourth, any-of, apart-is}
 use Rattle.lock_validate.specs.Releases.{release_ask}
 use Rattle.lock_validate.proofs.States.{deletes-writes}
-use Rattle.lock_validate.proofs.Dropping.{right-true}
 use Rattle.desk_laws.specs.Causes.{Cause}
 use Rattle.desk_laws.specs.Settled.{IsSettled, GivesUpSettled}
 use Rattle.desk_laws.specs.Waiting.{WaitsForAnother, WaitsForFetch}

@@ -3,6 +3,7 @@ use Rattle.std.proofs.Common.{◌≡◌, ℕ, ◌≤◌, nat_lt, Bool, true, fal
 use Rattle.std.proofs.lemmas.Option.{same_Some}
 use Rattle.uid_names.specs.Names.{ObjectName}
 use Rattle.uid_names.specs.declared.limits.TheConstants.{PAGE_BYTES}
+use Rattle.uid_names.proofs.Somes.{there_is}
 use Rattle.page_cache.specs.Caches.{Resident, page_at}
 use Rattle.fault_handler.specs.declared.tasks.Task.{Task}
 use Rattle.fault_handler.specs.declared.transits.Transit.{Transit}
@@ -21,10 +22,10 @@ use Rattle.dom_history.specs.declared.op.Reply.TheVariants.{Fine, LinkFault}
 use Rattle.fault_handler.proofs.Answering.{coming-needed, going-own}
 use Rattle.fault_handler.proofs.Fours.{at-put_same}
 use Rattle.fault_handler.proofs.PageLists.{page_at-changed_same, found-uid, found-page}
-use Rattle.fault_handler.proofs.TransitKeeps.{there_is, open_task, going-resident}
+use Rattle.fault_handler.proofs.TransitKeeps.{open_task, going-resident}
 use Rattle.desk_laws.specs.Causes.{Cause, IsPageAnswer}
 use Rattle.desk_laws.specs.Loading.{Does, Fetches, MakesRoom}
-use Rattle.desk_laws.specs.Moves.{Change, Moves}
+use Rattle.desk_laws.specs.DeskMoves.{Change, DeskMoves}
 use Rattle.desk_laws.specs.Turns.{Says, IsMade}
 use Rattle.desk_laws.proofs.DeskStays.{moves-desk}
 use Rattle.desk_laws.proofs.Facts.{page_at-fresh, known-kept}
@@ -43,9 +44,9 @@ module _ (d : DeskState) (p : ℕ) (is : IsDesk d) (proc : IsProc p) where
     abbrev arrived_desk : DeskState
     arrived_desk = with_arrival raised_desk p task.uid (page_of task) bytes
 
-    arrived : nat_lt stamp (base_of d.seen task.uid) ≡ false → (reply : Reply) → Moves came (Turn.Ends reply) p d arrived_desk []
+    arrived : nat_lt stamp (base_of d.seen task.uid) ≡ false → (reply : Reply) → DeskMoves came (Turn.Ends reply) p d arrived_desk []
     arrived fresh reply =
-        Moves.next (Moves.next Moves.none (Change.raises task.uid stamp refl least (known-kept d p is proc task.uid fetches.allowed.kept) tt))
+        DeskMoves.next (DeskMoves.next DeskMoves.none (Change.raises task.uid stamp refl least (known-kept d p is proc task.uid fetches.allowed.kept) tt))
         (Change.arrives task stamp bytes reply refl
         (record { accessing = fetches.accessing; opened = fetches.opened; moves = fetches.moves; absent = fetches.absent; allowed = fetches.allowed; keeping = fetches.keeping })
         (seen-raised d task.uid stamp fresh) whole refl)
@@ -58,7 +59,7 @@ module _ (d : DeskState) (p : ℕ) (is : IsDesk d) (proc : IsProc p) where
     }
 
     by_stamp-made : (old : Bool) → nat_lt stamp (base_of d.seen task.uid) ≡ old → IsMade came p d (page_by_stamp d p task stamp bytes old)
-    by_stamp-made true e = record { moves = Moves.none; says = Says.asks_page came task refl fetches; may = tt }
+    by_stamp-made true e = record { moves = DeskMoves.none; says = Says.asks_page came task refl fetches; may = tt }
     by_stamp-made false e =
         performed-made came p d arrived_desk task (arrived e) does refl proc (moves-desk came (Turn.Ends Fine) p proc d arrived_desk [] is (arrived e Fine)) task.work (fresh_page task.uid (page_of task) bytes) refl
         (page_at-fresh task.uid (page_of task) bytes d.cache.pages)
@@ -68,9 +69,9 @@ module _ (d : DeskState) (p : ℕ) (is : IsDesk d) (proc : IsProc p) where
     abbrev taken : Cause
     taken = Cause.PageCame (PageAnswer.Taken task r stamp)
 
-    taken-moves : (turn : Turn) → Moves taken turn p d (room_taken d p r stamp) []
+    taken-moves : (turn : Turn) → DeskMoves taken turn p d (room_taken d p r stamp) []
     taken-moves turn =
-        Moves.next (Moves.next Moves.none (Change.settles_room task r true (refl, refl, refl) room)) (Change.raises r.uid stamp refl least (known-going d p is proc r.uid r.page room.sends.moves) tt)
+        DeskMoves.next (DeskMoves.next DeskMoves.none (Change.settles_room task r true (refl, refl, refl) room)) (Change.raises r.uid stamp refl least (known-going d p is proc r.uid r.page room.sends.moves) tt)
 
     taken-made : Always p (IsMade taken p d) (page_came_of d p (PageAnswer.Taken task r stamp))
     taken-made =
@@ -89,7 +90,7 @@ module _ (d : DeskState) (p : ℕ) (is : IsDesk d) (proc : IsProc p) where
     not_taken-made : Always p (IsMade not_taken p d) (page_came_of d p (PageAnswer.NotTaken task r stamp))
     not_taken-made = record {
       may = tt;
-      moves = Moves.next (Moves.next Moves.none (Change.raises r.uid stamp refl least (known-going d p is proc r.uid r.page room.sends.moves) tt))
+      moves = DeskMoves.next (DeskMoves.next DeskMoves.none (Change.raises r.uid stamp refl least (known-going d p is proc r.uid r.page room.sends.moves) tt))
           (Change.sends_again task r stamp refl (record { accessing = room.accessing; opened = room.opened; sends = record { moves = room.sends.moves; there = room.sends.there }; dirty = room.dirty; allowed = room.allowed; keeping = room.keeping }) refl);
       says = Says.sends_room not_taken task (as_sent r) refl (record {
         accessing = room.accessing;
@@ -133,14 +134,14 @@ module _ (d : DeskState) (p : ℕ) (is : IsDesk d) (proc : IsProc p) where
           subst (λ (v : ObjectName). moving_of d p ≡ going v k → page_at d.cache.pages v k ≡ Some r → is_dirty (page_at d.cache.pages v k) ≡ true → IsMade (Cause.AccessFailed t) p d (ended (with_room_settled d p v k false) LinkFault)) named
           (subst (λ (j : ℕ). moving_of d p ≡ going r.uid j → page_at d.cache.pages r.uid j ≡ Some r → is_dirty (page_at d.cache.pages r.uid j) ≡ true → IsMade (Cause.AccessFailed t) p d (ended (with_room_settled d p r.uid j false) LinkFault)) numbered
           (λ goes there dirty. record {
-            moves = Moves.next Moves.none (Change.settles_room opened.0 r false refl (makes-of d p is proc accessing opened.0 opened.1 opened.2.allowed r goes there dirty));
+            moves = DeskMoves.next DeskMoves.none (Change.settles_room opened.0 r false refl (makes-of d p is proc accessing opened.0 opened.1 opened.2.allowed r goes there dirty));
             says = Says.access_fails t;
             may = tt;
           }))
 
       by_way : (b : Bool) → t.inward ≡ b → IsMade (Cause.AccessFailed t) p d (ended (failed_way d p t b) LinkFault)
       by_way true way = record {
-        moves = Moves.next Moves.none (Change.loses opened.0 t refl (fetches-of d p is proc accessing opened.0 opened.1 opened.2.allowed (coming-needed d p is proc accessing opened.0 t opened.1 moves opened.2 way)));
+        moves = DeskMoves.next DeskMoves.none (Change.loses opened.0 t refl (fetches-of d p is proc accessing opened.0 opened.1 opened.2.allowed (coming-needed d p is proc accessing opened.0 t opened.1 moves opened.2 way)));
         says = Says.access_fails t;
         may = tt;
       }

@@ -31,16 +31,16 @@ use Rattle.fault_handler.proofs.Accessing.{absent-without}
 use Rattle.desk_laws.specs.Causes.{Cause}
 use Rattle.desk_laws.specs.Dropped.{MayDropPages}
 use Rattle.desk_laws.specs.Loading.{IsTaskIn, LooksUp, Does, IsMissing, HasFrame}
-use Rattle.desk_laws.specs.Moves.{Change, Moves}
+use Rattle.desk_laws.specs.DeskMoves.{Change, DeskMoves}
 use Rattle.desk_laws.specs.Turns.{Says, IsMade}
 use Rattle.desk_laws.proofs.Facts.{IsTaskIn-same, length-grown, known-kept}
 
 -- the page is asked for on a desk that has a frame for it
 module _ (c : Cause) (p : ℕ) (d h : DeskState) (task : Task) (proc : IsProc p) (four : IsFour h) (does : Does c p h task) (given : IsTaskIn d p c task) where
-  fetched-made : (dropped : List (ObjectName × ℕ)) → Moves c (Turn.Asks task.uid.home (Ask.PageIn task.uid (page_of task))) p d h dropped → MayDropPages d p c dropped → IsMissing c p h task → HasFrame h → IsMade c p d (fetched h p task dropped)
+  fetched-made : (dropped : List (ObjectName × ℕ)) → DeskMoves c (Turn.Asks task.uid.home (Ask.PageIn task.uid (page_of task))) p d h dropped → MayDropPages d p c dropped → IsMissing c p h task → HasFrame h → IsMade c p d (fetched h p task dropped)
   fetched-made dropped moves may missing frame = record {
     may = may;
-    moves = Moves.next moves (Change.fetches task does missing frame refl);
+    moves = DeskMoves.next moves (Change.fetches task does missing frame refl);
     says = Says.asks_page c task given (record {
       accessing = at-put_same h.calls p (Some Access) None four.calls proc;
       opened = at-put_same h.tasks p (Some task) None four.tasks proc;
@@ -52,7 +52,7 @@ module _ (c : Cause) (p : ℕ) (d h : DeskState) (task : Task) (proc : IsProc p)
   }
 
 -- d is the desk before the call, and g that on which the load or store is made. The page is resident
-module _ (c : Cause) (p : ℕ) (d g : DeskState) (task : Task) (moves : (reply : Reply) → Moves c (Turn.Ends reply) p d g []) (does : Does c p g task) (given : IsTaskIn d p c task) (proc : IsProc p) (desk : IsDesk g) where
+module _ (c : Cause) (p : ℕ) (d g : DeskState) (task : Task) (moves : (reply : Reply) → DeskMoves c (Turn.Ends reply) p d g []) (does : Does c p g task) (given : IsTaskIn d p c task) (proc : IsProc p) (desk : IsDesk g) where
   -- the same desk for the load or store, once its page changed
   does-stored : (k offset : ℕ) (bytes : List ℕ) → Does c p (with_stored g task.uid k offset bytes) task
   does-stored k offset bytes = record {
@@ -64,12 +64,12 @@ module _ (c : Cause) (p : ℕ) (d g : DeskState) (task : Task) (moves : (reply :
   pub performed-made : (work : Work) (r : Resident) → task.work ≡ work → page_at g.cache.pages task.uid (page_of task) ≡ Some r → IsMade c p d (performed g task work r)
   performed-made (Load count) r is there = record {
     may = tt;
-    moves = Moves.next (moves _) (Change.uses task count r does is there refl);
+    moves = DeskMoves.next (moves _) (Change.uses task count r does is there refl);
     says = Says.loads c task count r given is (page_at-used g.cache.pages task.uid (page_of task) task.uid (page_of task) ∙ there);
   }
   performed-made (Store bytes) r is there = record {
     may = tt;
-    moves = Moves.next (Moves.next (moves _) (Change.stores task bytes r does is there refl)) (Change.grows task bytes (does-stored (page_of task) (start_of task) bytes) is refl);
+    moves = DeskMoves.next (DeskMoves.next (moves _) (Change.stores task bytes r does is there refl)) (Change.grows task bytes (does-stored (page_of task) (start_of task) bytes) is refl);
     says = Says.stores c task bytes r given is
         (page_at-changed_same task.uid (page_of task) (written (start_of task) bytes) (λ v j q. refl) (used g.cache.pages task.uid (page_of task))
         ∙ ap (option_map (written (start_of task) bytes)) (page_at-used g.cache.pages task.uid (page_of task) task.uid (page_of task) ∙ there))
@@ -77,7 +77,7 @@ module _ (c : Cause) (p : ℕ) (d g : DeskState) (task : Task) (moves : (reply :
   }
 
 -- or it is looked for
-module _ (c : Cause) (p : ℕ) (d g : DeskState) (task : Task) (moves : (turn : Turn) → Moves c turn p d g []) (does : Does c p g task) (given : IsTaskIn d p c task) (proc : IsProc p) (desk : IsDesk g) where
+module _ (c : Cause) (p : ℕ) (d g : DeskState) (task : Task) (moves : (turn : Turn) → DeskMoves c turn p d g []) (does : Does c p g task) (given : IsTaskIn d p c task) (proc : IsProc p) (desk : IsDesk g) where
   -- the same desk for it, once another page was dropped
   does-dropped : (u : ObjectName) (k : ℕ) → Does c p (with_dropped g u k) task
   does-dropped u k = record {
@@ -96,7 +96,7 @@ module _ (c : Cause) (p : ℕ) (d g : DeskState) (task : Task) (moves : (turn : 
         let still : is_in_transit_there g.moving r.uid r.page ≡ false = not-true (is_in_transit_there g.moving r.uid r.page) chosen.1 in
         record {
           may = tt;
-          moves = Moves.next (moves _) (Change.evicts task r does missing full clean there dirty still refl);
+          moves = DeskMoves.next (moves _) (Change.evicts task r does missing full clean there dirty still refl);
           says = Says.sends_room c task (as_sent r) given (record {
             accessing = at-put_same g.calls p (Some Access) None desk.four.calls proc;
             opened = at-put_same g.tasks p (Some task) None desk.four.tasks proc;
@@ -115,7 +115,7 @@ module _ (c : Cause) (p : ℕ) (d g : DeskState) (task : Task) (moves : (turn : 
     room_made-made full (Victim.Drops u k) may =
         fetched-made c p d (with_dropped g u k) task proc
         (record { entries = desk.four.entries; maps = desk.four.maps; calls = desk.four.calls; tasks = desk.four.tasks; moving = desk.four.moving })
-        (does-dropped u k) given ((u, k) ∷ []) (Moves.dropping (moves _) (Change.drops task u k does missing full may refl)) (may_drop u k (full, may))
+        (does-dropped u k) given ((u, k) ∷ []) (DeskMoves.dropping (moves _) (Change.drops task u k does missing full may refl)) (may_drop u k (full, may))
         (record { looked = missing.looked; absent = absent-without g.cache.pages u k task.uid (page_of task) missing.absent; unasked = missing.unasked })
         (HasFrame.emptied g u k full may)
     room_made-made full (Victim.SendsHome r) may = sent-made r full may.0 may.1

@@ -4,6 +4,7 @@ use Rattle.std.proofs.lemmas.Bool.Decides.{nat_tests}
 use Rattle.uid_names.specs.Names.{ObjectName}
 use Rattle.uid_names.specs.declared.limits.TheConstants.{PROCESS_LOCKS}
 use Rattle.uid_names.specs.declared.mode.Mode.{Mode}
+use Rattle.uid_names.proofs.Somes.{there_is}
 use Rattle.dom_history.specs.declared.op.Reply.{Reply}
 use Rattle.dom_history.specs.Locks.{is_free, is_held, is_unsettled}
 use Rattle.dom_history.specs.Replies.{may_write, may_delete}
@@ -26,7 +27,6 @@ use Rattle.fault_handler.specs.Ready.{ReleaseStands}
 use Rattle.fault_handler.proofs.Fours.{at-put_same}
 use Rattle.fault_handler.proofs.PageLists.{page_at-changed_same}
 use Rattle.fault_handler.proofs.Nothing.{none-dirty, none-moved, none-changed}
-use Rattle.fault_handler.proofs.TransitKeeps.{there_is}
 use Rattle.fault_handler.proofs.Beginning.{keeps-writes}
 use Rattle.lock_validate.specs.Steps.{sent}
 use Rattle.lock_validate.specs.Locking.{lock_by, begin_lock_of}
@@ -37,20 +37,20 @@ use Rattle.lock_validate.proofs.States.{writes-held, held-there, neither-free, d
 use Rattle.desk_laws.specs.Causes.{Cause}
 use Rattle.desk_laws.specs.Settled.{IsSettled}
 use Rattle.desk_laws.specs.Releasing.{releasing_in, IsReleasing}
-use Rattle.desk_laws.specs.Moves.{Change, Moves}
+use Rattle.desk_laws.specs.DeskMoves.{Change, DeskMoves}
 use Rattle.desk_laws.specs.Refusals.{Refuses}
 use Rattle.desk_laws.specs.Turns.{Says, IsMade}
 use Rattle.desk_laws.proofs.AccessMoves.{refused-made}
 use Rattle.desk_laws.proofs.DirtyPages.{lowest-dirty}
 
 -- d is the desk before the call, and g that on which the tests are made
-module _ (c : Cause) (p : ℕ) (d g : DeskState) (u : ObjectName) (moves : (turn : Turn) → Moves c turn p d g []) (proc : IsProc p) (desk : IsDesk g) (idle : IsIdle g p) where
+module _ (c : Cause) (p : ℕ) (d g : DeskState) (u : ObjectName) (moves : (turn : Turn) → DeskMoves c turn p d g []) (proc : IsProc p) (desk : IsDesk g) (idle : IsIdle g p) where
   -- a release or a removal is noted and asked for
   noted-made : (delete : Bool) → releasing_in c ≡ Some (delete, u) → is_held (state_of g p u) ≡ true → (delete ≡ true → may_delete (state_of g p u) ≡ true)
       → (may_write (state_of g p u) ≡ true → IsSettled g p u) → IsMade c p d (sent (with_note g p u) p (release_call delete u) u.home (release_ask delete u))
   noted-made delete given held may settled = record {
     may = tt;
-    moves = Moves.next (Moves.next (moves _) (Change.notes delete u given idle held may settled refl)) (opened delete given);
+    moves = DeskMoves.next (DeskMoves.next (moves _) (Change.notes delete u given idle held may settled refl)) (opened delete given);
     says = Says.gives_up c delete u given (at-put_same g.calls p (Some (open_call (release_call delete u))) None desk.four.calls proc)
         (λ e. ap may_delete (state-noted g p u desk proc) ∙ may e)
         (λ writes. let all = settled (sym (ap may_write (state-noted g p u desk proc)) ∙ writes) in record { clean = all.clean; still = all.still; length = all.length });
@@ -74,7 +74,7 @@ module _ (c : Cause) (p : ℕ) (d g : DeskState) (u : ObjectName) (moves : (turn
     length_first-made : (o : Option ℕ) → changed_length (known_of u g.known) ≡ o → dirty_page g.cache.pages u ≡ None → other_transit g.moving p u ≡ None → IsMade c p d (length_first g p u delete o)
     length_first-made (Some n) found clean still = record {
       may = tt;
-      moves = Moves.next (moves _) (Change.opens (LockCall.AttrOut u n delete) (Ask.AttrOut u n (grant_in (entry_at g.entries p u)) (base_of g.seen u)) (releasing.given, found) idle.no_call (record { writes = releasing.writes; may = releasing.may; others = idle.keeping }, idle.no_page) node refl);
+      moves = DeskMoves.next (moves _) (Change.opens (LockCall.AttrOut u n delete) (Ask.AttrOut u n (grant_in (entry_at g.entries p u)) (base_of g.seen u)) (releasing.given, found) idle.no_call (record { writes = releasing.writes; may = releasing.may; others = idle.keeping }, idle.no_page) node refl);
       says = Says.sends_length c delete u n releasing.given (at-put_same g.calls p (Some (open_call (LockCall.AttrOut u n delete))) None desk.four.calls proc) found;
     }
     length_first-made None found clean still =
@@ -85,7 +85,7 @@ module _ (c : Cause) (p : ℕ) (d g : DeskState) (u : ObjectName) (moves : (turn
         → IsMade c p d (sent (with_sent_page g p u k) p (LockCall.PageOut u k delete) u.home (own_page_out g p u k r.bytes))
     page_sent-made k r there found still = record {
       may = tt;
-      moves = Moves.next (Moves.next (moves _) (Change.sends delete u k r releasing still found there (rw there at (lowest-dirty g.cache.pages u k desk.pages.once found)) refl))
+      moves = DeskMoves.next (DeskMoves.next (moves _) (Change.sends delete u k r releasing still found there (rw there at (lowest-dirty g.cache.pages u k desk.pages.once found)) refl))
           (Change.opens (LockCall.PageOut u k delete) (own_page_out g p u k r.bytes) releasing.given idle.no_call (record { writes = releasing.writes; may = releasing.may; others = idle.keeping }, at-put_same g.moving p (going u k) None desk.four.moving proc) node refl);
       says = Says.sends_page c delete u k (as_sent r) releasing.given (at-put_same g.calls p (Some (open_call (LockCall.PageOut u k delete))) None desk.four.calls proc) (record {
         moves = at-put_same g.moving p (going u k) None desk.four.moving proc;
@@ -115,7 +115,7 @@ module _ (d : DeskState) (p : ℕ) (u : ObjectName) (is : IsDesk d) (proc : IsPr
   lock_by-made m false false false false h s f n = refused-made (Cause.Locks u m) p d Reply.NoObject (Refuses.lock_elsewhere u m (neither-free (state_of d p u) h s) f n)
   lock_by-made m false false false true h s f n = record {
     may = tt;
-    moves = Moves.next Moves.none (Change.opens (LockCall.Lock u m) (Ask.Lock u m) refl idle.no_call (record { free = neither-free (state_of d p u) h s; room = room; node = node; still = idle.no_page; others = idle.keeping }) node refl);
+    moves = DeskMoves.next DeskMoves.none (Change.opens (LockCall.Lock u m) (Ask.Lock u m) refl idle.no_call (record { free = neither-free (state_of d p u) h s; room = room; node = node; still = idle.no_page; others = idle.keeping }) node refl);
     says = Says.asks_lock u m (at-put_same d.calls p (Some (open_call (LockCall.Lock u m))) None is.four.calls proc);
   }
     where
@@ -131,17 +131,17 @@ module _ (d : DeskState) (p : ℕ) (u : ObjectName) (is : IsDesk d) (proc : IsPr
   -- the desk on which the process writes the object
   begins-made : (delete : Bool) → is_held (state_of d p u) ≡ true → may_write (state_of d p u) ≡ true → (delete ≡ true → may_delete (state_of d p u) ≡ true) → IsMade (Cause.Releases delete u) p d (release_of d p u delete)
   begins-made delete held writes may =
-      release_of-made (Cause.Releases delete u) p d d u (λ turn. Moves.none) proc is idle delete
+      release_of-made (Cause.Releases delete u) p d d u (λ turn. DeskMoves.none) proc is idle delete
       (record { given = refl; idle = idle; writes = keeps-writes (entry_at d.entries p u) (idle.keeping u held) writes; may = may })
 
   unlock_by-made : (free held writes : Bool) → is_free (state_of d p u) ≡ free → is_held (state_of d p u) ≡ held → may_write (state_of d p u) ≡ writes → IsMade (Cause.Releases false u) p d (unlock_by d p u free held writes)
   unlock_by-made true held writes f h w = refused-made (Cause.Releases false u) p d Reply.NotHeld (Refuses.unlock_free u f)
   unlock_by-made false true true f h w = begins-made false h w (λ e. absurd (cc))
   unlock_by-made false true false f h w =
-      noted-made (Cause.Releases false u) p d d u (λ turn. Moves.none) proc is idle false refl h (λ e. absurd (cc)) (λ writes. absurd (let e : true ≡ false = sym writes ∙ w in cc))
+      noted-made (Cause.Releases false u) p d d u (λ turn. DeskMoves.none) proc is idle false refl h (λ e. absurd (cc)) (λ writes. absurd (let e : true ≡ false = sym writes ∙ w in cc))
   unlock_by-made false false writes f h w = record {
     may = tt;
-    moves = Moves.next Moves.none (Change.opens (LockCall.Unlock u) (Ask.Unlock u) refl idle.no_call (record { there = f; noted = λ held. absurd (let e : true ≡ false = sym held ∙ h in cc); still = idle.no_page; others = λ v differs. idle.keeping v }) (there-node d p u is proc idle f) refl);
+    moves = DeskMoves.next DeskMoves.none (Change.opens (LockCall.Unlock u) (Ask.Unlock u) refl idle.no_call (record { there = f; noted = λ held. absurd (let e : true ≡ false = sym held ∙ h in cc); still = idle.no_page; others = λ v differs. idle.keeping v }) (there-node d p u is proc idle f) refl);
     says = Says.gives_up (Cause.Releases false u) false u refl (at-put_same d.calls p (Some (open_call (LockCall.Unlock u))) None is.four.calls proc) (λ e. absurd (cc))
         (λ writes. absurd (let e : true ≡ false = sym (writes-held (state_of d p u) writes) ∙ h in cc));
   }

@@ -5,7 +5,7 @@ pub mod Loading
 pub mod Releasing
 pub mod Told
 pub mod Calls
-pub mod Moves
+pub mod DeskMoves
 pub mod Refusals
 pub mod Left
 pub mod Turns

@@ -30,7 +30,7 @@ use Rattle.fault_handler.specs.ShownPages.{written}
 use Rattle.desk_laws.specs.Dropped.{MayDropPages}
 use Rattle.desk_laws.specs.Loading.{IsTaskIn, Fetches, SendsPage, MakesRoom}
 use Rattle.desk_laws.specs.Releasing.{releasing_in, IsReleasing}
-use Rattle.desk_laws.specs.Moves.{Moves}
+use Rattle.desk_laws.specs.DeskMoves.{DeskMoves}
 use Rattle.desk_laws.specs.Refusals.{Refuses}
 use Rattle.desk_laws.specs.Left.{answer_reply, fault_reply, Leaves, FaultLeaves}
 
@@ -66,6 +66,6 @@ pub data Says (d : DeskState) (p : ℕ) (e : DeskState) : Cause → Turn → Typ
 
 -- what comes of a call is made by such changes, its outcome says so, and pages are dropped only where they may be
 pub record IsMade (c : Cause) (p : ℕ) (d : DeskState) (m : Moved) : Type 0 where
-  pub moves : Moves c m.turn p d m.desk m.dropped
+  pub moves : DeskMoves c m.turn p d m.desk m.dropped
   pub says : Says d p m.desk c m.turn
   pub may : MayDropPages d p c m.dropped

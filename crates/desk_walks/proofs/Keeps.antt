@@ -4,6 +4,7 @@ use Rattle.std.proofs.lemmas.Option.{same_Some}
 use Rattle.std.proofs.lemmas.Bool.{cases_eq}
 use Rattle.uid_names.specs.Names.{ObjectName}
 use Rattle.uid_names.specs.Steps.{◌>>=◌}
+use Rattle.uid_names.proofs.Somes.{there_is}
 use Rattle.dom_history.specs.declared.op.Op.{Op}
 use Rattle.dom_history.specs.declared.op.Op.TheVariants as ops
 use Rattle.dom_history.specs.Ranges.{IsOp}
@@ -22,7 +23,6 @@ use Rattle.fault_handler.specs.Invariant.{IsProc, IsDesk}
 use Rattle.fault_handler.specs.Conditions.{IsIdle, IsAccessing, IsNotAccessing, empty_desk}
 use Rattle.fault_handler.specs.Ready.{IsReadyAt, IsReady}
 use Rattle.fault_handler.proofs.Fours.{by_proc}
-use Rattle.fault_handler.proofs.TransitKeeps.{there_is}
 use Rattle.fault_handler.proofs.Answering.{said-some}
 use Rattle.fault_handler.proofs.Outcomes.{Holds, come}
 use Rattle.lock_validate.specs.Answers.{lock_call_of, answer_at, lock_answer_of}

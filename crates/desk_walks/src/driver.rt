@@ -9,6 +9,7 @@ ghost use Rattle.fault_handler.specs.LockCalls.{lock_call, answers};
 ghost use Rattle.fault_handler.specs.Conditions.{IsOf, IsIdle};
 ghost use Rattle.desk_walks.specs.AllReady.{AllReady};
 
+use anyhow::{Context, Result, bail};
 use dom_history::{Dropped, Op, Reply};
 use fault_handler::{Access, Desk, LockState, OpenCall};
 use lock_validate::{
@@ -16,7 +17,6 @@ use lock_validate::{
 };
 use ring_messages::Body;
 use std::alloc::Global;
-use std::test::Fail;
 use uid_names::{MAX_LENGTH, MAX_ROOM, NodeId, PAGE_BYTES, ProcId, Uid};
 
 /// What a call came to, and the pages that it dropped.
@@ -44,27 +44,27 @@ fn from_step(step: Step) -> Came {
 }
 
 /// The desk of the first of three nodes.
-pub fn new_desk(alloc: Global, frames: u16) -> Result<Desk, Fail>
+pub fn new_desk(alloc: Global, frames: u16) -> Result<Desk>
     requires low { 5 ≤ frames }
     requires high { frames ≤ 256 }
     ensures { IfOk result AllReady }
 {
-    let node = NodeId::new(1).ok_or("no node")?;
+    let node = NodeId::new(1).context("no node")?;
     Ok(Desk::new(alloc, node, 3, frames)?)
 }
 
 /// A process of the desk's node, and what the desk keeps.
-pub fn proc(desk: &Desk, number: u8) -> Result<ProcId, Fail>
+pub fn proc(desk: &Desk, number: u8) -> Result<ProcId>
     ensures own { IfOk result (IsOf desk.now) }
     ensures desk { OnOk result (IsDesk desk.now) }
 {
-    let proc = ProcId::new(desk.node(), number).ok_or("no process")?;
+    let proc = ProcId::new(desk.node(), number).context("no process")?;
     let _call = desk.open_call(proc);
     Ok(proc)
 }
 
 /// A process that may begin an operation, or go on with one that waited.
-fn idle(desk: &Desk, number: u8) -> Result<ProcId, Fail>
+fn idle(desk: &Desk, number: u8) -> Result<ProcId>
     ensures own { IfOk result (IsOf desk.now) }
     ensures desk { OnOk result (IsDesk desk.now) }
     ensures idle { IfOk result (λ p. IsIdle desk.now p.number) }
@@ -73,12 +73,12 @@ fn idle(desk: &Desk, number: u8) -> Result<ProcId, Fail>
     if desk.is_idle(proc) {
         Ok(proc)
     } else {
-        Err(Fail::from("not idle"))
+        bail!("not idle")
     }
 }
 
 /// A process begins an operation of a desk, or goes on with a load or store that waited.
-pub fn begin(alloc: Global, desk: &mut Desk, number: u8, op: &Op) -> Result<Came, Fail>
+pub fn begin(alloc: Global, desk: &mut Desk, number: u8, op: &Op) -> Result<Came>
     requires ready { AllReady desk.old }
     requires range { IsOp op.now }
     ensures { OnOk result (AllReady desk.new) }
@@ -93,12 +93,12 @@ pub fn begin(alloc: Global, desk: &mut Desk, number: u8, op: &Op) -> Result<Came
         | Op::Length { .. }
         | Op::Map { .. }
         | Op::Unmap { .. } => access(alloc, desk, proc, op),
-        Op::New { .. } | Op::List { .. } => Err(Fail::from("no operation of a desk")),
+        Op::New { .. } | Op::List { .. } => bail!("no operation of a desk"),
     }
 }
 
-/// The same, of an operation that the desk alone answers, or by its pages.
-fn access(alloc: Global, desk: &mut Desk, proc: ProcId, op: &Op) -> Result<Came, Fail>
+/// A process begins an operation that the desk alone answers, or by its pages.
+fn access(alloc: Global, desk: &mut Desk, proc: ProcId, op: &Op) -> Result<Came>
     requires own { IsOf desk.old proc }
     requires desk { IsDesk desk.old }
     requires ready { AllReady desk.old }
@@ -111,20 +111,20 @@ fn access(alloc: Global, desk: &mut Desk, proc: ProcId, op: &Op) -> Result<Came,
 }
 
 /// A process goes on with an unlock that waited.
-pub fn unlock_again(alloc: Global, desk: &mut Desk, number: u8, uid: Uid) -> Result<Came, Fail>
+pub fn unlock_again(alloc: Global, desk: &mut Desk, number: u8, uid: Uid) -> Result<Came>
     requires { AllReady desk.old }
     ensures { OnOk result (AllReady desk.new) }
 {
     let proc = idle(desk, number)?;
     match desk.state(proc, uid) {
-        LockState::Free => Err(Fail::from("not locked")),
+        LockState::Free => bail!("not locked"),
         LockState::Held(_) | LockState::Taking(_) | LockState::Releasing(_) | LockState::Deleting =>
             Ok(from_step(go_on(alloc, desk, proc, &Op::Unlock { uid })?)),
     }
 }
 
 /// A home answers the open call of a process.
-pub fn answer(alloc: Global, desk: &mut Desk, number: u8, body: &Body) -> Result<Came, Fail>
+pub fn answer(alloc: Global, desk: &mut Desk, number: u8, body: &Body) -> Result<Came>
     requires { AllReady desk.old }
     ensures { OnOk result (AllReady desk.new) }
 {
@@ -132,7 +132,7 @@ pub fn answer(alloc: Global, desk: &mut Desk, number: u8, body: &Body) -> Result
     if is_sent(body) && desk.answers(proc, body) {
         return answered(alloc, desk, proc, body);
     }
-    Err(Fail::from("no such answer is due"))
+    bail!("no such answer is due")
 }
 
 /// Whether a home can have sent a body as an answer.
@@ -164,8 +164,8 @@ fn is_sent_page(stamp: u64, bytes: &[u8; PAGE_BYTES]) -> bool
     stamp >= 1
 }
 
-/// The same, where it fits.
-fn answered(alloc: Global, desk: &mut Desk, proc: ProcId, body: &Body) -> Result<Came, Fail>
+/// A home answers the open call of a process with what fits it.
+fn answered(alloc: Global, desk: &mut Desk, proc: ProcId, body: &Body) -> Result<Came>
     requires own { IsOf desk.old proc }
     requires desk { IsDesk desk.old }
     requires ready { AllReady desk.old }
@@ -176,12 +176,12 @@ fn answered(alloc: Global, desk: &mut Desk, proc: ProcId, body: &Body) -> Result
     match desk.open_call(proc) {
         Some(OpenCall::Access) => Ok(from_access(desk.page_came(alloc, proc, body)?)),
         Some(call) if is_lock_call(call) => Ok(from_step(answer_came(alloc, desk, proc, body)?)),
-        _ => Err(Fail::from("no call is open")),
+        _ => bail!("no call is open"),
     }
 }
 
 /// A link fault ends the open call of a process.
-pub fn fault(desk: &mut Desk, number: u8) -> Result<Reply, Fail>
+pub fn fault(desk: &mut Desk, number: u8) -> Result<Reply>
     requires { AllReady desk.old }
     ensures { OnOk result (AllReady desk.new) }
 {
@@ -189,7 +189,7 @@ pub fn fault(desk: &mut Desk, number: u8) -> Result<Reply, Fail>
     match desk.open_call(proc) {
         Some(OpenCall::Access) => Ok(desk.access_failed(proc)),
         Some(call) if is_lock_call(call) => Ok(call_failed(desk, proc)),
-        _ => Err(Fail::from("no call is open")),
+        _ => bail!("no call is open"),
     }
 }
 

@@ -5,10 +5,7 @@ use Rattle.std.proofs.lemmas.Bool.Decides.{nat_tests}
 use Rattle.std.proofs.lemmas.List.Elements.{All-head, All-tail}
 use Rattle.uid_names.specs.declared.ids.Place.{Place}
 use Rattle.dom_history.specs.Histories.{Item, place_of, place_lt, IsRising, before}
-
--- no place is before itself
-place_lt-irrefl : (x : Place) → place_lt x x ≡ false
-place_lt-irrefl x = grind (arith, nat_tests)
+use Rattle.dom_history.proofs.Places.{place_lt-irrefl}
 
 -- no two places are before each other
 place_lt-asym : (x y : Place) → IsTrue (place_lt x y) → place_lt y x ≡ false

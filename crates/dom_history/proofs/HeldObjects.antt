@@ -6,6 +6,7 @@ use Rattle.uid_names.specs.Openings.{Start}
 use Rattle.uid_names.specs.declared.opening.Object.{Object}
 use Rattle.uid_names.specs.declared.mode.Mode.{Mode}
 use Rattle.uid_names.proofs.Orders.{same_uid_is}
+use Rattle.uid_names.proofs.Passed.{left-true}
 use Rattle.dom_history.specs.declared.op.Op.{Op}
 use Rattle.dom_history.specs.declared.op.Op.TheVariants.{Lock, Unlock, Delete, Map}
 use Rattle.dom_history.specs.declared.op.Reply.{Reply}
@@ -13,11 +14,10 @@ use Rattle.dom_history.specs.declared.op.Reply.TheVariants.{Fine, Doubt, At, NoL
 use Rattle.dom_history.specs.declared.deed.Deed.{Deed}
 use Rattle.dom_history.specs.declared.deed.LockState.{LockState}
 use Rattle.dom_history.specs.StoreEffects.{StoreEffect, store_effect, store_effects, own}
-use Rattle.dom_history.specs.Objects.{made, is_deleted, is_present}
+use Rattle.dom_history.specs.Objects.{IsOfMade, made, is_deleted, is_present}
 use Rattle.dom_history.specs.Locks.{state, state_after, is_held, not_free}
 use Rattle.dom_history.specs.Replies.{Before, before_of, reply_of, lock_reply}
 use Rattle.dom_history.specs.Runs.{AreAnswered}
-use Rattle.dom_history.specs.KeptMaps.{IsOfMade}
 use Rattle.dom_history.proofs.KeptObjects.{find-present}
 use Rattle.dom_history.proofs.MadeObjects.{found-step}
 use Rattle.dom_history.proofs.Tables.{state_in-lines_after}
@@ -67,14 +67,9 @@ granted-present b p u m e = by_tests _ _ _ (is_present b.opening b.past u) _ e
     by_tests false false false true rest e = refl
     by_tests false false false false rest e = cc
 
--- both tests pass
-first-of : (x y : Bool) → (x && y) ≡ true → x ≡ true
-first-of true y e = refl
-first-of false y e = e
-
 -- an object that is there was made
 present-was_made : (opening : Start) (past : List StoreEffect) (u : ObjectName) → is_present opening past u ≡ true → is_some (find (λ o. same_uid o.uid u) (made opening past)) ≡ true
-present-was_made opening past u h = first-of _ _ (sym (find-present (λ v. is_deleted v past) (made opening past) u) ∙ h)
+present-was_made opening past u h = left-true _ _ (sym (find-present (λ v. is_deleted v past) (made opening past) u) ∙ h)
 
 -- what was made stays made
 made-stays : (p : ProcName) (op : Op) (reply : Reply) (opening : Start) (past : List StoreEffect) (test : Object → Bool) → is_some (find test (made opening past)) ≡ true → is_some (find test (made opening (store_effect p op reply ++ past))) ≡ true

@@ -3,6 +3,7 @@ use Rattle.std.proofs.Common.{◌≡◌, ◌<◌, ◌≤◌, ◌*◌, ℕ, zero,
 use Rattle.std.specs.Prelude.{All, if◌then◌else◌, Option, Some, None, find}
 use Rattle.std.proofs.lemmas.List.{length-take}
 use Rattle.std.proofs.lemmas.List.Elements.{All-head, All-tail}
+use Rattle.std.proofs.lemmas.Option.{same_Some}
 use Rattle.uid_names.specs.Names.{ProcName, ObjectName}
 use Rattle.uid_names.specs.Openings.{Start}
 use Rattle.uid_names.specs.declared.lock_row.LockRow.{LockRow}
@@ -28,13 +29,9 @@ length-bytes_from opening past u o (suc n) = grind (arith, length-append, length
 none_not_some : {X : Type 0} (x : X) → None ≡ Some x → ⊥
 none_not_some x e = cc
 
--- what stands in equal options is equal
-some_same : {X : Type 0} (x y : X) → Some x ≡ Some y → x ≡ y
-some_same x y e = cc
-
 -- what is found is the first or a later one
 found_by : {X : Type 0} (P : X → Type 0) (y x : X) (rest : Option X) (b : Bool) → P y → (rest ≡ Some x → P x) → (if b then Some y else rest) ≡ Some x → P x
-found_by P y x rest true h later e = subst P (some_same y x e) h
+found_by P y x rest true h later e = subst P (same_Some y x e) h
 found_by P y x rest false h later e = later e
 
 -- what holds of each element holds of the one that is found

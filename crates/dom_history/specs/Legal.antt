@@ -1,5 +1,5 @@
 -- Which histories are those of one store.
-use Rattle.std.specs.Prelude.{ℕ, ◌≡◌, Bool, true, false, ◌⊎◌, Option, Some, None, List, [], ◌∷◌, IsTrue, All, AllPairs, Contains, not, nat_le, ◌&&◌}
+use Rattle.std.specs.Prelude.{ℕ, ◌≡◌, Bool, true, false, ◌⊎◌, Option, Some, None, List, [], ◌∷◌, ◌++◌, IsTrue, All, AllPairs, Contains, not, nat_le, ◌&&◌}
 use Rattle.uid_names.specs.Names.{ProcName, ObjectName, same_proc}
 use Rattle.uid_names.specs.Openings.{Start}
 use Rattle.uid_names.specs.declared.ids.Place.{Place}
@@ -112,6 +112,13 @@ pub record IsLegal (opening : Start) (h : History) : Type 0 where
   pub items_apart : All (λ o. All (λ i. IsElsewhere o (place_of i)) h.items) h.open_ops
   pub open_last : All (λ o. All (IsBefore o) h.items) h.open_ops
   pub legal : AreLegal opening h.open_ops h.items
+
+-- one item of the history stands before the other; the newest is first
+pub record StandsBefore (h : History) (i j : Item) : Type 0 where
+  pub newer : List Item
+  pub middle : List Item
+  pub older : List Item
+  pub stand : h.items ≡ newer ++ j ∷ (middle ++ i ∷ older)
 
 -- an entry may be put at the end of a history that is legal without it
 pub record MayEnd (opening : Start) (h : History) (e : Entry) : Type 0 where

@@ -11,13 +11,6 @@ pub mod Legal
 pub mod Follows
 pub mod Programs
 pub mod Runs
-pub mod KeptPages
-pub mod KeptObjects
-pub mod KeptLocks
-pub mod KeptMaps
-pub mod KeptLengths
-pub mod Kept
-pub mod Plain
 pub mod Samples
 pub mod FaultSamples
 pub mod Plans

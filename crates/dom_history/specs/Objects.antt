@@ -1,9 +1,13 @@
 -- Which objects there are, and what room they take. Each list of effects has the newest first.
-use Rattle.std.specs.Prelude.{ℕ, zero, suc, nat_le, ◌&&◌, max, Bool, false, not, ◌||◌, is_some, Option, Some, None, List, [], ◌∷◌, ◌++◌, filter, find, sum_by, fold}
+use Rattle.std.specs.Prelude.{ℕ, zero, suc, nat_le, ◌&&◌, max, Bool, true, false, not, ◌||◌, is_some, IsSome, Option, Some, None, List, [], ◌∷◌, ◌++◌, filter, find, sum_by, fold}
 use Rattle.uid_names.specs.Names.{ObjectName, same_uid}
 use Rattle.uid_names.specs.Openings.{Start}
 use Rattle.uid_names.specs.declared.opening.Object.{Object}
 use Rattle.uid_names.specs.Beginnings.{at_home, entry_directory}
+use Rattle.dom_history.specs.declared.op.Op.{Op}
+use Rattle.dom_history.specs.declared.op.Op.TheVariants.{Map}
+use Rattle.dom_history.specs.declared.op.Reply.{Reply}
+use Rattle.dom_history.specs.declared.op.Reply.TheVariants.{At}
 use Rattle.dom_history.specs.StoreEffects.{StoreEffect, Makes, Deletes}
 
 -- a node of the opening
@@ -53,3 +57,8 @@ greatest_counter opening past home = fold (λ a o. max a o.uid.counter) 0 (at_ho
 abbrev pub is_named : Option ObjectName → ObjectName → Bool
 is_named None u = false
 is_named (Some v) u = same_uid u v
+
+-- an object that an operation maps anew was made
+abbrev pub IsOfMade : List Object → Op → Reply → Type 0
+IsOfMade objects (Map u) (At address true) = IsSome (find (λ o. same_uid o.uid u) objects)
+IsOfMade objects _ _ = Unit {0}

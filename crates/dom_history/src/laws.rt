@@ -1,7 +1,7 @@
 //! Laws of histories. Each stands on a function without a body, so that the check proves it.
 ghost use Rattle.std.specs.Prelude.{◌≡◌, ◌≢◌, ◌+◌, ℕ, List, [], ◌∷◌, ◌++◌, length, All, AllPairs, IsTrue, find, Option, None, Some, ◌↔◌};
 ghost use Rattle.uid_names.specs.Names.{ProcName, ObjectName};
-ghost use Rattle.uid_names.specs.Openings.{Start, IsStart};
+ghost use Rattle.uid_names.specs.Openings.{Start};
 ghost use Rattle.dom_history.specs.declared.op.Want.{Want};
 ghost use Rattle.dom_history.specs.declared.op.Want.TheVariants.{Phase, Done};
 ghost use Rattle.dom_history.specs.declared.op.Op.{Op};
@@ -13,13 +13,12 @@ ghost use Rattle.dom_history.specs.StoreEffects.{StoreEffect};
 ghost use Rattle.uid_names.specs.InOrder.{AreInOrder};
 ghost use Rattle.uid_names.specs.Rows.{same_row, row_lt};
 ghost use Rattle.dom_history.specs.Locks.{state, state_by_last, holds, mode_in, rows};
-ghost use Rattle.dom_history.specs.Histories.{Item, Acted, Act, History, deed_of, told, entries, before, place_of, place_lt, IsRising};
-ghost use Rattle.dom_history.specs.Legal.{IsLegal, IsAtHomeOf, begun_of, MayEnd, IsIdle, with_entry};
-ghost use Rattle.dom_history.specs.Follows.{Heard, IsEnded, IsDoneAt, IsPhased};
-ghost use Rattle.dom_history.specs.Ranges.{IsOp};
+ghost use Rattle.dom_history.specs.Histories.{Item, Acted, Act, History, deed_of, before, place_of, place_lt, IsRising};
+ghost use Rattle.dom_history.specs.Legal.{IsLegal, StandsBefore, IsAtHomeOf, begun_of, MayEnd, IsIdle, with_entry};
+ghost use Rattle.dom_history.specs.Follows.{Heard, IsEnded, IsPhased};
 ghost use Rattle.dom_history.specs.Fitting.{Fits};
 ghost use Rattle.dom_history.specs.Replies.{Before, before_of, reply_of};
-ghost use Rattle.dom_history.specs.Runs.{AreAnswered, history_at, history_of, IsFaultless, IsPlainRun, AreTicked};
+ghost use Rattle.dom_history.specs.Runs.{AreAnswered, IsAnsweredPast, history_at, IsFaultless};
 ghost use Rattle.uid_names.specs.declared.mode.Mode.TheVariants.{Read, Write};
 ghost use Rattle.dom_history.specs.declared.op.Reply.TheVariants.{AlreadyHeld, Bytes, Conflict, Fine, LinkFault, NoSpace, PastEnd};
 ghost use Rattle.dom_history.specs.FaultSamples.{p2, z, kept_in, locks_what_is_kept, acts_after, locked_by_other, unlocked_by_other, acts_on_both, lock_acts, unlock_acts, makes_behind_act, asks_readers};
@@ -107,10 +106,8 @@ pub fn lock_rows_are_in_order()
 
 /// What one home decides for one process stands in the order of the operations, and no operation acts twice.
 pub fn homes_decide_in_order()
-    ensures in_order { (opening : Start) → (h : History) → IsLegal opening h → (newer middle older : List Item) → (i j : Item) → h.items ≡ newer ++ j ∷ (middle ++ i ∷ older) →
-        IsAtHomeOf opening (deed_of i) (deed_of j) → IsTrue (place_lt (begun_of i) (begun_of j)) }
-    ensures once { (opening : Start) → (h : History) → IsLegal opening h → (newer middle older : List Item) → (a b : Act) → h.items ≡ newer ++ Acted b ∷ (middle ++ Acted a ∷ older) →
-        a.begun ≡ b.begun → a.deed.proc ≡ b.deed.proc → a.deed.op ≡ b.deed.op → ⊥ }
+    ensures in_order { (opening : Start) → (h : History) → IsLegal opening h → (i j : Item) → StandsBefore h i j → IsAtHomeOf opening (deed_of i) (deed_of j) → IsTrue (place_lt (begun_of i) (begun_of j)) }
+    ensures once { (opening : Start) → (h : History) → IsLegal opening h → (a b : Act) → StandsBefore h (Acted a) (Acted b) → a.begun ≡ b.begun → a.deed.proc ≡ b.deed.proc → a.deed.op ≡ b.deed.op → ⊥ }
 {}
 
 /// What stands before the place of an item is what the list has behind it.
@@ -135,19 +132,5 @@ pub fn replies_have_no_fault()
 pub fn replies_fit()
     // A length and an address are as great as what was stored and mapped before; the others fit over anything.
     ensures anywhere { (b : Before) → (p : ProcName) → (op : Op) → ((u : ObjectName) → op ≢ Length u) → ((u : ObjectName) → op ≢ Map u) → Fits op (reply_of b p op) }
-    ensures after_answers { (opening : Start) → IsStart opening → (past : List Deed) → AreAnswered opening past → All (λ d. IsOp d.op) past → (p : ProcName) → (op : Op) → Fits op (reply_of (before_of opening past p) p op) }
-{}
-
-/// A plain run is its entries, each answered as one store answers it.
-pub fn plain_runs_are_their_entries()
-    ensures answered { (opening : Start) → (asks : ProcName → Heard → Want) → (h : History) → IsPlainRun opening asks h → AreAnswered opening (told (entries h.items)) }
-    ensures whole { (opening : Start) → (asks : ProcName → Heard → Want) → (h : History) → IsPlainRun opening asks h → h ≡ history_of (entries h.items) }
-{}
-
-/// Entries that one store answered, at the ticks 1, 2 and so on and phase by phase, to the end of all programs, are
-/// a plain run.
-pub fn answered_entries_are_plain_runs()
-    ensures entries { (es : List Entry) → entries (history_of es).items ≡ es }
-    ensures plain { (opening : Start) → (asks : ProcName → Heard → Want) → (es : List Entry) → AreAnswered opening (told es) → AreTicked es → IsPhased es →
-        ((p : ProcName) → IsDoneAt (asks p) (history_of es) p) → IsPlainRun opening asks (history_of es) }
+    ensures after_answers { (opening : Start) → (past : List Deed) → IsAnsweredPast opening past → (p : ProcName) → (op : Op) → Fits op (reply_of (before_of opening past p) p op) }
 {}

@@ -1,6 +1,8 @@
 //! What becomes of the frames on the links between nodes.
-ghost use Rattle.std.specs.Prelude.{◌≡◌, ◌≢◌, List, [], ◌∷◌, ◌++◌, false, OnOk, OnErr};
-ghost use Rattle.dom_history.specs.Plans.{fate_of, is_set, IsPlan};
+ghost use Rattle.std.specs.Prelude.{◌≡◌, ◌≢◌, ◌≤◌, List, [], ◌∷◌, ◌++◌, false, if◌then◌else◌, length, nat_lt, IfOk, OnOk, OnErr};
+ghost use Rattle.std.specs.List.{prefix_len};
+ghost use Rattle.uid_names.specs.InOrder.{AreInOrder, put_in_order};
+ghost use Rattle.dom_history.specs.Plans.{fate_of, is_set, is_of_link, has_lower, IsPlan, AreOfLink};
 
 use std::alloc::Global;
 use std::collections::HashMap;
@@ -27,6 +29,32 @@ pub struct FateRow {
     pub to: NodeId,
     pub index: u64,
     pub fate: Fate,
+}
+
+/// How many rows, which rise, are of a smaller number.
+fn place_of(rows: &[FateRow], index: u64) -> usize
+    requires { AreInOrder has_lower rows.now }
+    ensures place { result ≡ prefix_len (λ row. nat_lt row.index index) rows.now }
+    ensures bound { result ≤ length rows.now }
+{
+    match rows.binary_search_by_key(&index, |row| row.index) {
+        Ok(at) => at,
+        Err(at) => at,
+    }
+}
+
+/// A row goes to its place among the rows of a link, which rise, if it is of that link. Without memory they stay as they were.
+fn take_in(link: &mut Vec<FateRow>, row: FateRow, from: NodeId, to: NodeId) -> Result<(), NoMemory>
+    requires { AreInOrder has_lower link.old.items }
+    ensures ok { OnOk result (link.new.items ≡ (if is_of_link from to row then put_in_order has_lower row link.old.items else link.old.items)) }
+    ensures err { OnErr result (link.new.items ≡ link.old.items) }
+{
+    if row.from.number() != from.number() || row.to.number() != to.number() {
+        return Ok(());
+    }
+    let at = place_of(link, row.index);
+    link.insert(at, row)?;
+    Ok(())
 }
 
 /// The fates that were set, in the order in which they were; every other frame passes.
@@ -104,5 +132,35 @@ impl FaultPlan {
         ensures plan { IsPlan self.now }
     {
         self.rows.as_slice()
+    }
+
+    /// The rows of the link from a node to another alone, by rising number: whoever goes along the frames of one link
+    /// looks at the next row only.
+    pub fn rows_of_link(
+        &self,
+        alloc: Global,
+        from: NodeId,
+        to: NodeId,
+    ) -> Result<Vec<FateRow>, NoMemory>
+        ensures { IfOk result (λ link. AreOfLink self.now from to link.items) }
+    {
+        let mut link = Vec::new(alloc);
+        let rows = self.rows();
+        for row in rows {
+            take_in(&mut link, *row, from, to)?;
+        }
+        Ok(link)
+    }
+
+    /// A copy of the plan.
+    pub fn copy(&self, alloc: Global) -> Result<FaultPlan, NoMemory>
+        ensures { IfOk result (λ copy. copy ≡ self.now) }
+    {
+        let mut copy = FaultPlan::new(alloc);
+        let rows = self.rows();
+        for row in rows {
+            copy.set(row.from, row.to, row.index, row.fate)?;
+        }
+        Ok(copy)
     }
 }

@@ -2,6 +2,7 @@
 use Rattle.std.proofs.Common.{◌≡◌, ◌≢◌, ℕ, List, [], ◌∷◌, ◌++◌, Option, Some, None, MatchOption, refl, ap, sym, ◌∙◌}
 use Rattle.std.proofs.lemmas.Bool.{eq-eqb, ne_eqb}
 use Rattle.std.proofs.lemmas.List.Elements.{All-head, All-tail}
+use Rattle.std.proofs.lemmas.Option.{same_Some}
 use Rattle.dom_text.specs.Cuts.{Lacks, IsCutAt, cut_at}
 
 pub cut_at-found : (c : ℕ) (front back : List ℕ) → Lacks c front → cut_at c (front ++ c ∷ back) ≡ Some (front, back)
@@ -22,13 +23,10 @@ pub cut-value : {T : Type 0} (c : ℕ) (text : List ℕ) (r : Option T) (view : 
 cut-value c text None view h = cut_at-none c text h
 cut-value c text (Some x) view h = ap (cut_at c) h.whole ∙ cut_at-found c (view x).0 (view x).1 h.first
 
-some_is : {A : Type 0} (x y : A) → Some x ≡ Some y → x ≡ y
-some_is x y e = cc
-
 -- two cuts of one text
 pub same_cut : (c : ℕ) (a b x y : List ℕ) → Lacks c a → Lacks c x → a ++ c ∷ b ≡ x ++ c ∷ y → (a ≡ x) × (b ≡ y)
 same_cut c a b x y ha hx e =
     let p : List ℕ × List ℕ = (a, b) in
     let q : List ℕ × List ℕ = (x, y) in
-    let parts : p ≡ q = some_is p q (sym (cut_at-found c a b ha) ∙ ap (cut_at c) e ∙ cut_at-found c x y hx) in
+    let parts : p ≡ q = same_Some p q (sym (cut_at-found c a b ha) ∙ ap (cut_at c) e ∙ cut_at-found c x y hx) in
     (ap (λ (r : List ℕ × List ℕ). r.0) parts, ap (λ (r : List ℕ × List ℕ). r.1) parts)

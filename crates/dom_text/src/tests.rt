@@ -22,7 +22,7 @@ fn shown(alloc: Global, line: &[u8]) -> Result<ByteList, Fail> {
     Ok(text)
 }
 
-/// The same of tokens whose words are lent.
+/// Tokens whose words are lent as text, in such brackets.
 fn shown_lent(alloc: Global, list: &[TokenRef<'_>]) -> Result<ByteList, Fail> {
     let mut text = ByteList::new(alloc);
     for token in list {

@@ -8,7 +8,7 @@ pub enum Token {
     Text(ByteList),
 }
 
-/// The same where a word is lent by the line that it stands in.
+/// A token whose word is lent by the line that it stands in.
 #[derive(Drop, Debug)]
 pub enum TokenRef<'a> {
     Word(&'a [u8]),

@@ -5,6 +5,7 @@ use Rattle.std.specs.Option.{ForSome}
 use Rattle.std.proofs.lemmas.Option.{same_Some}
 use Rattle.uid_names.specs.Names.{ObjectName}
 use Rattle.uid_names.specs.declared.limits.TheConstants.{PAGE_BYTES}
+use Rattle.uid_names.proofs.Somes.{there_is}
 use Rattle.dom_history.specs.declared.op.Op.{Op}
 use Rattle.dom_history.specs.declared.op.Op.TheVariants as ops
 use Rattle.dom_history.specs.declared.op.Spot.TheVariants.{Of}
@@ -34,9 +35,9 @@ use Rattle.fault_handler.specs.Invariant.{IsProc, IsAllowed, is_access, is_dirty
 use Rattle.fault_handler.specs.Conditions.{IsIdle, IsAccessing}
 use Rattle.fault_handler.specs.Next.{IsTaskOf, IsCallOf, IsRequest, IsOpen}
 use Rattle.fault_handler.proofs.PageLists.{found-uid, found-page}
-use Rattle.fault_handler.proofs.Moves.{moving-uid, moving-page}
+use Rattle.fault_handler.proofs.MovingOthers.{moving-uid, moving-page}
 use Rattle.fault_handler.proofs.KnownKeeps.{IsDesk-with_raised}
-use Rattle.fault_handler.proofs.TransitKeeps.{there_is, open_task, going-resident, dirty-writes, IsDesk-with_arrival, IsDesk-with_loss, IsDesk-with_room_settled, IsIdle-with_arrival, IsIdle-with_loss, IsIdle-with_room_settled}
+use Rattle.fault_handler.proofs.TransitKeeps.{open_task, going-resident, dirty-writes, IsDesk-with_arrival, IsDesk-with_loss, IsDesk-with_room_settled, IsIdle-with_arrival, IsIdle-with_loss, IsIdle-with_room_settled}
 use Rattle.fault_handler.proofs.Outcomes.{Holds, each-some}
 use Rattle.fault_handler.proofs.Accessing.{IsDoneAfter, stamp-seen, home-kept, home-written, ready-open, page_out-asked, performed-after, page_access-after}
 

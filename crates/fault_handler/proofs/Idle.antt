@@ -1,11 +1,12 @@
 -- A process that passes the test may begin an operation.
-use Rattle.std.proofs.Common.{◌≡◌, ℕ, Bool, true, false, List, [], ◌∷◌, Option, Some, None, refl, sym, arith}
-use Rattle.std.specs.Prelude.{not, ◌&&◌, is_none}
+use Rattle.std.proofs.Common.{◌≡◌, ℕ, Bool, true, false, List, [], ◌∷◌, sym, arith}
+use Rattle.std.specs.Prelude.{not, ◌&&◌}
 use Rattle.std.specs.Bool.{OnTrue}
 use Rattle.std.proofs.lemmas.Bool.Decides.{nat_tests}
 use Rattle.uid_names.specs.Names.{ObjectName}
 use Rattle.dom_history.specs.Locks.{is_held}
 use Rattle.uid_names.proofs.ListLemmas.{by_cases}
+use Rattle.uid_names.proofs.Somes.{none-is}
 use Rattle.fault_handler.specs.declared.entries.LockEntry.{LockEntry}
 use Rattle.fault_handler.specs.Entries.{is_on, entry_of, state_in, keeps, keeps_all}
 use Rattle.fault_handler.specs.Desks.{DeskState, entries_of, open_call_of, moving_of}
@@ -26,10 +27,6 @@ keeps-each (e ∷ rest) u all held =
 
     others : (x : LockEntry) (xs : List LockEntry) → keeps_all (x ∷ xs) ≡ true → keeps_all xs ≡ true
     others x xs every = grind (arith, nat_tests, every)
-
-none-is : {X : Type 0} (o : Option X) → is_none o ≡ true → o ≡ None
-none-is None is = refl
-none-is (Some x) is = absurd (cc)
 
 IsIdle-test : (d : DeskState) (p : ℕ) → is_idle d p ≡ true → IsIdle d p
 IsIdle-test d p is = record {

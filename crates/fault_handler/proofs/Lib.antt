@@ -2,7 +2,7 @@ pub mod KnownRows
 pub mod Fours
 pub mod PageLists
 pub mod Alike
-pub mod Moves
+pub mod MovingOthers
 pub mod PageKeeps
 pub mod KnownKeeps
 pub mod Shown

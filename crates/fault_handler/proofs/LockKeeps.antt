@@ -12,7 +12,7 @@ use Rattle.dom_history.specs.Locks.{is_held, is_free}
 use Rattle.page_cache.specs.Caches.{Resident, page_at}
 use Rattle.uid_names.proofs.Finds.{find-passes}
 use Rattle.uid_names.proofs.ListLemmas.{by_cases, find-push, find-count_none, find-map, find-filter_leaves, count_by-filter_takes, none_is_no_some}
-use Rattle.uid_names.proofs.Orders.{same_uid_is}
+use Rattle.uid_names.proofs.Orders.{same_uid_is, same_uid-itself}
 use Rattle.version_stamps.specs.Stamps.{stamp_of}
 use Rattle.fault_handler.specs.declared.entries.LockEntry.{LockEntry}
 use Rattle.fault_handler.specs.declared.transits.Transit.{Transit}
@@ -32,12 +32,8 @@ use Rattle.fault_handler.specs.Changes.{with_state, with_note, with_call, with_m
 use Rattle.fault_handler.specs.Invariant.{IsProc, IsShownPage, is_dirty, FitsWay, FitsTransit, is_access, MayWork, IsAllowed, KeepsAll, FitsOpen, IsLockEntry, AreEntries, AreLengthsWritten, IsCallAtNode, IsDesk}
 use Rattle.fault_handler.proofs.Fours.{at-put_same, at-put_other, by_proc, length-put, each-put, any-at, any-of, any-more, apart-is}
 use Rattle.fault_handler.proofs.PageLists.{found-uid}
-use Rattle.fault_handler.proofs.Moves.{FitsOpen-task, not_access}
+use Rattle.fault_handler.proofs.MovingOthers.{FitsOpen-task, not_access}
 use Rattle.fault_handler.proofs.TransitKeeps.{keeps_writing-keeps, any_writes-keeps, dirty-writes}
-
--- an object's own test
-pub same_uid-own : (u : ObjectName) → same_uid u u ≡ true
-same_uid-own u = grind (arith, nat_tests)
 
 -- what is on another object is not on this one
 on_other : (u v : ObjectName) (e : LockEntry) → same_uid v u ≡ false → is_on v e ≡ true → is_on u e ≡ false
@@ -53,7 +49,7 @@ entry_of-without_other u v entries differ = find-filter_leaves (is_on v) (λ e. 
 
 -- the new entry is the object's
 pub entry_of-with_same : (e : LockEntry) (entries : List LockEntry) → entry_of e.uid (entries_with e entries) ≡ Some e
-entry_of-with_same e entries = find-push (is_on e.uid) (entries_without e.uid entries) e ∙ rw (entry_of-without_same e.uid entries, same_uid-own e.uid) refl
+entry_of-with_same e entries = find-push (is_on e.uid) (entries_without e.uid entries) e ∙ rw (entry_of-without_same e.uid entries, same_uid-itself e.uid) refl
 
 pub entry_of-with_other : (e : LockEntry) (v : ObjectName) (entries : List LockEntry) → same_uid v e.uid ≡ false → entry_of v (entries_with e entries) ≡ entry_of v entries
 entry_of-with_other e v entries differ = find-push (is_on v) (entries_without e.uid entries) e ∙ rw (differ, entry_of-without_other e.uid v entries differ) (option_or-none (entry_of v entries))

@@ -16,7 +16,7 @@ use Rattle.fault_handler.specs.Transits.{is_moving, moved_page}
 use Rattle.fault_handler.specs.Desks.{DeskState, at, entry_at, any_keeps, moving_of, other_transit, is_in_transit_there}
 use Rattle.fault_handler.specs.Invariant.{IsProc, FitsWay, FitsTransit, is_dirty, IsDesk}
 use Rattle.fault_handler.proofs.Fours.{by_proc, first, any-at}
-use Rattle.fault_handler.proofs.Moves.{moving-uid}
+use Rattle.fault_handler.proofs.MovingOthers.{moving-uid}
 use Rattle.fault_handler.proofs.Marks.{none-moves}
 use Rattle.fault_handler.proofs.TransitKeeps.{any_writes-keeps, dirty-writes}
 

@@ -90,11 +90,6 @@ pub each-some : {A : Type 0} (o : Option A) (P : A → Type 0) → IfSome o P �
 each-some None P holds x is = absurd (cc)
 each-some (Some a) P holds x is = let same : a ≡ x = cc in subst P same holds
 
--- what a value that is there is, holds where it is
-pub some-each : {A : Type 0} (o : Option A) (P : A → Type 0) → ((x : A) → o ≡ Some x → P x) → IfSome o P
-some-each None P each = tt
-some-each (Some a) P each = each a refl
-
 -- the same where what an access is made of is there
 pub come-some : {A : Type 0} (o : Option A) (a : A → Accessed) (p : ℕ) (P Q : Moved → Type 0) (R : Type 0) → IsSome o → IfSome o (λ x. Holds p P (a x)) → IfSome o (λ x. Comes p Q (a x)) → ((m : Moved) → P m → Q m → R) → R
 come-some None a p P Q R some holds comes use_it = absurd (cc)

@@ -18,7 +18,7 @@ use Rattle.fault_handler.specs.Invariant.{IsProc, IsShownPage, ArePages, IsDesk}
 use Rattle.fault_handler.proofs.Fours.{any-at, any-not}
 use Rattle.fault_handler.proofs.PageLists.{is_same, AreOnce, found-uid, same-uid, same-page, page_at-used, count_by-used, page_at-without_same, page_at-without_other, page_at-without_object_same, page_at-without_object_other}
 use Rattle.fault_handler.proofs.Alike.{Alike, Alike-same, ArePages-changed, Alike-changed}
-use Rattle.fault_handler.proofs.Moves.{AreMoved-alike, AreOpen-alike}
+use Rattle.fault_handler.proofs.MovingOthers.{AreMoved-alike, AreOpen-alike}
 
 -- other pages, where those that processes move are alike
 pub IsDesk-pages : (d : DeskState) (new : List Resident) → IsDesk d → ArePages new d.entries

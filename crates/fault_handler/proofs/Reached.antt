@@ -6,6 +6,7 @@ use Rattle.page_cache.specs.Caches.{Resident, page_at, is_page, free_count}
 use Rattle.page_cache.specs.Changes.{without_page}
 use Rattle.page_cache.specs.Victims.{name_of}
 use Rattle.uid_names.proofs.ListLemmas.{find-count_none, count_by-none, count_by-found, count_by-filter-le, length-filter_not}
+use Rattle.uid_names.proofs.Somes.{there_is}
 use Rattle.ring_messages.specs.Bodies.{body_of_ask}
 use Rattle.ring_messages.specs.declared.body.Body.{Body}
 use Rattle.fault_handler.specs.declared.tasks.Task.{Task}
@@ -19,7 +20,6 @@ use Rattle.fault_handler.specs.Unseen.{GivesTo, ComesTo}
 use Rattle.fault_handler.specs.declared.transits.Transit.{Transit}
 use Rattle.fault_handler.specs.Invariant.{is_dirty}
 use Rattle.fault_handler.proofs.PageLists.{AreOnce, found-uid, found-page}
-use Rattle.fault_handler.proofs.TransitKeeps.{there_is}
 use Rattle.fault_handler.proofs.Choice.{victim-resident, victim-still}
 
 -- the page that is chosen is resident, and not in transit

@@ -5,6 +5,7 @@ use Rattle.std.specs.Option.{option_map}
 use Rattle.std.proofs.lemmas.Option.{same_Some}
 use Rattle.uid_names.specs.Names.{ObjectName}
 use Rattle.std.proofs.lemmas.Bool.Decides.{nat_tests}
+use Rattle.std.proofs.lemmas.Bool.{not-true}
 use Rattle.page_cache.specs.Caches.{Resident, is_page, page_at}
 use Rattle.page_cache.specs.Changes.{used, without_page}
 use Rattle.version_stamps.specs.Stamps.{stamp_of}
@@ -181,10 +182,6 @@ module _ (d : DeskState) (p : ℕ) (is : IsDesk d) (proc : IsProc p) (u : Object
 -- what the process moves, by its way
 pub moves-coming : (d : DeskState) (p : ℕ) (t : Transit) → moving_of d p ≡ Some t → t.inward ≡ true → moving_of d p ≡ coming t.uid t.page
 moves-coming d p t moves comes = moves ∙ (λ i. Some (record { uid = t.uid; page = t.page; inward = comes i }))
-
-pub not-true : (b : Bool) → not b ≡ true → b ≡ false
-not-true true is = sym is
-not-true false is = refl
 
 pub moves-going : (d : DeskState) (p : ℕ) (t : Transit) → moving_of d p ≡ Some t → not t.inward ≡ true → moving_of d p ≡ going t.uid t.page
 moves-going d p t moves goes = moves ∙ (λ i. Some (record { uid = t.uid; page = t.page; inward = not-true t.inward goes i }))

@@ -12,6 +12,7 @@ use Rattle.dom_history.specs.Locks.{is_held}
 use Rattle.dom_history.specs.Replies.{may_write}
 use Rattle.page_cache.specs.Caches.{Resident, is_page, page_at}
 use Rattle.uid_names.proofs.ListLemmas.{by_cases, count_by-cons_passes, count_by-cons_fails, count_by-none}
+use Rattle.uid_names.proofs.Somes.{there_is}
 use Rattle.fault_handler.specs.declared.entries.LockEntry.{LockEntry}
 use Rattle.fault_handler.specs.declared.transits.Transit.{Transit}
 use Rattle.fault_handler.specs.declared.tasks.Task.{Task}
@@ -28,13 +29,8 @@ use Rattle.fault_handler.specs.Conditions.{IsIdle, IsAccessing, IsNotAccessing}
 use Rattle.fault_handler.proofs.Fours.{at-put_same, count_of-at, any-at, any-not, any-more, each-put, length-put}
 use Rattle.fault_handler.proofs.PageLists.{is_same, AreOnce, same-uid, same-page, found-uid, page_at-changed_same}
 use Rattle.fault_handler.proofs.Alike.{Alike-same, AreAlike, ArePages-changed, Alike-other, Alike-changed}
-use Rattle.fault_handler.proofs.Moves.{AreMoved-put, AreOpen-put, AreOpen-moved, moving-uid, moving-page, not_access, is_access-is, access-is, FitsOpen-goes, FitsOpen-going, FitsOpen-still, FitsOpen-task, FitsOpen-comes, alone-absent}
+use Rattle.fault_handler.proofs.MovingOthers.{AreMoved-put, AreOpen-put, AreOpen-moved, moving-uid, moving-page, not_access, is_access-is, access-is, FitsOpen-goes, FitsOpen-going, FitsOpen-still, FitsOpen-task, FitsOpen-comes, alone-absent}
 use Rattle.fault_handler.proofs.PageKeeps.{IsShownPage-sent}
-
--- what is there
-pub there_is : {A : Type 0} (o : Option A) → IsSome o → (x : A) × (o ≡ Some x)
-there_is None some = absurd (cc)
-there_is (Some x) some = (x, refl)
 
 -- a process that keeps an object in a mode that writes keeps it
 pub keeps_writing-keeps : (o : Option LockEntry) → keeps_writing o ≡ true → keeps o ≡ true

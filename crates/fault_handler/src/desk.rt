@@ -106,7 +106,7 @@ impl Desk {
         self.may_go_on(proc)
     }
 
-    /// The same.
+    /// Whether a process of that number may begin or go on.
     fn may_go_on(&self, proc: ProcId) -> bool
         ensures { result ≡ is_idle self.now proc.number }
     {

@@ -5,6 +5,7 @@ use Rattle.std.proofs.lemmas.List.Elements.{All-nil, All-cons, All-head, All-tai
 use Rattle.uid_names.specs.Names.{ProcName, same_proc}
 use Rattle.uid_names.specs.Openings.{Start}
 use Rattle.uid_names.specs.declared.ids.Place.{Place}
+use Rattle.uid_names.proofs.Orders.{same_proc-itself}
 use Rattle.dom_history.specs.declared.op.Op.{Op}
 use Rattle.dom_history.specs.declared.op.Op.TheVariants.{New, Lock, Unlock, Delete}
 use Rattle.dom_history.specs.declared.op.Reply.{Reply}
@@ -13,11 +14,11 @@ use Rattle.dom_history.specs.StoreEffects.{StoreEffect, store_effects}
 use Rattle.dom_history.specs.Histories.{Item, Answered, Acted, Act, Pending, History, deeds, before_op, place_of, place_lt}
 use Rattle.dom_history.specs.Legal.{AreLegal, IsLegal, IsAllowed, MayAct, MayEnd, Belongs, IsOpenOp, IsLeftOpen, IsInOrder, IsEarlier, IsElsewhere, IsBefore, IsIdle}
 use Rattle.dom_history.proofs.Endings.{legal_with}
-use Rattle.history_moves.specs.Moves.{history, entry_of, act_of, MayEndAct, MayFinish, IsEnd, IsNoActOf, IsChange}
+use Rattle.history_moves.specs.HistoryMoves.{history, entry_of, act_of, MayEndAct, MayFinish, IsEnd, IsNoActOf, IsChange}
 use Rattle.history_moves.proofs.Owned.{owned}
 use Rattle.history_moves.proofs.Opens.{OfOthers, of_others-turned, Elsewhere, legal-without_open}
 use Rattle.history_moves.proofs.Lists.{All-middle, All-without, AllPairs-without, AllPairs-middle, SomeOf-right, SomeOf-gives}
-use Rattle.history_moves.proofs.Places.{place_lt-apart, same_proc-itself}
+use Rattle.history_moves.proofs.Places.{place_lt-apart}
 
 -- an act may be put at the end where its operation and its order allow it
 pub may_end-act : (opening : Start) (h : History) (a : Act) → IsEnd a.place h.items h.open_ops → MayAct opening (store_effects (deeds h.items)) a.deed.proc a.deed.op a.deed.reply → Belongs h.open_ops h.items a → IsInOrder opening h.items a → MayEndAct opening h a

@@ -12,7 +12,7 @@ use Rattle.dom_history.specs.declared.op.Reply.TheVariants.{Kept, Doubt, LinkFau
 use Rattle.dom_history.specs.StoreEffects.{store_effect}
 use Rattle.dom_history.specs.Histories.{Item, Answered, Acted, Pending, place_of, place_lt, IsRising}
 use Rattle.dom_history.specs.Legal.{AreLegal, IsLegal, IsElsewhere, home_of, is_of_home}
-use Rattle.history_moves.specs.Moves.{history, entry_of, MayFault, MayHear, IsStillIts, IsNoActOf, IsNoneAtHome, IsLaterAct}
+use Rattle.history_moves.specs.HistoryMoves.{history, entry_of, MayFault, MayHear, IsStillIts, IsNoActOf, IsNoneAtHome, IsLaterAct}
 use Rattle.history_moves.proofs.Opens.{Elsewhere, elsewhere-turned}
 use Rattle.history_moves.proofs.Lists.{AllPairs-middle}
 use Rattle.history_moves.proofs.Places.{place_lt-both, place_lt-itself}

@@ -6,6 +6,7 @@ use Rattle.std.proofs.lemmas.Bool.{not-true}
 use Rattle.uid_names.specs.Names.{ProcName, same_proc}
 use Rattle.uid_names.specs.Openings.{Start}
 use Rattle.uid_names.specs.declared.ids.Place.{Place}
+use Rattle.uid_names.proofs.Orders.{same_proc-itself}
 use Rattle.dom_history.specs.declared.op.Reply.{Reply}
 use Rattle.dom_history.specs.declared.op.Want.{Want}
 use Rattle.dom_history.specs.declared.op.Want.TheVariants.{Do, Phase}
@@ -14,17 +15,12 @@ use Rattle.dom_history.specs.StoreEffects.{own}
 use Rattle.dom_history.specs.Histories.{Item, Answered, Acted, Pending, History, entries, told, place_of, place_lt}
 use Rattle.dom_history.specs.Legal.{IsLegal, IsBefore, IsIdle, with_entry}
 use Rattle.dom_history.specs.Follows.{Heard, Reaches, answered, passed, entries_of, open_of, IsPhased}
+use Rattle.dom_history.proofs.Items.{entries-append}
 use Rattle.history_moves.specs.Hearing.{HasHeard}
-use Rattle.history_moves.specs.Moves.{history, entry_of, told_to}
+use Rattle.history_moves.specs.HistoryMoves.{history, entry_of, told_to}
 use Rattle.history_moves.proofs.Lists.{All-middle, All-left, All-with, All-without, AllPairs-middle}
 use Rattle.history_moves.proofs.Opens.{OfOthers, of_others-turned}
-use Rattle.history_moves.proofs.Places.{place_lt-both, same_proc-itself, same_proc-turned}
-
--- the entries of joined lists
-pub entries-append : (xs ys : List Item) → entries (xs ++ ys) ≡ entries xs ++ entries ys
-entries-append [] ys = refl
-entries-append (Answered e ∷ xs) ys = ap (λ es. e ∷ es) (entries-append xs ys)
-entries-append (Acted a ∷ xs) ys = entries-append xs ys
+use Rattle.history_moves.proofs.Places.{place_lt-both, same_proc-turned}
 
 -- entries with one more are in the order of phases
 phased-with : (xs : List Entry) (e : Entry) (ys : List Entry) → IsPhased (xs ++ ys) → All (λ f. e.phase ≤ f.phase) xs → All (λ f. f.phase ≤ e.phase) ys → IsPhased (xs ++ e ∷ ys)

@@ -20,7 +20,7 @@ use Rattle.dom_history.specs.Locks.{state, not_free, is_free, is_held, is_unsett
 use Rattle.dom_history.specs.Replies.{link_faults, lock_reply, unlock_reply, delete_reply, home_lock_reply, may_write, may_delete}
 use Rattle.dom_history.specs.Histories.{Item, Answered, Acted, Act, Pending, deeds, place_of, place_lt}
 use Rattle.dom_history.specs.Legal.{AreLegal, IsLegal, IsAllowed, MayAct, Belongs, IsLeftOpen, IsEarlier, IsElsewhere, IsBefore, is_of_home}
-use Rattle.history_moves.specs.Moves.{history, entry_of, act_of, told_to, MayFault, MayHear, IsNoActOf, IsNoneAtHome}
+use Rattle.history_moves.specs.HistoryMoves.{history, entry_of, act_of, told_to, MayFault, MayHear, IsNoActOf, IsNoneAtHome}
 use Rattle.history_moves.specs.Asking.{MayAsk}
 use Rattle.history_moves.proofs.Lists.{All-right, All-middle, AllPairs-middle, SomeOf-without, each-middle}
 use Rattle.history_moves.proofs.Owned.{left_before, none-open}

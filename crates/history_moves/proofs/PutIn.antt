@@ -12,7 +12,7 @@ use Rattle.dom_history.specs.StoreEffects.{store_effect, own}
 use Rattle.dom_history.specs.Histories.{Item, Answered, Acted, Act, Pending, place_of, place_lt, IsRising}
 use Rattle.dom_history.specs.Legal.{AreLegal, IsLegal, Belongs, IsOpenOp, IsEarlier, IsElsewhere, IsBefore}
 use Rattle.history_moves.specs.Behind.{IsAlikeBut, MayStay}
-use Rattle.history_moves.specs.Moves.{history, entry_of, MayPutIn, IsStillIts, IsLaterAct}
+use Rattle.history_moves.specs.HistoryMoves.{history, entry_of, MayPutIn, IsStillIts, IsLaterAct}
 use Rattle.history_moves.proofs.Behind.{legal-behind}
 use Rattle.history_moves.proofs.Opens.{OfOthers, of_others-turned, Elsewhere, legal-without_open}
 use Rattle.history_moves.proofs.Lists.{All-middle, All-without, AllPairs-without, AllPairs-middle, SomeOf-without, each-with}

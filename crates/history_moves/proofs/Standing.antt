@@ -8,7 +8,7 @@ use Rattle.dom_history.specs.declared.op.Entry.{Entry}
 use Rattle.dom_history.specs.StoreEffects.{store_effects, store_effect}
 use Rattle.dom_history.specs.Histories.{Item, Answered, Acted, Pending, History, deeds, before_op}
 use Rattle.history_moves.specs.Behind.{IsAlikeBut}
-use Rattle.history_moves.specs.Moves.{entry_of, act_of, told_to, Moves, begins, does, finishes, acts, faults, is_told, hears, done_by}
+use Rattle.history_moves.specs.HistoryMoves.{entry_of, act_of, told_to, HistoryMoves, begins, does, finishes, acts, faults, is_told, hears, done_by}
 use Rattle.history_moves.specs.Asking.{MayAsk, HomeSays, MayFail}
 use Rattle.dom_history.specs.Legal.{IsAllowed}
 use Rattle.history_moves.proofs.Asking.{asked-reply, failed-allowed}
@@ -47,7 +47,7 @@ pub fault-allowed : (opening : Start) (before : List Item) (o : Pending) (reply 
 fault-allowed opening before o reply ask fail = failed-allowed opening (store_effects (deeds before)) (told_to o before) o.proc o.op reply ask fail
 
 -- a move adds at the end alone
-pub done-moved : (opening : Start) (h new : History) → (move : Moves opening h new) → store_effects (deeds new.items) ≡ done_by move ++ store_effects (deeds h.items)
+pub done-moved : (opening : Start) (h new : History) → (move : HistoryMoves opening h new) → store_effects (deeds new.items) ≡ done_by move ++ store_effects (deeds h.items)
 done-moved opening _ _ (begins items left right o may) = refl
 done-moved opening _ _ (does h e may) = refl
 done-moved opening _ _ (finishes items left right o x phase reply may) = refl

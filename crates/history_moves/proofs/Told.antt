@@ -2,18 +2,16 @@
 use Rattle.std.proofs.Common.{ℕ, List, [], ◌∷◌, ◌++◌, refl, sym, ap, inl, inr}
 use Rattle.std.specs.Prelude.{All, IsTrue}
 use Rattle.std.proofs.lemmas.List.Elements.{All-cons, All-nil, All-head, All-tail}
-use Rattle.uid_names.specs.Names.{ProcName}
 use Rattle.uid_names.specs.Openings.{Start}
 use Rattle.uid_names.specs.declared.ids.Place.{Place}
-use Rattle.dom_history.specs.declared.op.Op.{Op}
-use Rattle.dom_history.specs.declared.op.Op.TheVariants.{New, Lock, Unlock, Delete}
 use Rattle.dom_history.specs.declared.op.Reply.{Reply}
-use Rattle.dom_history.specs.StoreEffects.{StoreEffect, store_effects}
+use Rattle.dom_history.specs.StoreEffects.{store_effects}
 use Rattle.dom_history.specs.Histories.{Item, Answered, Acted, Act, Pending, deeds, place_of, place_lt, IsRising}
-use Rattle.dom_history.specs.Legal.{AreLegal, IsLegal, IsLegalAct, MayAct, Belongs, IsOpenOp, IsInOrder, IsEarlier, IsElsewhere, IsBefore, home_of, is_of_home}
+use Rattle.dom_history.specs.Legal.{AreLegal, IsLegal, IsLegalAct, Belongs, IsOpenOp, IsInOrder, IsEarlier, IsElsewhere, IsBefore, home_of, is_of_home}
+use Rattle.dom_history.proofs.Items.{act_of_home}
 use Rattle.history_moves.specs.Asking.{MayAsk}
 use Rattle.history_moves.specs.Behind.{IsAlikeBut, MayStay}
-use Rattle.history_moves.specs.Moves.{history, entry_of, act_of, told_to, IsNoActOf}
+use Rattle.history_moves.specs.HistoryMoves.{history, entry_of, act_of, told_to, IsNoActOf}
 use Rattle.history_moves.proofs.Asking.{asked-reply, acted-says}
 use Rattle.history_moves.proofs.Behind.{legal-behind}
 use Rattle.history_moves.proofs.Lists.{All-middle, All-with, All-without, AllPairs-without, AllPairs-middle, SomeOf-without, each-with, each-without, each-middle}
@@ -22,14 +20,6 @@ use Rattle.history_moves.proofs.Opens.{OfOthers, of_others-turned, Elsewhere, le
 use Rattle.history_moves.proofs.Places.{place_lt-both, place_lt-itself}
 use Rattle.history_moves.proofs.PutIn.{legal-before, other-behind, vacuous, others-turned}
 use Rattle.history_moves.proofs.Faults.{not-before_below}
-
--- what acts was decided by a home
-acted-home : (opening : Start) (past : List StoreEffect) (p : ProcName) (op : Op) (reply : Reply) → MayAct opening past p op reply → IsTrue (is_of_home opening op reply)
-acted-home opening past p (New home kind room) reply h = rw h.1 refl
-acted-home opening past p (Lock u m) reply h = rw h.0 refl
-acted-home opening past p (Unlock u) reply h = rw h refl
-acted-home opening past p (Delete u) reply h = rw h.0 refl
-acted-home opening past p _ reply h = absurd h
 
 module _ (opening : Start) (left right : List Pending) (o : Pending) (y : Place) (phase : ℕ) (reply : Reply) (before : List Item) where
   -- no other act before is of the operation
@@ -42,7 +32,7 @@ module _ (opening : Start) (left right : List Pending) (o : Pending) (y : Place)
     where
       not_it : IsNoActOf o (Acted b)
       not_it it =
-          let home = acted-home opening (store_effects (deeds items)) b.deed.proc b.deed.op b.deed.reply legal.0.may_act in
+          let home = act_of_home opening (store_effects (deeds items)) b.deed.proc b.deed.op b.deed.reply legal.0.may_act in
           let earlier : IsTrue (place_lt b.begun o.begun) = All-head (IsEarlier opening (act_of o y reply)) (Acted b) items in_order (sym it.1, ap home_of (sym it.2), home) in
           place_lt-itself o.begun (rw (← it.0) at earlier)
 
@@ -116,7 +106,7 @@ module _ (opening : Start) (left right : List Pending) (o : Pending) (y : Place)
       let last = All-middle (λ q. All (IsBefore q) (behind ++ Acted (act_of o y reply) ∷ before)) left o right l.open_last in
       let places = All-without (λ q. All (λ i. IsElsewhere q (place_of i)) (behind ++ Acted (act_of o y reply) ∷ before)) left o right l.items_apart in
       let lasts = All-without (λ q. All (IsBefore q) (behind ++ Acted (act_of o y reply) ∷ before)) left o right l.open_last in
-      let home = acted-home opening (store_effects (deeds before)) o.proc o.op reply here.0.may_act in
+      let home = act_of_home opening (store_effects (deeds before)) o.proc o.op reply here.0.may_act in
       record {
         rising = rising-told behind l.rising;
         one_open = AllPairs-without OfOthers left o right l.one_open;

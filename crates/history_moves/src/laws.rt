@@ -21,11 +21,11 @@ ghost use Rattle.history_moves.specs.Samples.{p_locks, q_locks, p_unlocks, q_loa
 ghost use Rattle.history_moves.specs.Asking.{MayAsk, HomeSays, MayFail};
 ghost use Rattle.history_moves.specs.Behind.{IsAlikeBut, MayStay};
 ghost use Rattle.history_moves.specs.Hearing.{HasHeard, heard_after, IsAsked, IsInPhase};
-ghost use Rattle.history_moves.specs.Moves.{history, entry_of, act_of, told_to, with_act, MayEndAct, MayBegin, IsEnd, IsNoActOf, IsChange, MayPutIn, MayFault, MayHear, Moves, done_by};
+ghost use Rattle.history_moves.specs.HistoryMoves.{history, entry_of, act_of, told_to, with_act, MayEndAct, MayPend, IsEnd, IsNoActOf, IsChange, MayPutIn, MayFault, MayHear, HistoryMoves, done_by};
 
 /// Each move keeps a history one of one store.
 pub fn moves_keep_a_history_legal()
-    ensures { (opening : Start) → (h new : History) → Moves opening h new → IsLegal opening h → IsLegal opening new }
+    ensures { (opening : Start) → (h new : History) → HistoryMoves opening h new → IsLegal opening h → IsLegal opening new }
 {}
 
 /// A run begins with nothing.
@@ -36,7 +36,7 @@ pub fn an_empty_history_is_one()
 
 /// Each move keeps what the processes follow: each has heard what it was answered.
 pub fn moves_keep_what_processes_follow()
-    ensures moves { (opening : Start) → (asks : ProcName → Heard → Want) → (heard : ProcName → Heard) → (phases : ProcName → ℕ) → (h new : History) → (move : Moves opening h new) → IsLegal opening h →
+    ensures moves { (opening : Start) → (asks : ProcName → Heard → Want) → (heard : ProcName → Heard) → (phases : ProcName → ℕ) → (h new : History) → (move : HistoryMoves opening h new) → IsLegal opening h →
         IsAsked asks heard phases move → ((q : ProcName) → HasHeard (asks q) h q (heard q) (phases q)) → (q : ProcName) → HasHeard (asks q) new q (heard_after move heard q) (phases q) }
 
     // That a process passes a phase is no move.
@@ -46,7 +46,7 @@ pub fn moves_keep_what_processes_follow()
 
 /// Each move keeps the order of phases where its entry's phase is between those before it and those behind it.
 pub fn moves_keep_the_phases()
-    ensures { (opening : Start) → (h new : History) → (move : Moves opening h new) → IsInPhase move → IsPhased (entries h.items) → IsPhased (entries new.items) }
+    ensures { (opening : Start) → (h new : History) → (move : HistoryMoves opening h new) → IsInPhase move → IsPhased (entries h.items) → IsPhased (entries new.items) }
 {}
 
 /// What a move at an earlier place needs, the two histories have: no condition of it is too strong.
@@ -64,7 +64,7 @@ pub fn conditions_are_needed()
 
 /// An operation may begin at the end, where its process has nothing open.
 pub fn operations_begin_at_the_end()
-    ensures { (items : List Item) → (others : List Pending) → (o : Pending) → IsIdle o.proc others → IsEnd o.begun items others → MayBegin items others o }
+    ensures { (items : List Item) → (others : List Pending) → (o : Pending) → IsIdle o.proc others → IsEnd o.begun items others → MayPend items others o }
 {}
 
 /// An entry may end the history where its process has nothing open and all else stands before it.
@@ -119,7 +119,7 @@ pub fn what_stands_behind_stays_legal()
 /// What was done, and so all bytes, objects and locks, stays as it was but at the end, and others meet the same,
 /// before any place.
 pub fn others_meet_the_same()
-    ensures moves { (opening : Start) → (h new : History) → (move : Moves opening h new) → store_effects (deeds new.items) ≡ done_by move ++ store_effects (deeds h.items) }
+    ensures moves { (opening : Start) → (h new : History) → (move : HistoryMoves opening h new) → store_effects (deeds new.items) ≡ done_by move ++ store_effects (deeds h.items) }
     ensures done_put_in { (opening : Start) → (behind before : List Item) → (e : Entry) → store_effect e.proc e.op e.reply ≡ [] →
         store_effects (deeds (behind ++ Answered e ∷ before)) ≡ store_effects (deeds (behind ++ before)) }
     ensures put_in { (opening : Start) → (behind before : List Item) → (e : Entry) → store_effect e.proc e.op e.reply ≡ [] → (q : ProcName) → same_proc q e.proc ≡ false →
@@ -142,11 +142,11 @@ pub fn an_open_operation_is_the_last_of_its_process()
 
 /// A history to which each kind of move is made.
 pub fn a_history_grows_by_moves()
-    ensures begins { Moves two_nodes (history [] []) (history [] (p_locks ∷ [])) }
-    ensures acts { Moves two_nodes (history [] (p_locks ∷ (q_locks ∷ []))) (history granted (p_locks ∷ (q_locks ∷ []))) }
-    ensures faults { Moves two_nodes (history granted (p_locks ∷ (q_locks ∷ []))) (history in_doubt (q_locks ∷ [])) }
-    ensures does { Moves two_nodes (history in_doubt (q_locks ∷ [])) (history refused (q_locks ∷ [])) }
-    ensures hears { Moves two_nodes (history refused (q_locks ∷ [])) (history conflict []) }
-    ensures is_told { Moves two_nodes (history (q_unlocks ∷ unlocks) (p_unlocks ∷ (q_loads ∷ []))) (history unlocked (q_loads ∷ [])) }
-    ensures finishes { Moves two_nodes (history unlocked (q_loads ∷ [])) (history (Answered (entry_of q_loads (at 10 2) 1 NoLock) ∷ unlocked) []) }
+    ensures begins { HistoryMoves two_nodes (history [] []) (history [] (p_locks ∷ [])) }
+    ensures acts { HistoryMoves two_nodes (history [] (p_locks ∷ (q_locks ∷ []))) (history granted (p_locks ∷ (q_locks ∷ []))) }
+    ensures faults { HistoryMoves two_nodes (history granted (p_locks ∷ (q_locks ∷ []))) (history in_doubt (q_locks ∷ [])) }
+    ensures does { HistoryMoves two_nodes (history in_doubt (q_locks ∷ [])) (history refused (q_locks ∷ [])) }
+    ensures hears { HistoryMoves two_nodes (history refused (q_locks ∷ [])) (history conflict []) }
+    ensures is_told { HistoryMoves two_nodes (history (q_unlocks ∷ unlocks) (p_unlocks ∷ (q_loads ∷ []))) (history unlocked (q_loads ∷ [])) }
+    ensures finishes { HistoryMoves two_nodes (history unlocked (q_loads ∷ [])) (history (Answered (entry_of q_loads (at 10 2) 1 NoLock) ∷ unlocked) []) }
 {}

@@ -5,6 +5,7 @@ use Rattle.std.proofs.lemmas.Bool.{and_parts, false≢true}
 use Rattle.std.specs.List.{flat_map, list_all}
 use Rattle.std.proofs.lemmas.List.Elements.{All-append, All-cons, All-head, All-nil, All-tail}
 use Rattle.std.proofs.lemmas.List.Concat.{flat_map-append, flat_map-cons}
+use Rattle.std.proofs.lemmas.Option.{same_Some}
 use Rattle.uid_names.specs.Names.{ObjectName}
 use Rattle.uid_names.specs.Texts.{text_of}
 use Rattle.dom_history.specs.EndWords.{word_text}
@@ -23,7 +24,7 @@ use Rattle.journal_text.specs.declared.reading.effects.Effect.{Effect}
 use Rattle.journal_text.specs.declared.reading.effects.Effect.TheVariants.{Drop, Send, End}
 use Rattle.journal_text.proofs.KindNames.{kind_text_of}
 use Rattle.journal_text.proofs.Plain.{plain, is_inner, inner, lacks, weaker, both, inner-plain, plain-decimal, plain-uid, plain-kind, plain-end}
-use Rattle.journal_text.proofs.Splits.{some_is, pieces-from}
+use Rattle.journal_text.proofs.Splits.{pieces-from}
 use Rattle.journal_text.proofs.Fields.{plain-node}
 use Rattle.journal_text.proofs.Parts.{piece, piece-text, effect-again}
 
@@ -197,15 +198,15 @@ unfolding with_effect
 with-text names dropped sent (Some ended) (Drop u page) f h = cc
 with-text names dropped (Some sent) None (Drop u page) f h = cc
 with-text names dropped None None (Drop u page) f h =
-    ap (effects_text names) (sym (some_is (record { dropped = dropped ++ (u, page) ∷ []; sent = None; ended = None }) f h))
+    ap (effects_text names) (sym (same_Some (record { dropped = dropped ++ (u, page) ∷ []; sent = None; ended = None }) f h))
     ∙ simp (flat_map-append drop_text, append-nil)
 with-text names dropped sent (Some ended) (Send s) f h = cc
 with-text names dropped (Some sent) None (Send s) f h = cc
 with-text names dropped None None (Send s) f h =
-    ap (effects_text names) (sym (some_is (record { dropped = dropped; sent = Some s; ended = None }) f h)) ∙ simp append-nil
+    ap (effects_text names) (sym (same_Some (record { dropped = dropped; sent = Some s; ended = None }) f h)) ∙ simp append-nil
 with-text names dropped sent (Some ended) (End p word) f h = cc
 with-text names dropped sent None (End p word) f h =
-    ap (effects_text names) (sym (some_is (record { dropped = dropped; sent = sent; ended = Some (p, word) }) f h)) ∙ simp (append_assoc, append-nil)
+    ap (effects_text names) (sym (same_Some (record { dropped = dropped; sent = sent; ended = Some (p, word) }) f h)) ∙ simp (append_assoc, append-nil)
 
 with-read : (names : List (List ℕ)) (dropped : List (ObjectName × ℕ)) (sent : Option Sent) (ended : Option (ℕ × EndWord)) (x : Effect) (f : Effects)
     → AreRead names (record { dropped = dropped; sent = sent; ended = ended }) → IsEffect names x
@@ -216,16 +217,16 @@ with-read names dropped (Some sent) None (Drop u page) f are is h = cc
 with-read names dropped None None (Drop u page) f are is h =
     let p : ObjectName × ℕ = (u, page) in
     let pages : All IsPage (dropped ++ p ∷ []) = All-append IsPage dropped (p ∷ []) are.written.dropped (All-cons IsPage p [] is (All-nil IsPage)) in
-    subst (AreRead names) (some_is (record { dropped = dropped ++ p ∷ []; sent = None; ended = None }) f h)
+    subst (AreRead names) (same_Some (record { dropped = dropped ++ p ∷ []; sent = None; ended = None }) f h)
     (record { written = record { dropped = pages; sent = are.written.sent }; kind = are.kind; proc = are.proc })
 with-read names dropped sent (Some ended) (Send s) f are is h = cc
 with-read names dropped (Some sent) None (Send s) f are is h = cc
 with-read names dropped None None (Send s) f are is h =
-    subst (AreRead names) (some_is (record { dropped = dropped; sent = Some s; ended = None }) f h)
+    subst (AreRead names) (same_Some (record { dropped = dropped; sent = Some s; ended = None }) f h)
     (record { written = record { dropped = are.written.dropped; sent = is.0 }; kind = is.1; proc = are.proc })
 with-read names dropped sent (Some ended) (End p word) f are is h = cc
 with-read names dropped sent None (End p word) f are is h =
-    subst (AreRead names) (some_is (record { dropped = dropped; sent = sent; ended = Some (p, word) }) f h)
+    subst (AreRead names) (same_Some (record { dropped = dropped; sent = sent; ended = Some (p, word) }) f h)
     (record { written = record { dropped = are.written.dropped; sent = are.written.sent }; kind = are.kind; proc = is })
 
 pub added-text : {E : Type 0} (r : Result Bool E) (names : List (List ℕ)) (e f : Effects) (x : Effect) (text : List ℕ) → 59 ∷ text ≡ effect_text names x

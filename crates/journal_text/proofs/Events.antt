@@ -4,6 +4,7 @@ use Rattle.std.specs.Prelude.{All}
 use Rattle.std.proofs.lemmas.List.{append_cancel_right, length-append}
 use Rattle.std.proofs.lemmas.List.Elements.{All-head, All-tail}
 use Rattle.std.proofs.lemmas.List.Concat.{flat_map-append, flat_map-cons}
+use Rattle.std.proofs.lemmas.Option.{same_Some}
 use Rattle.uid_names.specs.declared.ids.Place.{Place}
 use Rattle.dom_history.specs.Events.{Happening, IsWhat}
 use Rattle.dom_history.specs.NodeTexts.{AreNodeNames}
@@ -17,7 +18,7 @@ use Rattle.journal_text.specs.Walk.LineStarts.{start_of}
 use Rattle.journal_text.specs.Walk.LineEffects.{effects_of}
 use Rattle.journal_text.specs.Written.{IsNode, IsWhatOf, IsWritten, IsAbove, RiseFrom, last_from, IsJournal, IsBadLine, BeginWithNoLine}
 use Rattle.journal_text.proofs.Plain.{is_inner, inner, lacks, both, inner-plain, plain-decimal}
-use Rattle.journal_text.proofs.Splits.{some_is, head-found, pieces-behind}
+use Rattle.journal_text.proofs.Splits.{head-found, pieces-behind}
 use Rattle.dom_text.proofs.Cutting.{cut_at-found, same_cut}
 use Rattle.journal_text.proofs.Fields.{plain-node}
 use Rattle.journal_text.proofs.Parts.{start-again}
@@ -115,7 +116,7 @@ module _ (names : List (List ℕ)) (are : AreNodeNames names) where
       let cut : IsHeadOf (event_text names d) (start_text names d) (effects_text names d.effects) = record { whole = refl; first = first; begins = effects-begin names are d.effects } in
       let of_d = parts-again d (event_text names d) (start_text names d) (effects_text names d.effects) wd cut refl in
       let of_e = parts-again e (event_text names d) (start_text names d) (effects_text names d.effects) we cut same in
-      rebuilt d e (some_is (beginning d) (beginning e) (sym of_d.0 ∙ of_e.0)) (some_is d.effects e.effects (sym of_d.1 ∙ of_e.1))
+      rebuilt d e (same_Some (beginning d) (beginning e) (sym of_d.0 ∙ of_e.0)) (same_Some d.effects e.effects (sym of_d.1 ∙ of_e.1))
 
   -- what the parts of a line are read as
   pub line-parts : (e : Happening) (text front back : List ℕ) → IsWritten names e → IsHeadOf text front back → text ++ codes "\n" ≡ line names e
@@ -134,7 +135,7 @@ module _ (names : List (List ℕ)) (are : AreNodeNames names) where
   line-cut_off e bytes behind text back w same cut =
       let p : List ℕ × List ℕ = (text, back) in
       let q : List ℕ × List ℕ = (event_text names e, behind) in
-      let parts : p ≡ q = some_is p q (sym cut ∙ line-cut e bytes behind w same) in
+      let parts : p ≡ q = same_Some p q (sym cut ∙ line-cut e bytes behind w same) in
       ap (λ (r : List ℕ × List ℕ). r.0 ++ codes "\n") parts ∙ sym (line-text names e)
 
   -- ---- laws

@@ -2,9 +2,9 @@
 use Rattle.std.proofs.Common.{◌≡◌, ◌≢◌, ◌<◌, ◌≤◌, ◌+◌, ◌-◌, ◌/◌, ◌%◌, ◌^◌, ℕ, zero, suc, Bool, true, false, All, List, [], ◌∷◌, length, get_or, decimal, Option, Some, None, Result, Ok, Err, MatchOption, refl, ap, sym, ◌∙◌, arith}
 use Rattle.std.specs.Prelude.{bytes_eq}
 use Rattle.uid_names.specs.Texts.{text_of}
-use Rattle.std.specs.Prelude.{◌&&◌, nat_le, nat_lt, if◌then◌else◌, is_some, AllPairs, slice_get, unwrap_or}
+use Rattle.std.specs.Prelude.{◌&&◌, nat_le, nat_lt, if◌then◌else◌, AllPairs, slice_get, unwrap_or}
 use Rattle.std.specs.Int.{w64, from_be_bytes}
-use Rattle.std.proofs.lemmas.Bool.{false≢true, and_parts}
+use Rattle.std.proofs.lemmas.Bool.{and_parts}
 use Rattle.std.proofs.lemmas.Bool.Decides.{nat_tests}
 use Rattle.std.proofs.lemmas.List.Elements.{All-head, All-tail}
 use Rattle.std.proofs.lemmas.Slice.Eq.{bytes_eq-Decides}
@@ -19,6 +19,7 @@ use Rattle.uid_names.specs.FrameKinds.{kind_name}
 use Rattle.uid_names.specs.declared.limits.TheConstants.{MAX_NODES, NODE_PROCESSES}
 use Rattle.uid_names.specs.declared.frame_kind.FrameKind.{FrameKind}
 use Rattle.uid_names.proofs.UidTexts.{decoded-text_of}
+use Rattle.uid_names.proofs.Somes.{found_there}
 use Rattle.dom_history.specs.Ranges.{IsProcNumber}
 use Rattle.dom_history.specs.EndWords.{word_text}
 use Rattle.dom_history.proofs.EndTexts.{end_of_word-word}
@@ -74,10 +75,6 @@ node-at k (name ∷ names) (suc i) word once h =
         let r = at_most names i word [] h in
         once 0 (suc i) [] (omega arith) (omega (arith, r.0)) (e ∙ sym r.1)
 
-some_of : {A : Type 0} (o : Option A) → is_some o ≡ true → (x : A) × (o ≡ Some x)
-some_of None h = absurd (false≢true h)
-some_of (Some x) h = (x, refl)
-
 pub node-named : (names : List (List ℕ)) (n : ℕ) (word : List ℕ) → AreNodeNames names → 1 ≤ n → name_of names n ≡ Some word → node_of names word ≡ Some n
 unfolding node_of
 node-named names n word are low h =
@@ -86,7 +83,7 @@ node-named names n word are low h =
 
 pub node-again : (names : List (List ℕ)) (n : ℕ) → AreNodeNames names → IsNode names n → node_of names (node_text names n) ≡ Some n
 node-again names n are is =
-    let w = some_of (name_of names n) is.named in
+    let w = found_there (name_of names n) is.named in
     let text : node_text names n ≡ w.0 = ap (λ (o : Option (List ℕ)). unwrap_or o []) w.1 in
     ap (node_of names) text ∙ node-named names n w.0 are is.low w.1
 
@@ -106,7 +103,7 @@ name_is (x ∷ xs) (suc i) word h e = name_is xs i word (All-tail IsNameText x x
 
 pub plain-node : (names : List (List ℕ)) (n : ℕ) → AreNodeNames names → IsNamed names n → plain (node_text names n) ≡ true
 plain-node names n are is =
-    let w = some_of (name_of names n) is in
+    let w = found_there (name_of names n) is in
     let text : node_text names n ≡ w.0 = ap (λ (o : Option (List ℕ)). unwrap_or o []) w.1 in
     ap plain text ∙ plain-name w.0 (name_is names (n - 1) w.0 are.texts w.1)
 

@@ -1,12 +1,9 @@
 -- Lines are cut in front of their `;`.
-use Rattle.std.proofs.Common.{◌≡◌, ◌≢◌, ℕ, List, [], ◌∷◌, ◌++◌, Some, refl, ap}
+use Rattle.std.proofs.Common.{◌≡◌, ◌≢◌, ℕ, List, [], ◌∷◌, ◌++◌, refl, ap}
 use Rattle.std.proofs.lemmas.Bool.{eq-eqb, ne_eqb}
 use Rattle.std.proofs.lemmas.List.Elements.{All-head, All-tail}
 use Rattle.dom_text.specs.Cuts.{Lacks}
 use Rattle.journal_text.specs.Walk.Heads.{IsHeadOf, BeginsWithSemicolon, head_of, pieces_of}
-
-pub some_is : {A : Type 0} (x y : A) → Some x ≡ Some y → x ≡ y
-some_is x y e = cc
 
 empty_head : (back : List ℕ) → BeginsWithSemicolon back → head_of back ≡ []
 unfolding head_of

@@ -1,27 +1,20 @@
 -- Locks that conflict, and holders that do not.
-use Rattle.std.proofs.Common.{◌≡◌, ◌∙◌, ap, sym, refl, rules, arith, Bool, true, false, List, [], ◌∷◌}
-use Rattle.std.specs.Prelude.{find, not, ◌&&◌, All, AllPairs, Some, if◌then◌else◌}
-use Rattle.std.proofs.lemmas.Bool.Decides.{nat_tests}
-use Rattle.uid_names.specs.Names.{ProcName, ObjectName, same_proc, same_uid}
+use Rattle.std.proofs.Common.{◌≡◌, ◌∙◌, sym, refl, Bool, true, false, List, [], ◌∷◌}
+use Rattle.std.specs.Prelude.{◌&&◌, AllPairs, Some, if◌then◌else◌}
+use Rattle.uid_names.specs.Names.{ProcName, ObjectName, same_proc}
 use Rattle.uid_names.specs.Modes.{modes_clash}
-use Rattle.uid_names.specs.Rows.{same_row, is_in_conflict}
+use Rattle.uid_names.specs.Rows.{same_row}
 use Rattle.uid_names.specs.declared.lock_row.LockRow.{LockRow}
 use Rattle.uid_names.proofs.Codes.{modes_clash-sym}
 use Rattle.uid_names.proofs.Finds.{find-passes}
 use Rattle.uid_names.proofs.InOrder.{AllPairs-head, AllPairs-tail}
-use Rattle.uid_names.proofs.Orders.{same_row_is}
-use Rattle.std.proofs.lemmas.List.Elements.{All-head, All-tail}
+use Rattle.uid_names.proofs.Orders.{same_row_is, same_proc-itself, same_uid-itself, same_uid-sym, same_proc-sym}
+use Rattle.uid_names.proofs.ListLemmas.{All-found}
 use Rattle.lock_manager.specs.declared.grants.Grant.{Grant}
 use Rattle.lock_manager.specs.Grants.{grant_of}
 use Rattle.lock_manager.specs.Tables.{are_in_conflict}
 
 -- ---- conflicts are mutual
-
-same_proc-sym : (p q : ProcName) → same_proc p q ≡ same_proc q p
-same_proc-sym p q = grind (arith, nat_tests)
-
-same_uid-sym : (u v : ObjectName) → same_uid u v ≡ same_uid v u
-same_uid-sym u v = grind (arith, nat_tests)
 
 pub are_in_conflict-sym : (a b : Grant) → are_in_conflict a b ≡ are_in_conflict b a
 are_in_conflict-sym a b =
@@ -29,23 +22,9 @@ are_in_conflict-sym a b =
 
 -- ---- two that hold an object
 
-All-found : {X : Type 0} (P : X → Type 0) (test : X → Bool) (xs : List X) (x : X) → All P xs → find test xs ≡ Some x → P x
-All-found P test [] x all found = absurd cc
-All-found P test (y ∷ ys) x all found = by (test y) found (All-found P test ys x (All-tail P y ys all))
-  where
-    by : (b : Bool) → (if b then Some y else find test ys) ≡ Some x → (find test ys ≡ Some x → P x) → P x
-    by true is others = let same : y ≡ x = cc in rw (← same) (All-head P y ys all)
-    by false is others = others is
-
 -- no two locks of these grants conflict
 abbrev AreCompatible : List Grant → Type 0
 AreCompatible = AllPairs (λ a b. are_in_conflict a b ≡ false)
-
-same_uid-itself : (u : ObjectName) → same_uid u u ≡ true
-same_uid-itself u = grind (arith, nat_tests)
-
-same_proc-itself : (p : ProcName) → same_proc p p ≡ true
-same_proc-itself p = grind (arith, nat_tests)
 
 -- one row is not that of two processes
 not_both : (p q : ProcName) (u : ObjectName) (row : LockRow) → same_row p u row ≡ true → same_row q u row ≡ true → same_proc p q ≡ false → ⊥

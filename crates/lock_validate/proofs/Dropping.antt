@@ -2,9 +2,10 @@
 -- process of the node keeps it.
 use Rattle.std.proofs.Common.{◌≡◌, ℕ, Bool, true, false, [], Option, Some, None, inl, inr, refl, sym, ap, subst, ◌∙◌}
 use Rattle.std.specs.Prelude.{◌==◌, ◌⊎◌, not, ◌&&◌}
-use Rattle.std.proofs.lemmas.Bool.{cases_eq}
+use Rattle.std.proofs.lemmas.Bool.{cases_eq, not-true}
 use Rattle.uid_names.specs.Names.{ObjectName}
 use Rattle.uid_names.proofs.ListLemmas.{by_cases}
+use Rattle.uid_names.proofs.Passed.{left-true, right-true}
 use Rattle.dom_history.specs.declared.op.Op.{Op}
 use Rattle.dom_history.specs.declared.deed.LockState.TheVariants.{Free}
 use Rattle.page_cache.specs.Numbers.{dirty_page}
@@ -21,18 +22,8 @@ use Rattle.lock_validate.specs.Answers.{dropped_of, is_seen, answered}
 use Rattle.lock_validate.specs.GrantDrops.{MayDropAt}
 use Rattle.lock_validate.specs.Wants.{MayWantAt}
 use Rattle.fault_handler.proofs.Fours.{at-put_other, any-at, any-of, apart-of}
-use Rattle.fault_handler.proofs.Replying.{not-true}
 use Rattle.lock_validate.proofs.States.{free-unheld, unheld-unkept, released-unkept}
 use Rattle.lock_validate.proofs.Standing.{AnswerStands}
-
--- what tests say of their parts
-pub left-true : (a b : Bool) → (a && b) ≡ true → a ≡ true
-left-true true b h = refl
-left-true false b h = absurd (cc)
-
-pub right-true : (a b : Bool) → (a && b) ≡ true → b ≡ true
-right-true true b h = h
-right-true false b h = absurd (cc)
 
 -- an unlock or a removal drops nothing
 module _ (d : DeskState) (p : ℕ) (u : ObjectName) (delete : Bool) where

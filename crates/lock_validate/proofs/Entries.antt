@@ -3,7 +3,7 @@ use Rattle.std.proofs.Common.{◌≡◌, ◌≢◌, ℕ, true, false, [], Option
 use Rattle.std.specs.Option.{option_map}
 use Rattle.uid_names.specs.Names.{ObjectName, same_uid}
 use Rattle.uid_names.proofs.ListLemmas.{by_cases}
-use Rattle.uid_names.proofs.Orders.{same_uid_is}
+use Rattle.uid_names.proofs.Orders.{same_uid_is, same_uid-itself}
 use Rattle.dom_history.specs.declared.deed.LockState.{LockState}
 use Rattle.dom_history.specs.declared.deed.LockState.TheVariants.{Free, Held, Taking, Releasing, Deleting}
 use Rattle.dom_history.specs.Locks.{is_free, is_held}
@@ -16,7 +16,7 @@ use Rattle.fault_handler.specs.Invariant.{IsProc, KeepsAll, IsDesk}
 use Rattle.fault_handler.specs.Conditions.{IsIdle}
 use Rattle.fault_handler.specs.Ready.{KeepsOthers, ReleaseStands}
 use Rattle.fault_handler.proofs.Fours.{at-put_same}
-use Rattle.fault_handler.proofs.LockKeeps.{entry_after, entry_of-noted_same, entry_of-noted_other, entry_of-after_same, entry_of-after_other, same_uid-own}
+use Rattle.fault_handler.proofs.LockKeeps.{entry_after, entry_of-noted_same, entry_of-noted_other, entry_of-after_same, entry_of-after_other}
 use Rattle.lock_validate.proofs.States.{held-there}
 
 module _ (d : DeskState) (p : ℕ) (u : ObjectName) (is : IsDesk d) (proc : IsProc p) where
@@ -76,4 +76,4 @@ module _ (d : DeskState) (p : ℕ) (u : ObjectName) (is : IsDesk d) (proc : IsPr
       (subst (λ (o : Option LockEntry). is_held (state_in o) ≡ true → keeps o ≡ true) (sym (entry-set_same s grant)) (kept-after s grant)) held)
       (λ differ.
       let same = entry-set_other s grant v differ in
-      ap keeps same ∙ others v (λ e. let h : same_uid v u ≡ true = rw e (same_uid-own u) in let x : true ≡ false = sym h ∙ differ in cc) (sym (ap (λ (o : Option LockEntry). is_held (state_in o)) same) ∙ held))
+      ap keeps same ∙ others v (λ e. let h : same_uid v u ≡ true = rw e (same_uid-itself u) in let x : true ≡ false = sym h ∙ differ in cc) (sym (ap (λ (o : Option LockEntry). is_held (state_in o)) same) ∙ held))

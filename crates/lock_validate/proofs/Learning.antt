@@ -2,8 +2,10 @@
 use Rattle.std.proofs.Common.{◌≡◌, ℕ, Bool, true, false, Option, Some, None, IsSome, is_some, refl, sym, ◌∙◌, arith}
 use Rattle.std.specs.Prelude.{◌==◌, not, ◌&&◌}
 use Rattle.std.proofs.lemmas.Bool.Decides.{nat_tests}
+use Rattle.std.proofs.lemmas.Bool.{not-false}
 use Rattle.uid_names.specs.Names.{ObjectName, same_uid}
 use Rattle.uid_names.proofs.ListLemmas.{by_cases}
+use Rattle.uid_names.proofs.Passed.{right-true}
 use Rattle.version_stamps.specs.Stamps.{stamp_of, raised}
 use Rattle.version_stamps.proofs.LookUps.{stamp_of-with_stamp}
 use Rattle.fault_handler.specs.Entries.{keeps}
@@ -12,11 +14,6 @@ use Rattle.fault_handler.specs.Changes.{with_seen}
 use Rattle.fault_handler.specs.Invariant.{IsDesk}
 use Rattle.lock_validate.specs.Answers.{is_seen, is_fresh, learned}
 use Rattle.fault_handler.proofs.Fours.{any-of}
-use Rattle.lock_validate.proofs.Dropping.{right-true}
-
-not-false : (b : Bool) → not b ≡ false → b ≡ true
-not-false true h = refl
-not-false false h = absurd (cc)
 
 -- of an object that another process keeps a stamp was seen
 others-seen : (d : DeskState) (p : ℕ) (u : ObjectName) → IsDesk d → others_keep d.entries p u ≡ true → IsSome (stamp_of u d.seen)

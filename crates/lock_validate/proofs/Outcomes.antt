@@ -15,7 +15,7 @@ use Rattle.fault_handler.specs.Conditions.{IsIdle}
 use Rattle.fault_handler.specs.Ready.{IsReady}
 use Rattle.fault_handler.specs.Next.{FitsTurn, IsAsked, IsOpen, IsNext}
 use Rattle.lock_validate.specs.declared.step.Step.{Step}
-use Rattle.lock_validate.specs.Steps.{as_step, seen_step, Tells}
+use Rattle.lock_validate.specs.Steps.{as_step, seen_step, TellsTurn}
 use Rattle.lock_validate.specs.Faults.{call_failed_of}
 use Rattle.lock_validate.proofs.Standing.{op_of, is-open}
 use Rattle.lock_validate.proofs.Answering.{call_failed_of-good}
@@ -28,7 +28,7 @@ seen-as_step (Turn.Asks home ask) dropped = ap (option_map (λ a. let o : Outcom
 seen-as_step (Turn.Waits u k) dropped = refl
 
 -- what holds of the outcome holds of what the step tells
-tells : (new : DeskState) (m : Moved) (step : Step) → Gives as_step new m step → (P : DeskState → Turn → Type 0) → P m.desk m.turn → Tells (P new) step
+tells : (new : DeskState) (m : Moved) (step : Step) → Gives as_step new m step → (P : DeskState → Turn → Type 0) → P m.desk m.turn → TellsTurn (P new) step
 tells new m step gives P holds x found =
     let o : Outcome = record { turn = m.turn; dropped = m.dropped } in
     let same : o ≡ x = same_Some o x (sym (seen-as_step m.turn m.dropped) ∙ ap seen_step (sym gives.1) ∙ found) in
@@ -36,9 +36,9 @@ tells new m step gives P holds x found =
 
 -- what the contract of a call says beside the outcome
 pub record IsTold {E : Type 0} (d new : DeskState) (p : ℕ) (op : Op) (r : Result Step E) : Type 0 where
-  pub fits : IfOk r (Tells (FitsTurn op))
-  pub asks : IfOk r (Tells (IsAsked new.nodes))
-  pub next : IfOk r (Tells (IsNext new p op))
+  pub fits : IfOk r (TellsTurn (FitsTurn op))
+  pub asks : IfOk r (TellsTurn (IsAsked new.nodes))
+  pub next : IfOk r (TellsTurn (IsNext new p op))
   pub ready : OnOk r (IsReady new p)
   pub node : OnOk r (new.node ≡ d.node)
   pub nodes : OnOk r (new.nodes ≡ d.nodes)

@@ -5,6 +5,7 @@ use Rattle.std.proofs.lemmas.Bool.Decides.{nat_tests}
 use Rattle.uid_names.specs.Names.{ObjectName}
 use Rattle.uid_names.specs.declared.limits.TheConstants.{MAX_LENGTH, MAX_ROOM, PAGE_BYTES, PROCESS_LOCKS}
 use Rattle.uid_names.specs.declared.mode.Mode.{Mode}
+use Rattle.uid_names.proofs.Somes.{there_is}
 use Rattle.dom_history.specs.declared.op.Op.TheVariants as ops
 use Rattle.dom_history.specs.declared.op.Reply.TheVariants.{NoObject, AlreadyHeld, Unsettled, TooMany, NotHeld, NoLock, WrongMode}
 use Rattle.dom_history.specs.Locks.{is_free, is_held, is_unsettled}
@@ -30,7 +31,7 @@ use Rattle.lock_validate.specs.Releases.{release_call, release_ask, bytes_in, le
 use Rattle.fault_handler.proofs.Accessing.{base-least}
 use Rattle.fault_handler.proofs.Fours.{at-put_same, any-at, any-of, apart-of}
 use Rattle.fault_handler.proofs.PageLists.{found-page}
-use Rattle.fault_handler.proofs.TransitKeeps.{dirty-writes, there_is, keeps_writing-keeps}
+use Rattle.fault_handler.proofs.TransitKeeps.{dirty-writes, keeps_writing-keeps}
 use Rattle.fault_handler.proofs.Outcomes.{IsAfter}
 use Rattle.fault_handler.proofs.Beginning.{keeps-writes}
 use Rattle.lock_validate.proofs.States.{writes-held, held-there, neither-free, deletes-writes, keeps_writing-writes, there-some, grant-least}

@@ -1,7 +1,11 @@
 -- What tests of a process's state on an object, and of its entry, say of one another.
-use Rattle.std.proofs.Common.{◌≡◌, ◌≤◌, true, false, Option, Some, None, IfSome, IsSome, refl, arith}
+use Rattle.std.proofs.Common.{◌≡◌, ◌≤◌, true, false, Option, Some, None, IfSome, IsSome, refl, ap, ◌∙◌, arith}
+use Rattle.std.specs.Prelude.{◌&&◌, not}
 use Rattle.std.proofs.lemmas.Bool.Decides.{nat_tests}
+use Rattle.uid_names.specs.Modes.{mode_writes}
+use Rattle.uid_names.specs.declared.mode.Mode.{Mode}
 use Rattle.uid_names.proofs.Codes.{removes-writes}
+use Rattle.uid_names.proofs.Passed.{left-true, right-true}
 use Rattle.uid_names.proofs.ListLemmas.{by_cases}
 use Rattle.dom_history.specs.declared.deed.LockState.{LockState}
 use Rattle.dom_history.specs.declared.deed.LockState.TheVariants.{Free, Held, Taking, Releasing, Deleting}
@@ -79,3 +83,39 @@ grant-least (Some e) held is = by_state e.state held is
     by_state (Taking m) held is = absurd (cc)
     by_state (Releasing m) held is = absurd (cc)
     by_state Deleting held is = absurd (cc)
+
+-- nothing is kept of what is free
+pub free-unkept : (o : Option LockEntry) → is_free (state_in o) ≡ true → keeps o ≡ false
+free-unkept None is = refl
+free-unkept (Some e) is = by e.state is
+  where
+    by : (st : LockState) → is_free st ≡ true → (is_held st && not e.released) ≡ false
+    by Free is = refl
+    by (Held m) is = absurd (cc)
+    by (Taking m) is = absurd (cc)
+    by (Releasing m) is = absurd (cc)
+    by Deleting is = absurd (cc)
+
+-- the entry of what is kept
+pub kept-entry : (o : Option LockEntry) → keeps o ≡ true → (e : LockEntry) × (m : Mode) × (o ≡ Some e) × (e.state ≡ Held m)
+kept-entry None kept = absurd (cc)
+kept-entry (Some e) kept = by e.state refl kept
+  where
+    by : (st : LockState) → e.state ≡ st → (is_held st && not e.released) ≡ true → (x : LockEntry) × (m : Mode) × (Some e ≡ Some x) × (x.state ≡ Held m)
+    by (Held m) is kept = (e, m, refl, is)
+    by Free is kept = absurd (cc)
+    by (Taking m) is kept = absurd (cc)
+    by (Releasing m) is kept = absurd (cc)
+    by Deleting is kept = absurd (cc)
+
+-- and of what is kept to write
+pub writing-entry : (o : Option LockEntry) → keeps_writing o ≡ true → (e : LockEntry) × (m : Mode) × (o ≡ Some e) × (e.state ≡ Held m) × (mode_writes m ≡ true) × (keeps (Some e) ≡ true)
+writing-entry None kept = absurd (cc)
+writing-entry (Some e) kept = by e.state refl kept
+  where
+    by : (st : LockState) → e.state ≡ st → (may_write st && not e.released) ≡ true → (x : LockEntry) × (m : Mode) × (Some e ≡ Some x) × (x.state ≡ Held m) × (mode_writes m ≡ true) × (keeps (Some x) ≡ true)
+    by (Held m) is kept = (e, m, refl, is, left-true (mode_writes m) (not e.released) kept, ap (λ st. is_held st && not e.released) is ∙ right-true (mode_writes m) (not e.released) kept)
+    by Free is kept = absurd (cc)
+    by (Taking m) is kept = absurd (cc)
+    by (Releasing m) is kept = absurd (cc)
+    by Deleting is kept = absurd (cc)

@@ -27,5 +27,5 @@ seen_step (Wait u k dropped) = Some (record { turn = Turn.Waits u k; dropped = d
 seen_step (End reply dropped) = Some (record { turn = Turn.Ends reply; dropped = dropped })
 
 -- what holds of the turn that a step tells
-abbrev pub Tells : (Turn → Type 0) → Step → Type 0
-Tells P step = ForSome (seen_step step) (λ o. P o.turn)
+abbrev pub TellsTurn : (Turn → Type 0) → Step → Type 0
+TellsTurn P step = ForSome (seen_step step) (λ o. P o.turn)

@@ -15,7 +15,7 @@ ghost use Rattle.fault_handler.specs.Invariant.{IsDesk, is_dirty};
 ghost use Rattle.fault_handler.specs.Conditions.{IsOf, IsIdle, IsNotAccessing};
 ghost use Rattle.fault_handler.specs.Ready.{LockStands, WriterStands, ReleaseStands, CallStands, IsReady};
 ghost use Rattle.fault_handler.specs.Next.{FitsTurn, IsAsked, IsOpen, IsNext};
-ghost use Rattle.lock_validate.specs.Steps.{as_step, Tells};
+ghost use Rattle.lock_validate.specs.Steps.{as_step, TellsTurn};
 ghost use Rattle.lock_validate.specs.Releases.{release_of};
 ghost use Rattle.lock_validate.specs.Answers.{is_seen, is_fresh, after_drop, dropped_of, learned, granted, gone, removed, answered, answer_came_of, answer_at, lock_answer_of};
 ghost use Rattle.lock_validate.specs.Wants.{SendsPage, MayWantAt};
@@ -44,9 +44,9 @@ pub fn answer_came(
     requires range { IsBody proc.node body.now }
     ensures outcome { IfOk result (λ step. ForSome (lock_answer_of desk.old proc.number body.now) (λ answer. Gives as_step desk.new (answer_came_of desk.old proc.number answer) step)) }
     ensures memory { OnErr result (ForSome (lock_answer_of desk.old proc.number body.now) (MayWantAt desk.old proc.number)) }
-    ensures fits { (op : Op) → IsOpen desk.old proc.number op → IfOk result (Tells (FitsTurn op)) }
-    ensures asks { IfOk result (Tells (IsAsked desk.new.nodes)) }
-    ensures next { (op : Op) → IsOpen desk.old proc.number op → IfOk result (Tells (IsNext desk.new proc.number op)) }
+    ensures fits { (op : Op) → IsOpen desk.old proc.number op → IfOk result (TellsTurn (FitsTurn op)) }
+    ensures asks { IfOk result (TellsTurn (IsAsked desk.new.nodes)) }
+    ensures next { (op : Op) → IsOpen desk.old proc.number op → IfOk result (TellsTurn (IsNext desk.new proc.number op)) }
     ensures ready { OnOk result (IsReady desk.new proc.number) }
     ensures node { OnOk result (desk.new.node ≡ desk.old.node) }
     ensures nodes { OnOk result (desk.new.nodes ≡ desk.old.nodes) }
@@ -59,7 +59,7 @@ pub fn answer_came(
     }
 }
 
-/// The same, with the call that was open.
+/// A home answers the call that was open.
 fn answered(
     alloc: Global,
     desk: &mut Desk,

@@ -38,7 +38,7 @@ pub fn call_failed(desk: &mut Desk, proc: ProcId) -> Reply
     }
 }
 
-/// The same, with the call that was open.
+/// A link fault ends the call that was open.
 fn failed(desk: &mut Desk, proc: ProcId, call: OpenCall) -> Reply
     requires own { IsOf desk.old proc }
     requires kept { IsDesk desk.old }

@@ -7,7 +7,7 @@ ghost use Rattle.fault_handler.specs.Outcomes.{Gives};
 ghost use Rattle.fault_handler.specs.Conditions.{IsOf, IsIdle};
 ghost use Rattle.fault_handler.specs.Ready.{IsReady};
 ghost use Rattle.fault_handler.specs.Next.{FitsTurn, IsAsked, IsNext};
-ghost use Rattle.lock_validate.specs.Steps.{as_step, Tells};
+ghost use Rattle.lock_validate.specs.Steps.{as_step, TellsTurn};
 ghost use Rattle.lock_validate.specs.Locking.{lock_by, begin_lock_of};
 
 use crate::sends::{end, send};
@@ -30,9 +30,9 @@ pub fn begin_lock(
     requires idle { IsIdle desk.old proc.number }
     ensures done { IsOk result }
     ensures outcome { IfOk result (Gives as_step desk.new (begin_lock_of desk.old proc.number uid mode)) }
-    ensures fits { IfOk result (Tells (FitsTurn (Op.Lock uid mode))) }
-    ensures asks { IfOk result (Tells (IsAsked desk.new.nodes)) }
-    ensures next { IfOk result (Tells (IsNext desk.new proc.number (Op.Lock uid mode))) }
+    ensures fits { IfOk result (TellsTurn (FitsTurn (Op.Lock uid mode))) }
+    ensures asks { IfOk result (TellsTurn (IsAsked desk.new.nodes)) }
+    ensures next { IfOk result (TellsTurn (IsNext desk.new proc.number (Op.Lock uid mode))) }
     ensures ready { OnOk result (IsReady desk.new proc.number) }
     ensures node { OnOk result (desk.new.node ≡ desk.old.node) }
     ensures nodes { OnOk result (desk.new.nodes ≡ desk.old.nodes) }
@@ -41,7 +41,7 @@ pub fn begin_lock(
     Ok(lock_by(alloc, desk, proc, uid, mode, state))
 }
 
-/// The same, from the process's state on the object.
+/// Begins a lock, from the process's state on the object.
 fn lock_by(
     alloc: Global,
     desk: &mut Desk,
@@ -63,7 +63,7 @@ fn lock_by(
     }
 }
 
-/// The same, where the process is Free on the object.
+/// Begins a lock on an object on which the process is Free.
 fn lock_free(alloc: Global, desk: &mut Desk, proc: ProcId, uid: Uid, mode: Mode) -> Step
     requires own { IsOf desk.old proc }
     requires idle { IsIdle desk.old proc.number }

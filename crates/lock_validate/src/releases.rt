@@ -15,7 +15,7 @@ ghost use Rattle.fault_handler.specs.Invariant.{IsDesk};
 ghost use Rattle.fault_handler.specs.Conditions.{IsOf, IsIdle, IsNotAccessing};
 ghost use Rattle.fault_handler.specs.Ready.{IsReady};
 ghost use Rattle.fault_handler.specs.Next.{FitsTurn, IsAsked, MayGoOn, IsNext};
-ghost use Rattle.lock_validate.specs.Steps.{sent, as_step, Tells};
+ghost use Rattle.lock_validate.specs.Steps.{sent, as_step, TellsTurn};
 ghost use Rattle.lock_validate.specs.Releases.{release_call, release_ask, length_first, page_first, release_of, unlock_by, begin_unlock_of, delete_by, begin_delete_of, begin_release_of, release_in};
 ghost use Rattle.lock_validate.specs.Wants.{SendsPage};
 
@@ -39,9 +39,9 @@ pub fn begin_unlock(
     ensures unchanged { OnErr result (desk.new ≡ desk.old) }
     ensures memory { OnErr result (SendsPage desk.old uid) }
     ensures outcome { IfOk result (Gives as_step desk.new (begin_unlock_of desk.old proc.number uid)) }
-    ensures fits { IfOk result (Tells (FitsTurn (Op.Unlock uid))) }
-    ensures asks { IfOk result (Tells (IsAsked desk.new.nodes)) }
-    ensures next { IfOk result (Tells (IsNext desk.new proc.number (Op.Unlock uid))) }
+    ensures fits { IfOk result (TellsTurn (FitsTurn (Op.Unlock uid))) }
+    ensures asks { IfOk result (TellsTurn (IsAsked desk.new.nodes)) }
+    ensures next { IfOk result (TellsTurn (IsNext desk.new proc.number (Op.Unlock uid))) }
     ensures ready { OnOk result (IsReady desk.new proc.number) }
     ensures node { OnOk result (desk.new.node ≡ desk.old.node) }
     ensures nodes { OnOk result (desk.new.nodes ≡ desk.old.nodes) }
@@ -50,7 +50,7 @@ pub fn begin_unlock(
     unlock_by(alloc, desk, proc, uid, state)
 }
 
-/// The same, from the process's state on the object.
+/// Begins an unlock, from the process's state on the object.
 fn unlock_by(
     alloc: Global,
     desk: &mut Desk,
@@ -91,9 +91,9 @@ pub fn begin_delete(
     ensures unchanged { OnErr result (desk.new ≡ desk.old) }
     ensures memory { OnErr result (SendsPage desk.old uid) }
     ensures outcome { IfOk result (Gives as_step desk.new (begin_delete_of desk.old proc.number uid)) }
-    ensures fits { IfOk result (Tells (FitsTurn (Op.Delete uid))) }
-    ensures asks { IfOk result (Tells (IsAsked desk.new.nodes)) }
-    ensures next { IfOk result (Tells (IsNext desk.new proc.number (Op.Delete uid))) }
+    ensures fits { IfOk result (TellsTurn (FitsTurn (Op.Delete uid))) }
+    ensures asks { IfOk result (TellsTurn (IsAsked desk.new.nodes)) }
+    ensures next { IfOk result (TellsTurn (IsNext desk.new proc.number (Op.Delete uid))) }
     ensures ready { OnOk result (IsReady desk.new proc.number) }
     ensures node { OnOk result (desk.new.node ≡ desk.old.node) }
     ensures nodes { OnOk result (desk.new.nodes ≡ desk.old.nodes) }
@@ -102,7 +102,7 @@ pub fn begin_delete(
     delete_by(alloc, desk, proc, uid, state)
 }
 
-/// The same, from the process's state on the object.
+/// Begins a removal, from the process's state on the object.
 fn delete_by(
     alloc: Global,
     desk: &mut Desk,
@@ -136,9 +136,9 @@ pub fn go_on(alloc: Global, desk: &mut Desk, proc: ProcId, op: &Op) -> Result<St
     ensures unchanged { OnErr result (desk.new ≡ desk.old) }
     ensures memory { OnErr result (ForSome (release_in op.now) (λ (delete, u). SendsPage desk.old u)) }
     ensures outcome { IfOk result (λ step. ForSome (release_in op.now) (λ (delete, u). Gives as_step desk.new (begin_release_of desk.old proc.number delete u) step)) }
-    ensures fits { IfOk result (Tells (FitsTurn op.now)) }
-    ensures asks { IfOk result (Tells (IsAsked desk.new.nodes)) }
-    ensures next { IfOk result (Tells (IsNext desk.new proc.number op.now)) }
+    ensures fits { IfOk result (TellsTurn (FitsTurn op.now)) }
+    ensures asks { IfOk result (TellsTurn (IsAsked desk.new.nodes)) }
+    ensures next { IfOk result (TellsTurn (IsNext desk.new proc.number op.now)) }
     ensures ready { OnOk result (IsReady desk.new proc.number) }
     ensures node { OnOk result (desk.new.node ≡ desk.old.node) }
     ensures nodes { OnOk result (desk.new.nodes ≡ desk.old.nodes) }

@@ -13,6 +13,8 @@ use Rattle.uid_names.specs.Segments.{Stretch, segments, lies_in, is_apart, is_fr
 use Rattle.uid_names.specs.declared.limits.TheConstants.{PAGE_BYTES, PROCESS_MAPPINGS}
 use Rattle.uid_names.specs.declared.segment.TheConstants.{SEGMENT_SIZE, SEGMENTS}
 use Rattle.uid_names.specs.declared.mode.Mode.{Mode}
+use Rattle.uid_names.proofs.Orders.{same_proc-itself}
+use Rattle.uid_names.proofs.Passed.{right-true}
 use Rattle.dom_history.specs.declared.op.Op.TheVariants.{Lock, Unlock, Length, Map}
 use Rattle.dom_history.specs.declared.op.Spot.TheVariants.{Addr}
 use Rattle.dom_history.specs.declared.op.Reply.{Reply}
@@ -24,7 +26,6 @@ use Rattle.dom_history.specs.Locks.{state, is_held}
 use Rattle.dom_history.specs.Mappings.{Mapping, mappings, stretch_of, Target, target, target_in, lowest_run}
 use Rattle.dom_history.specs.Bytes.{length_of, bytes_from}
 use Rattle.dom_history.specs.Replies.{before_of, map_anew_reply, run_or_none, mapping_of}
-use Rattle.dom_history.proofs.Names.{same_proc-refl}
 use Rattle.naming_tree.specs.Sessions.{fine, size, place}
 use Rattle.mapped_streams.specs.declared.mapped.Opened.{Opened}
 use Rattle.mapped_streams.specs.Dialogues.{Dialogue}
@@ -52,14 +53,6 @@ in_segments room o h = omega (arith, h)
 pub mapped_held : (held : Bool) (reply : Reply) (a : ℕ) (fresh : Bool) → (if not held then NoLock else reply) ≡ At a fresh → reply ≡ At a fresh
 mapped_held false reply a fresh e = absurd (grind (arith, e))
 mapped_held true reply a fresh e = e
-
-pub both_first : (x y : Bool) → (x && y) ≡ true → x ≡ true
-both_first true y e = refl
-both_first false y e = absurd (false≢true e)
-
-pub both_second : (x y : Bool) → (x && y) ≡ true → y ≡ true
-both_second true y e = e
-both_second false y e = absurd (false≢true e)
 
 -- what all of a list pass, the one that is found passes
 all_found : {X : Type 0} (test q : X → Bool) (xs : List X) (x : X) → list_all q xs ≡ true → find test xs ≡ Some x → q x ≡ true
@@ -93,7 +86,7 @@ module _ (opening : Start) (p : ProcName) where
   -- a new mapping is the first that is looked at
   new_reached : (past : List StoreEffect) (u : ObjectName) (a : ℕ) → IsReached opening (Maps p u a ∷ past) p u a (PAGE_BYTES * room_of opening past u)
   new_reached past u a o h =
-      let own : same_proc p p ≡ true = same_proc-refl p in
+      let own : same_proc p p ≡ true = same_proc-itself p in
       let end : o < segments (room_of opening past u) * SEGMENT_SIZE = in_segments (room_of opening past u) o h in
       let in_it : (nat_le a (a + o) && nat_lt (a + o) (a + segments (room_of opening past u) * SEGMENT_SIZE)) ≡ true = grind (arith, nat_tests, end) in
       let offset : a + o - a ≡ o = omega arith in
@@ -117,7 +110,7 @@ module _ (opening : Start) (p : ProcName) where
       let count = segments (room_of opening past u) in
       let taken = map (stretch_of opening past) (mappings p past) in
       sym (list_all-map (is_apart count first) (stretch_of opening past) (mappings p past))
-      ∙ both_second (nat_le (first + count) SEGMENTS) (list_all (is_apart count first) taken) (find-passes (λ k. is_free_run count k taken) (starts_from 0) first e)
+      ∙ right-true (nat_le (first + count) SEGMENTS) (list_all (is_apart count first) taken) (find-passes (λ k. is_free_run count k taken) (starts_from 0) first e)
 
   other_reached : (past : List StoreEffect) (u v : ObjectName) (a address n : ℕ) (run : Option ℕ) → lowest_run opening past p (segments (room_of opening past u)) ≡ run → option_map (λ first. first * SEGMENT_SIZE) run ≡ Some a → IsReached opening past p v address n → IsReached opening (Maps p u a ∷ past) p v address n
   other_reached past u v a address n None e at reached o h = absurd (grind (arith, at))
@@ -139,7 +132,7 @@ module _ (opening : Start) (p : ProcName) where
           none_found : ◌≡◌ {A = Option Target} None (Some (record { uid = v; offset = o })) → ⊥
           none_found e = grind (arith, e)
       by_found (Some m) f =
-          let own : same_proc p p ≡ true = same_proc-refl p in
+          let own : same_proc p p ≡ true = same_proc-itself p in
           let in_old = find-passes (λ m. lies_in (address + o) (stretch_of opening past m)) (mappings p past) m f in
           let far = all_found (λ m. lies_in (address + o) (stretch_of opening past m)) (λ m. is_apart count first (stretch_of opening past m)) (mappings p past) m free f in
           let out : lies_in (address + o) (record { low = a; high = a + count * SEGMENT_SIZE }) ≡ false = subst (λ x. lies_in (address + o) (record { low = x; high = x + count * SEGMENT_SIZE }) ≡ false) start (apart (address + o) count first (stretch_of opening past m) far in_old) in

@@ -11,8 +11,9 @@ use Rattle.uid_names.specs.Segments.{segments, lies_in, is_apart}
 use Rattle.uid_names.specs.declared.opening.Object.{Object}
 use Rattle.uid_names.specs.declared.limits.TheConstants.{PAGE_BYTES, PROCESS_MAPPINGS}
 use Rattle.uid_names.specs.declared.segment.TheConstants.{SEGMENT_SIZE}
-use Rattle.uid_names.proofs.Orders.{same_uid_is}
+use Rattle.uid_names.proofs.Orders.{same_uid_is, same_proc_is}
 use Rattle.uid_names.proofs.Finds.{find-passes}
+use Rattle.uid_names.proofs.Passed.{left-true, right-true}
 use Rattle.dom_history.specs.declared.op.Op.{Op}
 use Rattle.dom_history.specs.declared.op.Op.TheVariants.{New, Lock, Unlock, Delete, Store, Map, Unmap}
 use Rattle.dom_history.specs.declared.op.Spot.{Spot}
@@ -26,11 +27,10 @@ use Rattle.dom_history.specs.Mappings.{Mapping, mappings, stretch_of, Target, ta
 use Rattle.dom_history.specs.Bytes.{length_of, end_after}
 use Rattle.dom_history.specs.Replies.{before_of, reply_of, may_write, store_reply, map_anew_reply, mapping_of}
 use Rattle.dom_history.specs.Runs.{AreAnswered}
-use Rattle.dom_history.proofs.Names.{proc_from_same}
 use Rattle.dom_history.proofs.MadeObjects.{found-step}
 use Rattle.dom_history.proofs.HeldObjects.{mapped-was_made}
 use Rattle.mapped_streams.proofs.Sound.{IsReached, IsSound}
-use Rattle.mapped_streams.proofs.Reaching.{both_first, both_second, mapped_held, anew_run, in_segments, run_free, apart}
+use Rattle.mapped_streams.proofs.Reaching.{mapped_held, anew_run, in_segments, run_free, apart}
 
 module _ (opening : Start) where
   -- an object was made
@@ -108,7 +108,7 @@ module _ (opening : Start) where
   clear_new past u first (n ∷ ns) free =
       let here = is_apart (segments (room_of opening past u)) first (stretch_of opening past n) in
       let others = list_all (λ m. is_apart (segments (room_of opening past u)) first (stretch_of opening past m)) ns in
-      (λ a e. apart a (segments (room_of opening past u)) first (stretch_of opening past n) (both_first here others free) e, clear_new past u first ns (both_second here others free))
+      (λ a e. apart a (segments (room_of opening past u)) first (stretch_of opening past n) (left-true here others free) e, clear_new past u first ns (right-true here others free))
 
   new_by : (deeds : List Deed) (q : ProcName) (u : ObjectName) (a : ℕ) (found : Option Mapping) → map_anew_reply (before_of opening deeds q) q u found ≡ At a true → IsClear (store_effects deeds) (record { uid = u; address = a }) (mappings q (store_effects deeds))
   new_by deeds q u a (Some m) e = absurd (grind (arith, e))
@@ -130,7 +130,7 @@ module _ (opening : Start) where
       let past = store_effects deeds in
       let there = mapped-was_made opening deeds q (Map u) (At a true) answered told in
       let anew = mapped_held (is_held (state u (own q deeds))) (map_anew_reply (before_of opening deeds q) q u (mapping_of (before_of opening deeds q) q u)) a true (sym told) in
-      let clear = subst (λ x. IsClear past (record { uid = u; address = a }) (mappings x past)) (sym (proc_from_same p q e)) (new_by deeds q u a (mapping_of (before_of opening deeds q) q u) anew) in
+      let clear = subst (λ x. IsClear past (record { uid = u; address = a }) (mappings x past)) (sym (same_proc_is p q e)) (new_by deeds q u a (mapping_of (before_of opening deeds q) q u) anew) in
       rw e (apart_later q (Map u) (At a true) past (record { uid = u; address = a } ∷ mappings p past) (there, clear, h))
 
   unmapped_apart : (past : List StoreEffect) (p q : ProcName) (u : ObjectName) (b : Bool) → same_proc p q ≡ b → AreApart past (mappings p past) → AreApart (store_effect q (Unmap u) Fine ++ past) (mappings p (store_effect q (Unmap u) Fine ++ past))

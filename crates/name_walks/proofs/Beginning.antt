@@ -9,8 +9,8 @@ use Rattle.dom_history.specs.Fitting.{Fits}
 use Rattle.naming_tree.specs.declared.addition.Addition.{Addition}
 use Rattle.naming_tree.specs.declared.adding.Adding.{Adding}
 use Rattle.naming_tree.specs.declared.by_path.ByPath.{ByPath}
-use Rattle.naming_tree.specs.declared.path.Route.{Route}
-use Rattle.naming_tree.specs.declared.path.Start.{Start}
+use Rattle.dir_records.specs.declared.path.Route.{Route}
+use Rattle.dir_records.specs.declared.path.Start.{Start}
 use Rattle.naming_tree.specs.declared.removing.Removing.{Removing}
 use Rattle.naming_tree.specs.declared.site.Site.{Site}
 use Rattle.naming_tree.specs.declared.step.NameResult.{NameResult}
@@ -23,7 +23,8 @@ use Rattle.naming_tree.specs.declared.walking.Walking.{Walking}
 use Rattle.naming_tree.specs.Adding.{adding_asks, adding_of}
 use Rattle.naming_tree.specs.Removing.{removing_asks, removing_of}
 use Rattle.naming_tree.specs.ByPaths.{by_path_asks, on_last, add_name_of, drop_name_of, list_dir_of}
-use Rattle.naming_tree.specs.NamePaths.{last_of, added_alone, removed_alone, addition}
+use Rattle.dir_records.specs.LastNames.{last_of}
+use Rattle.naming_tree.specs.NamePaths.{added_alone, removed_alone, addition}
 use Rattle.naming_tree.specs.Turns.{Turn, IsReady, stood_after, stood_says}
 use Rattle.naming_tree.specs.Walking.{walking_asks, walk_of}
 use Rattle.naming_tree.proofs.Ready.{ready}

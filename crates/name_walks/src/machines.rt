@@ -1,19 +1,20 @@
 //! Machines, from their first operation to their result.
 ghost use Rattle.std.specs.Prelude.{IsSome};
 ghost use Rattle.uid_names.specs.Rooms.{IsRoom};
-ghost use Rattle.naming_tree.specs.Paths.{route_of};
+ghost use Rattle.dir_records.specs.Paths.{route_of};
 ghost use Rattle.naming_tree.specs.Additions.{IsAddition, IsText};
 
 use crate::world::{MOST_OPERATIONS, World};
+use anyhow::{Result, bail};
+use dir_records::Component;
 use dom_history::Reply;
 use naming_tree::{
-    AddAt, AddName, Addition, Component, DropAt, DropName, ListDir, NameResult, NameStep, Walk,
+    AddAt, AddName, Addition, DropAt, DropName, ListDir, NameResult, NameStep, Walk,
 };
-use std::test::Fail;
 use uid_names::{ByteList, ObjKind, Uid};
 
 /// What is at a path; a link at its end is followed or not.
-pub fn walk(world: &mut World, path: &[u8], last: bool) -> Result<NameResult, Fail>
+pub fn walk(world: &mut World, path: &[u8], last: bool) -> Result<NameResult>
     requires { IsSome (route_of path.now) }
 {
     let mut machine = Walk::new(world.alloc, world.site()?, path, world.entry(), last)?;
@@ -24,11 +25,11 @@ pub fn walk(world: &mut World, path: &[u8], last: bool) -> Result<NameResult, Fa
             NameStep::Do(op) => told = Some(world.reply(&op)?),
         }
     }
-    Err("no end".into())
+    bail!("no end")
 }
 
 /// The list of a directory by its path.
-pub fn list(world: &mut World, path: &[u8]) -> Result<NameResult, Fail>
+pub fn list(world: &mut World, path: &[u8]) -> Result<NameResult>
     requires { IsSome (route_of path.now) }
 {
     let mut machine = ListDir::new(world.alloc, world.site()?, path, world.entry())?;
@@ -39,7 +40,7 @@ pub fn list(world: &mut World, path: &[u8]) -> Result<NameResult, Fail>
             NameStep::Do(op) => told = Some(world.reply(&op)?),
         }
     }
-    Err("no end".into())
+    bail!("no end")
 }
 
 /// The addition of an object's name.
@@ -49,7 +50,7 @@ pub fn add(
     kind: ObjKind,
     room: u32,
     text: Option<ByteList>,
-) -> Result<NameResult, Fail>
+) -> Result<NameResult>
     requires path { IsSome (route_of path.now) }
     requires room { IsRoom room }
     requires text { IsText kind text }
@@ -63,11 +64,11 @@ pub fn add(
             NameStep::Do(op) => told = Some(world.reply(&op)?),
         }
     }
-    Err("no end".into())
+    bail!("no end")
 }
 
 /// The removal of a name.
-pub fn remove(world: &mut World, path: &[u8]) -> Result<NameResult, Fail>
+pub fn remove(world: &mut World, path: &[u8]) -> Result<NameResult>
     requires { IsSome (route_of path.now) }
 {
     let mut machine = DropName::new(world.alloc, world.site()?, path, world.entry())?;
@@ -78,11 +79,11 @@ pub fn remove(world: &mut World, path: &[u8]) -> Result<NameResult, Fail>
             NameStep::Do(op) => told = Some(world.reply(&op)?),
         }
     }
-    Err("no end".into())
+    bail!("no end")
 }
 
 /// The addition of a name to a directory by its object.
-pub fn add_at(world: &mut World, dir: Uid, what: Addition) -> Result<NameResult, Fail>
+pub fn add_at(world: &mut World, dir: Uid, what: Addition) -> Result<NameResult>
     requires { IsAddition what }
 {
     let mut machine = AddAt::new(world.alloc, dir, what);
@@ -93,11 +94,11 @@ pub fn add_at(world: &mut World, dir: Uid, what: Addition) -> Result<NameResult,
             NameStep::Do(op) => told = Some(world.reply(&op)?),
         }
     }
-    Err("no end".into())
+    bail!("no end")
 }
 
 /// The removal of a name from a directory by its object.
-pub fn remove_at(world: &mut World, dir: Uid, name: Component) -> Result<NameResult, Fail> {
+pub fn remove_at(world: &mut World, dir: Uid, name: Component) -> Result<NameResult> {
     let mut machine = DropAt::new(world.alloc, dir, name);
     let mut told: Option<Reply> = None;
     'steps: for _ in 0..MOST_OPERATIONS {
@@ -106,5 +107,5 @@ pub fn remove_at(world: &mut World, dir: Uid, name: Component) -> Result<NameRes
             NameStep::Do(op) => told = Some(world.reply(&op)?),
         }
     }
-    Err("no end".into())
+    bail!("no end")
 }

@@ -1,13 +1,14 @@
 //! Random walks: processes of two nodes add, remove, list and look for names, and each command comes to what it does in
 //! a plain tree.
 ghost use Rattle.std.specs.Prelude.{IsSome};
-ghost use Rattle.naming_tree.specs.Paths.{route_of};
+ghost use Rattle.dir_records.specs.Paths.{route_of};
 
 use crate::machines::{add, list, remove, walk};
 use crate::tree::{Come, Path, Start, Tree};
 use crate::world::World;
+use dir_records::{DirRows, is_path};
 use dom_history::{Op, Reply};
-use naming_tree::{DirRows, NameResult, Walked, is_path};
+use naming_tree::{NameResult, Walked};
 use samples::{Draws, node};
 use std::alloc::Global;
 use std::process::Abort;
@@ -112,15 +113,15 @@ fn added(world: &mut World, path: &[u8], kind: ObjKind, link: &Path) -> Result<N
     requires { IsSome (route_of path.now) }
 {
     match kind {
-        ObjKind::File => add(world, path, ObjKind::File, 1, None),
-        ObjKind::Mail => add(world, path, ObjKind::Mail, 1, None),
-        ObjKind::Directory => add(world, path, ObjKind::Directory, 1, None),
+        ObjKind::File => Ok(add(world, path, ObjKind::File, 1, None)?),
+        ObjKind::Mail => Ok(add(world, path, ObjKind::Mail, 1, None)?),
+        ObjKind::Directory => Ok(add(world, path, ObjKind::Directory, 1, None)?),
         ObjKind::Link => {
             let text = link.text(world.alloc)?;
             if !is_path(world.alloc, text.bytes())? {
                 return Err("a link to no path".into());
             }
-            add(world, path, ObjKind::Link, 1, Some(text))
+            Ok(add(world, path, ObjKind::Link, 1, Some(text))?)
         }
     }
 }
@@ -225,7 +226,7 @@ impl Table {
 #[test]
 fn each_command_comes_to_what_it_does_in_a_plain_tree(rt: HostRuntime) -> Result<(), Fail> {
     let mut table = Table::new(rt.alloc(), 1)?;
-    for _ in 0..5000u32 {
+    for _ in 0..2000u32 {
         table.turn(&rt)?;
     }
     table.nothing_is_open(&rt, 1)?;

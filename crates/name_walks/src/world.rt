@@ -3,14 +3,14 @@ ghost use Rattle.std.specs.Prelude.{◌≡◌, ◌≤◌, length, IfOk};
 ghost use Rattle.dom_history.specs.Ranges.{IsOp};
 ghost use Rattle.dom_history.specs.Fitting.{Fits};
 
-use dom_history::{NodeNames, Op, PlainStore, Reply, Spot};
+use anyhow::{Context, Result, bail};
+use dom_history::{NodeNames, Op, Reply, Spot};
 use naming_tree::Site;
-use samples::{node, proc};
+use plain_store::PlainStore;
 use std::alloc::Global;
-use std::test::Fail;
-use uid_names::{ByteList, NodeId, Opening, PAGE_BYTES, Uid};
+use uid_names::{ByteList, MAX_ROOM, NodeId, Opening, PAGE_BYTES, ProcId, Uid};
 
-/// The most operations of a test.
+/// The most operations in a store.
 pub const MOST_OPERATIONS: u64 = 1_000_000;
 
 /// A store of the nodes `a` and `b`, and the node whose first process works on it.
@@ -25,10 +25,22 @@ pub struct World {
     ghost counted: { length store.deeds ≤ done },
 }
 
+/// The node of this number.
+pub fn node(number: u8) -> Result<NodeId>
+    ensures { IfOk result (λ node. node ≡ number) }
+{
+    Ok(NodeId::new(number).context("no such node")?)
+}
+
+/// The process of this number at a node.
+pub fn proc(node: NodeId, number: u8) -> Result<ProcId> {
+    Ok(ProcId::new(node, number).context("no such process")?)
+}
+
 impl World {
     /// A store in which nothing was done, and a process of node 1.
-    pub fn new(alloc: Global) -> Result<World, Fail> {
-        let opening = Opening::new(alloc, 2, 1024);
+    pub fn new(alloc: Global) -> Result<World> {
+        let opening = Opening::new(alloc, 2, MAX_ROOM);
         let store = PlainStore::new(alloc, &opening)?;
         let own = node(1)?;
         Ok(World {
@@ -56,7 +68,7 @@ impl World {
     }
 
     /// Where the process walks.
-    pub fn site(&self) -> Result<Site, Fail> {
+    pub fn site(&self) -> Result<Site> {
         let mut names = Vec::new(self.alloc);
         names.push(ByteList::from_slice(self.alloc, b"a")?)?;
         names.push(ByteList::from_slice(self.alloc, b"b")?)?;
@@ -72,20 +84,20 @@ impl World {
     }
 
     /// The store's reply to an operation of a process of the node.
-    fn apply(&mut self, number: u8, op: &Op) -> Result<Reply, Fail>
+    fn apply(&mut self, number: u8, op: &Op) -> Result<Reply>
         requires { IsOp op.now }
         ensures { IfOk result (Fits op.now) }
     {
         if self.done >= MOST_OPERATIONS {
-            return Err("too many operations".into());
+            bail!("too many operations");
         }
-        let proc = proc(self.own.number(), number)?;
+        let proc = proc(self.own, number)?;
         self.done += 1;
         Ok(self.store.apply(self.alloc, proc, op)?)
     }
 
     /// The reply to an operation of the process.
-    pub fn reply(&mut self, op: &Op) -> Result<Reply, Fail>
+    pub fn reply(&mut self, op: &Op) -> Result<Reply>
         requires { IsOp op.now }
         ensures { IfOk result (Fits op.now) }
     {
@@ -99,16 +111,16 @@ impl World {
     }
 
     /// The reply to an operation of another process of the node.
-    pub fn reply_to_other(&mut self, op: &Op) -> Result<Reply, Fail>
+    pub fn reply_to_other(&mut self, op: &Op) -> Result<Reply>
         requires { IsOp op.now }
     {
         self.apply(2, op)
     }
 
     /// The reply to a store of that process, from a byte of an object on.
-    pub fn store_by_other(&mut self, uid: Uid, at: u32, bytes: &[u8]) -> Result<Reply, Fail> {
+    pub fn store_by_other(&mut self, uid: Uid, at: u32, bytes: &[u8]) -> Result<Reply> {
         if bytes.is_empty() || bytes.len() > PAGE_BYTES - at as usize % PAGE_BYTES {
-            return Err("no store into one page".into());
+            bail!("no store into one page");
         }
         let _number = uid.number();
         let spot = Spot::Of(uid, at);

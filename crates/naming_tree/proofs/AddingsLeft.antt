@@ -5,27 +5,25 @@ use Rattle.uid_names.specs.Names.{ObjectName}
 use Rattle.uid_names.specs.declared.mode.Mode.TheVariants.{Write}
 use Rattle.dom_history.specs.declared.op.Op.{Op}
 use Rattle.dom_history.specs.declared.op.Op.TheVariants as ops
-use Rattle.dom_history.specs.Fitting.{Fits}
 use Rattle.dom_history.specs.declared.op.Spot.TheVariants.{Of}
 use Rattle.dom_history.specs.declared.op.Reply.{Reply}
 use Rattle.dom_history.specs.declared.op.Reply.TheVariants.{Made, Fine}
-use Rattle.naming_tree.specs.declared.row.DirRow.{DirRow}
-use Rattle.naming_tree.specs.declared.directory.TheConstants.{MOST_RECORDS}
+use Rattle.dir_records.specs.declared.row.DirRow.{DirRow}
+use Rattle.dir_records.specs.declared.directory.TheConstants.{MOST_RECORDS}
 use Rattle.naming_tree.specs.declared.session.Opened.{Opened}
 use Rattle.naming_tree.specs.declared.session.Held.{Held}
 use Rattle.naming_tree.specs.declared.session.Entering.TheVariants as entering
 use Rattle.naming_tree.specs.declared.session.Entry.{Entry}
 use Rattle.naming_tree.specs.declared.session.Entry.TheVariants.{On, In, Out}
 use Rattle.naming_tree.specs.declared.step.NameResult.{NameResult}
-use Rattle.naming_tree.specs.declared.step.NameResult.TheVariants.{Added}
 use Rattle.naming_tree.specs.declared.placed.Placed.{Placed}
 use Rattle.naming_tree.specs.declared.adding.AddStage.{AddStage}
 use Rattle.naming_tree.specs.declared.adding.AddStage.TheVariants.{Begin, Enter, Make, LockText, StoreText, UnlockText, StoreName}
 use Rattle.naming_tree.specs.declared.adding.Adding.{Adding}
-use Rattle.naming_tree.specs.Records.{Slot}
-use Rattle.naming_tree.specs.Directories.{directory_of, row_named, first_free}
-use Rattle.naming_tree.specs.Entering.{entry_of, bytes_after, held_of, held_op, held_op_of, IsEntering}
-use Rattle.naming_tree.specs.Endings.{result_of, ending_after, refused_with}
+use Rattle.dir_records.specs.Records.{Slot}
+use Rattle.dir_records.specs.Directories.{directory_of, row_named, first_free}
+use Rattle.naming_tree.specs.Entering.{entry_of, bytes_after, held_of, held_op_of}
+use Rattle.naming_tree.specs.Endings.{result_of, ending_after}
 use Rattle.naming_tree.specs.Additions.{naming, making, texting, on_place, on_name, on_slots}
 use Rattle.naming_tree.specs.Placing.{held_with}
 use Rattle.naming_tree.specs.Turns.{Turn, Goes, Comes, turn_of, FitsAsked, machine_says}
@@ -33,9 +31,9 @@ use Rattle.naming_tree.specs.Dialogues.{Dialogue, Ends, told, says, after, FitsS
 use Rattle.naming_tree.specs.declared.step.NameStep.TheVariants.{Do}
 use Rattle.naming_tree.specs.declared.addition.Addition.{Addition}
 use Rattle.naming_tree.specs.Additions.{add_at, IsAddition}
-use Rattle.naming_tree.specs.Sessions.{fine, made, ask, closers, go_on}
+use Rattle.naming_tree.specs.Sessions.{fine, ask, closers, go_on}
 use Rattle.naming_tree.specs.Adding as stages
-use Rattle.naming_tree.specs.Adding.{at_stage, text_or_name, text_of, stage_op, op_at, adding_asks, adding_after, adding_of, finish, finish_at, heard_at, IsTexted, IsStage, IsStageAt, IsAdding, IsOn}
+use Rattle.naming_tree.specs.Adding.{at_stage, text_or_name, text_of, stage_op, op_at, adding_asks, adding_after, adding_of, finish_at, heard_at, IsStage, IsStageAt, IsOn}
 use Rattle.naming_tree.proofs.ReadingsLeft.{entering_left, entry_left, entering_on, ops_held}
 use Rattle.naming_tree.proofs.ReadingsSay.{entering_says}
 use Rattle.naming_tree.proofs.AddingsOn.{Began, Sound, OnTurn, at_sound, adding_on}

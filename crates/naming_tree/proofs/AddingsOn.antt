@@ -1,33 +1,28 @@
 -- An addition keeps to stages that can be reached.
-use Rattle.std.proofs.Common.{◌≡◌, ℕ, ◌<◌, ◌&&◌, not, Bool, true, false, Option, Some, None, List, refl, subst, sym, arith}
+use Rattle.std.proofs.Common.{◌≡◌, ℕ, ◌<◌, ◌&&◌, Bool, true, false, Option, Some, None, List, refl, subst, sym, arith}
 use Rattle.std.specs.Prelude.{nat_lt, IsSome, IfNone}
-use Rattle.uid_names.specs.Names.{ObjectName}
 use Rattle.uid_names.specs.declared.mode.Mode.TheVariants.{Write}
-use Rattle.dom_history.specs.declared.op.Op.{Op}
 use Rattle.dom_history.specs.declared.op.Reply.{Reply}
 use Rattle.dom_history.specs.declared.op.Reply.TheVariants.{Made, Fine}
-use Rattle.dom_history.specs.Fitting.{Fits}
-use Rattle.naming_tree.specs.declared.row.DirRow.{DirRow}
-use Rattle.naming_tree.specs.declared.directory.TheConstants.{MOST_RECORDS}
+use Rattle.dir_records.specs.declared.row.DirRow.{DirRow}
+use Rattle.dir_records.specs.declared.directory.TheConstants.{MOST_RECORDS}
 use Rattle.naming_tree.specs.declared.session.Opened.{Opened}
 use Rattle.naming_tree.specs.declared.session.Held.{Held}
-use Rattle.naming_tree.specs.declared.session.Entering.{Entering}
 use Rattle.naming_tree.specs.declared.session.Entry.{Entry}
 use Rattle.naming_tree.specs.declared.session.Entry.TheVariants.{On, In, Out}
-use Rattle.naming_tree.specs.declared.ending.Ending.{Ending}
 use Rattle.naming_tree.specs.declared.step.NameResult.{NameResult}
 use Rattle.naming_tree.specs.declared.adding.AddStage.{AddStage}
 use Rattle.naming_tree.specs.declared.adding.AddStage.TheVariants.{Begin, Enter, Make, LockText, StoreText, UnlockText, StoreName}
 use Rattle.naming_tree.specs.declared.adding.Adding.{Adding}
 use Rattle.naming_tree.specs.declared.placed.Placed.{Placed}
-use Rattle.naming_tree.specs.Records.{Slot}
-use Rattle.naming_tree.specs.Directories.{directory_of, row_named, first_free}
-use Rattle.naming_tree.specs.Entering.{entry_of, bytes_after, held_of, held_op_of, refusal, is_fine, IsEntering, IsOpened}
-use Rattle.naming_tree.specs.Endings.{result_of, result_at, ending_after, IsEnding, IsEndingBy}
+use Rattle.dir_records.specs.Records.{Slot}
+use Rattle.dir_records.specs.Directories.{directory_of, row_named, first_free}
+use Rattle.naming_tree.specs.Entering.{entry_of, bytes_after, held_of, held_op_of, IsOpened}
+use Rattle.naming_tree.specs.Endings.{result_at, ending_after, IsEndingBy}
 use Rattle.naming_tree.specs.Additions.{IsAddition}
 use Rattle.naming_tree.specs.Placing.{held_with, IsPlaced, IsThere}
 use Rattle.naming_tree.specs.Turns.{Turn, Goes, Comes, turn_of, FitsAsked}
-use Rattle.naming_tree.specs.Adding.{at_stage, ends, on_place, on_name, on_slots, judged, on_entry, entered, text_or_name, on_made, went_on, on_named, heard_in, heard_at, finish, finish_at, adding_after, stage_op, adding_asks, op_at, IsStage, IsStageAt, IsTexted, IsAdding, IsOn}
+use Rattle.naming_tree.specs.Adding.{at_stage, on_place, on_name, on_slots, on_entry, text_or_name, on_made, went_on, on_named, heard_in, heard_at, finish_at, adding_after, stage_op, adding_asks, op_at, IsStage, IsStageAt, IsTexted, IsAdding, IsOn}
 use Rattle.naming_tree.proofs.EntriesOn.{IsEntry, entry_on}
 use Rattle.naming_tree.proofs.EndingsLeft.{ending_well}
 

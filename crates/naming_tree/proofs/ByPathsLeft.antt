@@ -3,13 +3,12 @@ use Rattle.std.proofs.Common.{◌≡◌, ℕ, Bool, true, false, Option, Some, N
 use Rattle.std.specs.Prelude.{option_map, IsSome}
 use Rattle.uid_names.specs.Names.{ObjectName}
 use Rattle.uid_names.specs.Rooms.{IsRoom}
-use Rattle.uid_names.specs.declared.mode.Mode.TheVariants.{Write}
 use Rattle.uid_names.specs.declared.mode.ObjKind.{ObjKind}
 use Rattle.uid_names.specs.declared.mode.ObjKind.TheVariants.{Directory}
 use Rattle.dom_history.specs.declared.op.Op.{Op}
 use Rattle.dom_history.specs.declared.op.Reply.{Reply}
-use Rattle.naming_tree.specs.declared.path.Route.{Route}
-use Rattle.naming_tree.specs.declared.path.Start.{Start}
+use Rattle.dir_records.specs.declared.path.Route.{Route}
+use Rattle.dir_records.specs.declared.path.Start.{Start}
 use Rattle.naming_tree.specs.declared.site.Site.{Site}
 use Rattle.naming_tree.specs.declared.session.Entering.TheVariants as entering
 use Rattle.naming_tree.specs.declared.session.Entering.{Entering}
@@ -20,9 +19,8 @@ use Rattle.naming_tree.specs.declared.removing.RemoveStage.TheVariants as Remove
 use Rattle.naming_tree.specs.declared.step.Walked.{Walked}
 use Rattle.naming_tree.specs.declared.step.Walked.TheVariants.{Root, At}
 use Rattle.naming_tree.specs.declared.step.NameResult.{NameResult}
-use Rattle.naming_tree.specs.declared.step.NameResult.TheVariants.{Found, NotDir, Store}
+use Rattle.naming_tree.specs.declared.step.NameResult.TheVariants.{Found}
 use Rattle.naming_tree.specs.declared.step.NameStep.TheVariants.{Do}
-use Rattle.naming_tree.specs.declared.addition.Addition.{Addition}
 use Rattle.naming_tree.specs.declared.reading.Reading.{Reading}
 use Rattle.naming_tree.specs.declared.adding.Adding.{Adding}
 use Rattle.naming_tree.specs.declared.removing.Removing.{Removing}
@@ -31,19 +29,20 @@ use Rattle.naming_tree.specs.declared.walking.Walking.{Walking}
 use Rattle.naming_tree.specs.declared.task.Task.{Task}
 use Rattle.naming_tree.specs.declared.task.Task.TheVariants.{List as ListRows, Add, Remove}
 use Rattle.naming_tree.specs.declared.by_path.ByPath.{ByPath}
-use Rattle.naming_tree.specs.Directories.{rows_in}
-use Rattle.naming_tree.specs.Paths.{route_of}
+use Rattle.dir_records.specs.Directories.{rows_in}
+use Rattle.dir_records.specs.Paths.{route_of}
 use Rattle.naming_tree.specs.Dialogues.{Dialogue, Ends, told, says, after, FitsSaid, FitsHeard}
 use Rattle.naming_tree.specs.Turns.{Turn, Goes, Comes, FitsAsked, machine_says}
-use Rattle.naming_tree.specs.Readings.{reading_of, reading_after, reading_op, is_done, is_done_at}
+use Rattle.naming_tree.specs.Readings.{reading_of, reading_after, is_done, is_done_at}
 use Rattle.naming_tree.specs.Additions.{add_at, IsAddition, IsText}
 use Rattle.naming_tree.specs.Removals.{drop_at}
-use Rattle.naming_tree.specs.Adding.{adding_after, adding_asks, adding_of}
-use Rattle.naming_tree.specs.Removing.{removing_after, removing_asks, removing_of}
+use Rattle.naming_tree.specs.Adding.{adding_after, adding_of}
+use Rattle.naming_tree.specs.Removing.{removing_after, removing_of}
 use Rattle.naming_tree.specs.Walks.{start_at, most_links, on_start, on_route, along, follow}
-use Rattle.naming_tree.specs.Walking.{walking_after, walking_asks, walking_of, moved}
-use Rattle.naming_tree.specs.NamePaths.{last_of, in_directory, listing, listed, by_parent, on_last, added_alone, removed_alone, addition, add_name, drop_name, list_dir}
-use Rattle.naming_tree.specs.Tasks.{turn_in, task_begins, task_after, task_asks, list_at, list_on, at_root}
+use Rattle.naming_tree.specs.Walking.{walking_after, walking_of, moved}
+use Rattle.dir_records.specs.LastNames.{last_of}
+use Rattle.naming_tree.specs.NamePaths.{in_directory, listing, listed, by_parent, on_last, added_alone, removed_alone, addition, add_name, drop_name, list_dir}
+use Rattle.naming_tree.specs.Tasks.{turn_in, task_begins, task_after, task_asks, list_at, at_root}
 use Rattle.naming_tree.specs.ByPaths.{on_task, at_object, on_found, on_walk, told_at, unless_alone, by_path_after, by_path_asks, asks_at, walked_to, alone_with, list_dir_of, add_name_of, drop_name_of}
 use Rattle.naming_tree.specs.ByPaths as paths
 use Rattle.naming_tree.proofs.ReadingsLeft.{reading_left}
@@ -53,7 +52,7 @@ use Rattle.naming_tree.proofs.WalksLeft.{walk_left, behind, moved_left, walk_on}
 use Rattle.naming_tree.proofs.WalksLeft as walk
 use Rattle.naming_tree.proofs.WalksLive.{moved_live, walk_live}
 use Rattle.naming_tree.proofs.WalksLive as walks
-use Rattle.naming_tree.proofs.AddingsLeft.{adding_left, addition_on, addition_live, begun_live}
+use Rattle.naming_tree.proofs.AddingsLeft.{adding_left, addition_on, addition_live}
 use Rattle.naming_tree.proofs.AddingsLeft as adds
 use Rattle.naming_tree.proofs.RemovingsLeft.{removing_left, removal_on, removal_live}
 use Rattle.naming_tree.proofs.RemovingsLeft as removes

@@ -1,10 +1,4 @@
-pub mod Filling
-pub mod NamesMarked
-pub mod SameNames
-pub mod Pieces
-pub mod NodeNames
 pub mod NodesNamed
-pub mod Dropping
 pub mod ReadingsLeft
 pub mod ReadingsOn
 pub mod WalksLeft
@@ -13,15 +7,10 @@ pub mod ReadingsSay
 pub mod WalksLive
 pub mod EntriesOn
 pub mod AddingsOn
-pub mod DirectoriesRead
 pub mod RemovingsOn
-pub mod RowPlaces
-pub mod LastNames
 pub mod EndingsLeft
 pub mod AddingsLeft
 pub mod RemovingsLeft
 pub mod ByPathsLeft
 pub mod Ready
-pub mod RecordsRead
-pub mod SlotsPut
 pub mod WalksBounded

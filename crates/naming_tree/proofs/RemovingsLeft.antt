@@ -1,5 +1,5 @@
 -- What is left of a removal's dialogue at each of its stages, and how each reply leads on.
-use Rattle.std.proofs.Common.{◌≡◌, ℕ, Bool, true, false, Option, Some, None, List, [], ◌∷◌, refl, ap, ◌∙◌, sym, subst, arith}
+use Rattle.std.proofs.Common.{◌≡◌, ℕ, Option, Some, None, List, [], ◌∷◌, refl, ap, ◌∙◌, sym, subst, arith}
 use Rattle.std.specs.Prelude.{option_map, IsSome}
 use Rattle.uid_names.specs.Names.{ObjectName}
 use Rattle.uid_names.specs.declared.mode.Mode.TheVariants.{Write}
@@ -9,7 +9,7 @@ use Rattle.dom_history.specs.declared.op.Op.{Op}
 use Rattle.dom_history.specs.declared.op.Op.TheVariants as ops
 use Rattle.dom_history.specs.declared.op.Reply.{Reply}
 use Rattle.dom_history.specs.declared.op.Reply.TheVariants.{Fine, NoObject, Kept, WrongMode}
-use Rattle.naming_tree.specs.declared.row.DirRow.{DirRow}
+use Rattle.dir_records.specs.declared.row.DirRow.{DirRow}
 use Rattle.naming_tree.specs.declared.session.Opened.{Opened}
 use Rattle.naming_tree.specs.declared.session.Held.{Held}
 use Rattle.naming_tree.specs.declared.session.Entering.TheVariants as entering
@@ -21,15 +21,15 @@ use Rattle.naming_tree.specs.declared.placed.Placed.{Placed}
 use Rattle.naming_tree.specs.declared.removing.RemoveStage.{RemoveStage}
 use Rattle.naming_tree.specs.declared.removing.RemoveStage.TheVariants.{Begin, Enter, Lock, Delete, Clear}
 use Rattle.naming_tree.specs.declared.removing.Removing.{Removing}
-use Rattle.naming_tree.specs.Records.{Slot}
-use Rattle.naming_tree.specs.Directories.{directory_of, placed_row}
-use Rattle.naming_tree.specs.Entering.{entry_of, bytes_after, held_op, held_op_of}
+use Rattle.dir_records.specs.Records.{Slot}
+use Rattle.dir_records.specs.Directories.{directory_of, placed_row}
+use Rattle.naming_tree.specs.Entering.{entry_of, bytes_after, held_op_of}
 use Rattle.naming_tree.specs.Endings.{result_of, ending_after}
 use Rattle.naming_tree.specs.Removals.{clearing, on_deleted, on_locked, on_kind, on_name, on_slots, drop_at}
 use Rattle.naming_tree.specs.Turns.{Turn, Goes, Comes, turn_of, FitsAsked, machine_says}
 use Rattle.naming_tree.specs.Dialogues.{Dialogue, Ends, Asks, told, says, after, FitsSaid, FitsHeard}
 use Rattle.naming_tree.specs.Removing as stages
-use Rattle.naming_tree.specs.Removing.{at_stage, stage_op, op_at, removing_asks, removing_after, removing_of, finish, finish_at, heard_at, IsStage, IsStageAt, IsRemoving, IsOn}
+use Rattle.naming_tree.specs.Removing.{stage_op, op_at, removing_asks, removing_after, removing_of, finish_at, heard_at, IsStage, IsStageAt, IsOn}
 use Rattle.naming_tree.proofs.ReadingsLeft.{entering_left, entry_left, entering_on}
 use Rattle.naming_tree.proofs.ReadingsSay.{entering_says}
 use Rattle.naming_tree.proofs.RemovingsOn.{Began, Sound, OnTurn, at_sound, removing_on}

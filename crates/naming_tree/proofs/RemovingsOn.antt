@@ -1,14 +1,13 @@
 -- A removal keeps to stages that can be reached.
 use Rattle.std.proofs.Common.{◌≡◌, ℕ, ◌<◌, Bool, true, false, Option, Some, None, List, refl, subst, sym}
 use Rattle.std.specs.Prelude.{IsSome, IfNone, IfSome}
-use Rattle.uid_names.specs.Names.{ObjectName}
 use Rattle.uid_names.specs.declared.mode.Mode.TheVariants.{Write}
 use Rattle.uid_names.specs.declared.mode.ObjKind.{ObjKind}
 use Rattle.uid_names.specs.declared.mode.ObjKind.TheVariants.{Directory}
 use Rattle.dom_history.specs.declared.op.Reply.{Reply}
 use Rattle.dom_history.specs.declared.op.Reply.TheVariants.{Fine, NoObject, Kept, WrongMode}
-use Rattle.naming_tree.specs.declared.row.DirRow.{DirRow}
-use Rattle.naming_tree.specs.declared.directory.TheConstants.{MOST_RECORDS}
+use Rattle.dir_records.specs.declared.row.DirRow.{DirRow}
+use Rattle.dir_records.specs.declared.directory.TheConstants.{MOST_RECORDS}
 use Rattle.naming_tree.specs.declared.session.Opened.{Opened}
 use Rattle.naming_tree.specs.declared.session.Held.{Held}
 use Rattle.naming_tree.specs.declared.session.Entry.{Entry}
@@ -18,16 +17,16 @@ use Rattle.naming_tree.specs.declared.placed.Placed.{Placed}
 use Rattle.naming_tree.specs.declared.removing.RemoveStage.{RemoveStage}
 use Rattle.naming_tree.specs.declared.removing.RemoveStage.TheVariants.{Begin, Enter, Lock, Delete, Clear}
 use Rattle.naming_tree.specs.declared.removing.Removing.{Removing}
-use Rattle.naming_tree.specs.Records.{Slot}
-use Rattle.naming_tree.specs.Directories.{directory_of, placed_row, IsDirectory}
-use Rattle.naming_tree.specs.Entering.{entry_of, bytes_after, held_of, held_op_of, is_fine, IsOpened}
-use Rattle.naming_tree.specs.Endings.{result_of, result_at, ending_after, IsEndingBy}
-use Rattle.naming_tree.specs.Placing.{IsPlaced, IsThere}
+use Rattle.dir_records.specs.Records.{Slot}
+use Rattle.dir_records.specs.Directories.{directory_of, placed_row}
+use Rattle.naming_tree.specs.Entering.{entry_of, bytes_after, held_op_of, IsOpened}
+use Rattle.naming_tree.specs.Endings.{result_at, ending_after, IsEndingBy}
+use Rattle.naming_tree.specs.Placing.{IsThere}
 use Rattle.naming_tree.specs.Turns.{Turn, Goes, Comes, turn_of, FitsAsked}
-use Rattle.naming_tree.specs.Removing.{at_stage, on_kind, on_name, on_slots, on_entry, on_locked, on_deleted, on_cleared, heard_in, heard_at, finish_at, removing_after, stage_op, removing_asks, op_at, IsStage, IsStageAt, IsRemoving, IsOn}
+use Rattle.naming_tree.specs.Removing.{on_kind, on_name, on_slots, on_entry, on_locked, on_deleted, on_cleared, heard_in, heard_at, finish_at, removing_after, stage_op, removing_asks, op_at, IsStage, IsStageAt, IsRemoving, IsOn}
 use Rattle.naming_tree.proofs.EntriesOn.{IsEntry, entry_on}
 use Rattle.naming_tree.proofs.EndingsLeft.{ending_well}
-use Rattle.naming_tree.proofs.DirectoriesRead.{directory_read, placed_within}
+use Rattle.dir_records.proofs.DirectoriesRead.{directory_read, placed_within}
 
 abbrev pub Began : Option RemoveStage → Type 0
 Began (Some Begin) = ⊥

@@ -1,33 +1,32 @@
 -- What is left of a walk's dialogue at each of its states, and how each reply leads on.
-use Rattle.std.proofs.Common.{◌≡◌, ℕ, zero, suc, Bool, true, false, Option, Some, None, List, [], ◌∷◌, ◌++◌, refl, ap, ◌∙◌, sym, subst}
+use Rattle.std.proofs.Common.{◌≡◌, ℕ, zero, suc, Bool, true, false, Option, Some, None, List, [], ◌∷◌, ◌++◌, refl, ap, ◌∙◌, sym}
 use Rattle.uid_names.specs.Names.{ObjectName}
 use Rattle.uid_names.specs.declared.mode.ObjKind.{ObjKind}
 use Rattle.uid_names.specs.declared.mode.ObjKind.TheVariants as kinds
 use Rattle.dom_history.specs.declared.op.Reply.{Reply}
-use Rattle.dom_history.specs.Fitting.{Fits}
-use Rattle.naming_tree.specs.declared.row.DirRow.{DirRow}
-use Rattle.naming_tree.specs.declared.path.Route.{Route}
+use Rattle.dir_records.specs.declared.row.DirRow.{DirRow}
+use Rattle.dir_records.specs.declared.path.Route.{Route}
 use Rattle.naming_tree.specs.declared.session.Held.{Held}
 use Rattle.naming_tree.specs.declared.session.Entering.{Entering}
 use Rattle.naming_tree.specs.declared.step.Within.{Within}
 use Rattle.naming_tree.specs.declared.step.Walked.{Walked}
 use Rattle.naming_tree.specs.declared.step.Walked.TheVariants.{Root, At}
 use Rattle.naming_tree.specs.declared.step.NameResult.{NameResult}
-use Rattle.naming_tree.specs.declared.step.NameResult.TheVariants.{Found, NotDir, Store}
+use Rattle.naming_tree.specs.declared.step.NameResult.TheVariants.{Found, NotDir}
 use Rattle.naming_tree.specs.declared.walking.Aim.{Aim}
 use Rattle.naming_tree.specs.declared.walking.Aim.TheVariants.{Begin, Name, Link}
 use Rattle.naming_tree.specs.declared.walking.Walking.{Walking}
 use Rattle.naming_tree.specs.declared.reading.Reading.{Reading}
-use Rattle.naming_tree.specs.Records.{Slot}
-use Rattle.naming_tree.specs.Directories.{directory_of, row_named}
-use Rattle.naming_tree.specs.Paths.{route_of}
+use Rattle.dir_records.specs.Records.{Slot}
+use Rattle.dir_records.specs.Directories.{directory_of, row_named}
+use Rattle.dir_records.specs.Paths.{route_of}
 use Rattle.naming_tree.specs.Dialogues.{Dialogue, Ends, told}
 use Rattle.naming_tree.specs.Turns.{Turn, Goes, Comes}
-use Rattle.naming_tree.specs.Readings.{reading_of, reading_after, reading_op, is_done, is_done_at, is_closed}
+use Rattle.naming_tree.specs.Readings.{reading_after, is_done, is_done_at}
 use Rattle.naming_tree.specs.Walks.{start_at, at_row, holder, at_end, at_middle, on_row, on_directory, on_start, on_route, along, follow}
-use Rattle.naming_tree.specs.Walking.{looks, follows, stands, settled, at_found, at_slots, at_route, moved_by, moved, on_reading, read_on, walking_after}
-use Rattle.naming_tree.proofs.ReadingsLeft.{reading_left, IsCounted}
-use Rattle.naming_tree.proofs.ReadingsOn.{IsSound, reading_on, reading_sound}
+use Rattle.naming_tree.specs.Walking.{looks, follows, stands, settled, at_found, at_slots, at_route, moved_by, on_reading, read_on, walking_after}
+use Rattle.naming_tree.proofs.ReadingsLeft.{reading_left}
+use Rattle.naming_tree.proofs.ReadingsOn.{IsSound, reading_on}
 
 module _ (found : Walked → Dialogue) where
   -- on along names, as far as this walk may still follow links

@@ -1,37 +1,35 @@
 -- Each state of a walk that has begun asks an operation of its reading.
 use Rattle.std.proofs.Common.{◌≡◌, ℕ, zero, suc, Bool, true, false, Option, Some, None, List, [], ◌∷◌, ◌++◌, refl, ap, ◌∙◌, sym, subst, append-nil, arith}
 use Rattle.std.specs.Prelude.{option_map, IsSome}
-use Rattle.std.proofs.lemmas.Bool.{false≢true}
 use Rattle.uid_names.specs.Names.{ObjectName}
 use Rattle.uid_names.specs.declared.mode.ObjKind.{ObjKind}
 use Rattle.uid_names.specs.declared.mode.ObjKind.TheVariants as kinds
-use Rattle.dom_history.specs.declared.op.Op.{Op}
 use Rattle.dom_history.specs.declared.op.Reply.{Reply}
 use Rattle.dom_history.specs.Fitting.{Fits}
-use Rattle.naming_tree.specs.declared.row.DirRow.{DirRow}
-use Rattle.naming_tree.specs.declared.path.Route.{Route}
+use Rattle.dir_records.specs.declared.row.DirRow.{DirRow}
+use Rattle.dir_records.specs.declared.path.Route.{Route}
 use Rattle.naming_tree.specs.declared.site.Site.{Site}
 use Rattle.naming_tree.specs.declared.step.Within.{Within}
 use Rattle.naming_tree.specs.declared.step.Walked.{Walked}
 use Rattle.naming_tree.specs.declared.step.Walked.TheVariants.{Root, At}
 use Rattle.naming_tree.specs.declared.step.NameResult.{NameResult}
-use Rattle.naming_tree.specs.declared.step.NameResult.TheVariants.{Found, NotDir, Store}
+use Rattle.naming_tree.specs.declared.step.NameResult.TheVariants.{Found, NotDir}
 use Rattle.naming_tree.specs.declared.step.NameStep.TheVariants.{Do}
 use Rattle.naming_tree.specs.declared.walking.Aim.{Aim}
 use Rattle.naming_tree.specs.declared.walking.Aim.TheVariants.{Begin, Name, Link}
 use Rattle.naming_tree.specs.declared.walking.Walking.{Walking}
 use Rattle.naming_tree.specs.declared.reading.Reading.{Reading}
-use Rattle.naming_tree.specs.Records.{Slot}
-use Rattle.naming_tree.specs.Directories.{directory_of, row_named}
-use Rattle.naming_tree.specs.Paths.{route_of}
+use Rattle.dir_records.specs.Records.{Slot}
+use Rattle.dir_records.specs.Directories.{directory_of, row_named}
+use Rattle.dir_records.specs.Paths.{route_of}
 use Rattle.naming_tree.specs.Dialogues.{Dialogue, Ends, told, says, after, FitsSaid, FitsHeard}
 use Rattle.naming_tree.specs.Turns.{Turn, Goes, Comes, machine_says}
-use Rattle.naming_tree.specs.Readings.{reading_of, reading_after, reading_op, is_done}
+use Rattle.naming_tree.specs.Readings.{reading_after, reading_op, is_done}
 use Rattle.naming_tree.specs.Walks.{start_at, at_row, holder, at_end, at_middle, most_links, on_start, on_route, along, follow, walk}
-use Rattle.naming_tree.specs.Walking.{looks, follows, stands, settled, at_found, at_slots, at_route, moved_by, moved, on_reading, read_on, walking_after, walking_asks, asks_at, walking_of, walk_of}
+use Rattle.naming_tree.specs.Walking.{looks, follows, stands, settled, at_found, at_slots, at_route, moved_by, moved, on_reading, walking_after, walking_asks, asks_at, walking_of, walk_of}
 use Rattle.naming_tree.proofs.ReadingsOn.{IsSound, reading_sound}
 use Rattle.naming_tree.proofs.ReadingsSay.{reading_says}
-use Rattle.naming_tree.proofs.WalksLeft.{walk_left, turn_left, end_left, behind, on_along, moved_left, walk_on}
+use Rattle.naming_tree.proofs.WalksLeft.{walk_left, turn_left, end_left, behind, moved_left, walk_on}
 use Rattle.naming_tree.proofs.Machines.{IsAt, Tells, says_all}
 
 -- it has begun, and its reading is under way

@@ -7,15 +7,14 @@ use Rattle.dom_history.specs.declared.op.Op.TheVariants as ops
 use Rattle.dom_history.specs.declared.op.Spot.TheVariants.{Of}
 use Rattle.dom_history.specs.declared.op.Reply.{Reply}
 use Rattle.dom_history.specs.declared.op.Reply.TheVariants.{Made, Fine}
-use Rattle.naming_tree.specs.declared.row.DirRow.{DirRow}
-use Rattle.naming_tree.specs.declared.directory.TheConstants.{MOST_RECORDS}
+use Rattle.dir_records.specs.declared.row.DirRow.{DirRow}
+use Rattle.dir_records.specs.declared.directory.TheConstants.{MOST_RECORDS}
 use Rattle.naming_tree.specs.declared.session.Opened.{Opened}
 use Rattle.naming_tree.specs.declared.session.Held.{Held}
 use Rattle.naming_tree.specs.declared.session.Entering.{Entering}
 use Rattle.naming_tree.specs.declared.session.Entering.TheVariants as entering
 use Rattle.naming_tree.specs.declared.session.Entry.{Entry}
 use Rattle.naming_tree.specs.declared.session.Entry.TheVariants.{On, In, Out}
-use Rattle.naming_tree.specs.declared.step.NameResult.{NameResult}
 use Rattle.naming_tree.specs.declared.step.NameResult.TheVariants.{Added, NameExists, DirFull, BadDir}
 use Rattle.naming_tree.specs.declared.addition.Addition.{Addition}
 use Rattle.naming_tree.specs.declared.ending.Ending.{Ending}
@@ -23,9 +22,9 @@ use Rattle.naming_tree.specs.declared.adding.AddStage.{AddStage}
 use Rattle.naming_tree.specs.declared.adding.AddStage.TheVariants.{Begin, Enter, Make, LockText, StoreText, UnlockText, StoreName}
 use Rattle.naming_tree.specs.declared.adding.Adding.{Adding}
 use Rattle.naming_tree.specs.declared.placed.Placed.{Placed}
-use Rattle.naming_tree.specs.Records.{Slot, row_bytes}
-use Rattle.naming_tree.specs.Directories.{directory_of, row_named, first_free}
-use Rattle.naming_tree.specs.Entering.{enter_op, entry_of, bytes_after, held_of, op_of_closing, IsEntering, IsOpened}
+use Rattle.dir_records.specs.Records.{Slot, row_bytes}
+use Rattle.dir_records.specs.Directories.{directory_of, row_named, first_free}
+use Rattle.naming_tree.specs.Entering.{enter_op, entry_of, bytes_after, held_of, op_of_closing, IsEntering}
 use Rattle.naming_tree.specs.Endings.{no_ending, refused_with, decided, completed, ending_after, result_of, IsEnding}
 use Rattle.naming_tree.specs.Additions.{added_row, IsAddition}
 use Rattle.naming_tree.specs.Placing.{store_record, held_with, IsPlaced, IsThere}

@@ -1,21 +1,20 @@
 -- A name that is added to a directory, and what that asks.
-use Rattle.std.specs.Prelude.{◌≡◌, ◌≤◌, ℕ, nat_lt, Bool, true, false, cond, Option, Some, None, List, [], ◌∷◌, length, IsSome}
+use Rattle.std.specs.Prelude.{◌≡◌, ◌≤◌, ℕ, nat_lt, Bool, true, false, Option, Some, None, List, [], ◌∷◌, IsSome}
 use Rattle.uid_names.specs.Names.{ObjectName}
 use Rattle.uid_names.specs.Rooms.{IsRoom}
 use Rattle.uid_names.specs.declared.mode.Mode.TheVariants.{Write}
 use Rattle.uid_names.specs.declared.mode.ObjKind.{ObjKind}
 use Rattle.uid_names.specs.declared.mode.ObjKind.TheVariants.{Link}
-use Rattle.dom_history.specs.declared.op.Op.{Op}
 use Rattle.dom_history.specs.declared.op.Op.TheVariants.{New, Lock, Unlock, Store}
 use Rattle.dom_history.specs.declared.op.Spot.TheVariants.{Of}
-use Rattle.naming_tree.specs.declared.row.DirRow.{DirRow}
-use Rattle.naming_tree.specs.declared.directory.TheConstants.{MOST_RECORDS}
+use Rattle.dir_records.specs.declared.row.DirRow.{DirRow}
+use Rattle.dir_records.specs.declared.directory.TheConstants.{MOST_RECORDS}
 use Rattle.naming_tree.specs.declared.session.Opened.{Opened}
 use Rattle.naming_tree.specs.declared.step.NameResult.TheVariants.{Added, NameExists, DirFull, BadDir}
 use Rattle.naming_tree.specs.declared.addition.Addition.{Addition}
-use Rattle.naming_tree.specs.Records.{Slot, row_bytes}
-use Rattle.naming_tree.specs.Directories.{directory_of, row_named, first_free}
-use Rattle.naming_tree.specs.Paths.{route_of}
+use Rattle.dir_records.specs.Records.{Slot, row_bytes}
+use Rattle.dir_records.specs.Directories.{directory_of, row_named, first_free}
+use Rattle.dir_records.specs.Paths.{route_of}
 use Rattle.naming_tree.specs.Placing.{store_record}
 use Rattle.naming_tree.specs.Dialogues.{Dialogue, Ends}
 use Rattle.naming_tree.specs.Sessions.{fine, made, closing, ask, closers, shutting, entering}

@@ -1,10 +1,10 @@
 -- How far a walk can go.
 use Rattle.std.specs.Prelude.{ℕ, suc, ◌+◌, Option, Some, None, List, length}
 use Rattle.uid_names.specs.Names.{ObjectName}
-use Rattle.naming_tree.specs.declared.path.Route.{Route}
+use Rattle.dir_records.specs.declared.path.Route.{Route}
 use Rattle.naming_tree.specs.declared.step.Walked.{Walked}
 use Rattle.naming_tree.specs.declared.step.NameResult.{NameResult}
-use Rattle.naming_tree.specs.Paths.{route_of}
+use Rattle.dir_records.specs.Paths.{route_of}
 use Rattle.naming_tree.specs.Dialogues.{Dialogue, Ends}
 use Rattle.naming_tree.specs.Sessions.{reading}
 use Rattle.naming_tree.specs.Walks.{look_up}

@@ -1,25 +1,26 @@
 -- How a task is done by a path, reply by reply: a walk, and then the task in the directory to which it led.
-use Rattle.std.specs.Prelude.{◌≡◌, ℕ, true, Option, Some, None, List, IfSome}
+use Rattle.std.specs.Prelude.{◌≡◌, ℕ, true, Option, Some, None, List}
 use Rattle.uid_names.specs.Names.{ObjectName}
 use Rattle.uid_names.specs.declared.mode.ObjKind.{ObjKind}
 use Rattle.uid_names.specs.declared.mode.ObjKind.TheVariants.{Directory}
 use Rattle.dom_history.specs.declared.op.Op.{Op}
 use Rattle.dom_history.specs.declared.op.Reply.{Reply}
-use Rattle.naming_tree.specs.declared.path.Route.{Route}
+use Rattle.dir_records.specs.declared.path.Route.{Route}
 use Rattle.naming_tree.specs.declared.site.Site.{Site}
 use Rattle.naming_tree.specs.declared.step.Walked.{Walked}
 use Rattle.naming_tree.specs.declared.step.Walked.TheVariants.{Root, At}
 use Rattle.naming_tree.specs.declared.step.NameResult.{NameResult}
 use Rattle.naming_tree.specs.declared.step.NameResult.TheVariants.{Found, NotDir}
 use Rattle.naming_tree.specs.declared.walking.Walking.{Walking}
-use Rattle.naming_tree.specs.declared.path.Start.{Start}
+use Rattle.dir_records.specs.declared.path.Start.{Start}
 use Rattle.naming_tree.specs.declared.task.Task.{Task}
 use Rattle.naming_tree.specs.declared.task.Task.TheVariants.{List as ListRows, Add, Remove}
 use Rattle.naming_tree.specs.Readings.{reading_of}
 use Rattle.naming_tree.specs.Adding.{adding_of}
 use Rattle.naming_tree.specs.Removing.{removing_of}
 use Rattle.naming_tree.specs.Walks.{start_at}
-use Rattle.naming_tree.specs.NamePaths.{last_of, added_alone, removed_alone, addition}
+use Rattle.dir_records.specs.LastNames.{last_of}
+use Rattle.naming_tree.specs.NamePaths.{added_alone, removed_alone, addition}
 use Rattle.naming_tree.specs.declared.by_path.ByPath.{ByPath}
 use Rattle.naming_tree.specs.Turns.{Turn, Goes, Comes}
 use Rattle.naming_tree.specs.Walking.{walking_after, walking_asks, walking_of, IsWalking}

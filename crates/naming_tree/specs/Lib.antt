@@ -1,11 +1,4 @@
-pub mod Wholes
 pub mod Dialogues
-pub mod Components
-pub mod Padding
-pub mod Marks
-pub mod Records
-pub mod Directories
-pub mod Paths
 pub mod Entering
 pub mod Sessions
 pub mod Readings

@@ -1,35 +1,25 @@
 -- Names by their paths: how they are listed, added and removed.
-use Rattle.std.specs.Prelude.{ℕ, Bool, true, Option, Some, None, List, [], ◌∷◌}
-use Rattle.std.specs.Ordering.{nat_cmp, is_lt}
-use Rattle.std.specs.Cmp.Lexicographic.{slice_cmp}
-use Rattle.uid_names.specs.InOrder.{put_in_order}
+use Rattle.std.specs.Prelude.{ℕ, true, Option, Some, None, List}
 use Rattle.uid_names.specs.Names.{ObjectName}
 use Rattle.uid_names.specs.declared.mode.ObjKind.{ObjKind}
 use Rattle.uid_names.specs.declared.mode.ObjKind.TheVariants.{Directory}
-use Rattle.naming_tree.specs.declared.row.DirRow.{DirRow}
-use Rattle.naming_tree.specs.declared.path.Route.{Route}
+use Rattle.dir_records.specs.declared.row.DirRow.{DirRow}
+use Rattle.dir_records.specs.declared.path.Route.{Route}
 use Rattle.naming_tree.specs.declared.site.Site.{Site}
 use Rattle.naming_tree.specs.declared.addition.Addition.{Addition}
 use Rattle.naming_tree.specs.declared.step.Walked.{Walked}
 use Rattle.naming_tree.specs.declared.step.Walked.TheVariants.{Root, At}
 use Rattle.naming_tree.specs.declared.step.NameResult.{NameResult}
 use Rattle.naming_tree.specs.declared.step.NameResult.TheVariants.{Nodes, Rows, NoName, NameExists, NotDir, IsDir, BadDir}
-use Rattle.naming_tree.specs.Directories.{rows_in}
-use Rattle.naming_tree.specs.Paths.{route_of}
+use Rattle.dir_records.specs.Directories.{rows_in}
+use Rattle.dir_records.specs.LastNames.{last_of}
+use Rattle.dir_records.specs.Listings.{by_name}
+use Rattle.dir_records.specs.Paths.{route_of}
 use Rattle.naming_tree.specs.Dialogues.{Dialogue, Ends}
 use Rattle.naming_tree.specs.Sessions.{reading}
 use Rattle.naming_tree.specs.Walks.{start_at, most_links, on_start, along, follow, walking}
 use Rattle.naming_tree.specs.Additions.{add_at}
 use Rattle.naming_tree.specs.Removals.{drop_at}
-
--- the names before the last one, and that
-abbrev pub behind_first : List ℕ → Option (List (List ℕ) × List ℕ) → Option (List (List ℕ) × List ℕ)
-behind_first name None = Some ([], name)
-behind_first name (Some (front, last)) = Some (name ∷ front, last)
-
-abbrev pub last_of : List (List ℕ) → Option (List (List ℕ) × List ℕ)
-last_of [] = None
-last_of (name ∷ names) = behind_first name (last_of names)
 
 -- what is no directory ends it
 abbrev pub if_directory : ObjKind → Dialogue → Dialogue
@@ -71,14 +61,7 @@ add_name site path working kind room text = by_parent site (route_of path) worki
 abbrev pub drop_name : Site → List ℕ → ObjectName → Dialogue
 drop_name site path working = by_parent site (route_of path) working removed_alone (λ name parent. drop_at parent name)
 
--- rows by their names, in the order of bytes
-abbrev pub row_below : DirRow → DirRow → Bool
-row_below a b = is_lt (slice_cmp nat_cmp a.name b.name)
-
-abbrev pub by_name : List DirRow → List DirRow
-by_name [] = []
-by_name (row ∷ rows) = put_in_order row_below row (by_name rows)
-
+-- the rows of a directory, by their names
 abbrev pub listed : Option (List DirRow) → NameResult
 listed None = BadDir
 listed (Some rows) = Rows (by_name rows)

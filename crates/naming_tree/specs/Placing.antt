@@ -1,10 +1,10 @@
 -- The places of records in a directory that is open.
-use Rattle.std.specs.Prelude.{◌<◌, ℕ, ◌+◌, ◌*◌, Option, Some, List}
+use Rattle.std.specs.Prelude.{◌<◌, ℕ, ◌+◌, ◌*◌, Some, List}
 use Rattle.dom_history.specs.declared.op.Op.{Op}
 use Rattle.dom_history.specs.declared.op.Op.TheVariants.{Store}
 use Rattle.dom_history.specs.declared.op.Spot.TheVariants.{Addr}
-use Rattle.naming_tree.specs.declared.row.TheConstants.{RECORD_BYTES}
-use Rattle.naming_tree.specs.declared.directory.TheConstants.{MOST_RECORDS}
+use Rattle.dir_records.specs.declared.row.TheConstants.{RECORD_BYTES}
+use Rattle.dir_records.specs.declared.directory.TheConstants.{MOST_RECORDS}
 use Rattle.naming_tree.specs.declared.session.Opened.{Opened}
 use Rattle.naming_tree.specs.declared.session.Held.{Held}
 use Rattle.naming_tree.specs.declared.placed.Placed.{Placed}

@@ -7,11 +7,11 @@ use Rattle.uid_names.specs.declared.mode.ObjKind.TheVariants.{Directory}
 use Rattle.dom_history.specs.declared.op.Op.TheVariants.{Lock, Unlock, Delete}
 use Rattle.dom_history.specs.declared.op.Reply.{Reply}
 use Rattle.dom_history.specs.declared.op.Reply.TheVariants.{Fine, NoObject, Kept, WrongMode}
-use Rattle.naming_tree.specs.declared.row.DirRow.{DirRow}
+use Rattle.dir_records.specs.declared.row.DirRow.{DirRow}
 use Rattle.naming_tree.specs.declared.session.Opened.{Opened}
 use Rattle.naming_tree.specs.declared.step.NameResult.TheVariants.{Removed, NoName, IsDir, BadDir, Store}
-use Rattle.naming_tree.specs.Records.{Slot, free_bytes}
-use Rattle.naming_tree.specs.Directories.{directory_of, placed_row}
+use Rattle.dir_records.specs.Records.{Slot, free_bytes}
+use Rattle.dir_records.specs.Directories.{directory_of, placed_row}
 use Rattle.naming_tree.specs.Placing.{store_record}
 use Rattle.naming_tree.specs.Dialogues.{Dialogue, Ends, Asks}
 use Rattle.naming_tree.specs.Sessions.{fine, closing, ask, closers, shutting, entering}

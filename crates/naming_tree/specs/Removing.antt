@@ -1,5 +1,5 @@
 -- How a name is removed, reply by reply.
-use Rattle.std.specs.Prelude.{◌≡◌, ℕ, Bool, true, false, Option, Some, None, List, [], IsSome}
+use Rattle.std.specs.Prelude.{◌≡◌, ℕ, Option, Some, None, List, [], IsSome}
 use Rattle.uid_names.specs.Names.{ObjectName}
 use Rattle.uid_names.specs.declared.mode.Mode.TheVariants.{Write}
 use Rattle.uid_names.specs.declared.mode.ObjKind.{ObjKind}
@@ -8,9 +8,8 @@ use Rattle.dom_history.specs.declared.op.Op.{Op}
 use Rattle.dom_history.specs.declared.op.Op.TheVariants as ops
 use Rattle.dom_history.specs.declared.op.Reply.{Reply}
 use Rattle.dom_history.specs.declared.op.Reply.TheVariants.{Fine, NoObject, Kept, WrongMode}
-use Rattle.naming_tree.specs.declared.row.DirRow.{DirRow}
+use Rattle.dir_records.specs.declared.row.DirRow.{DirRow}
 use Rattle.naming_tree.specs.declared.session.Opened.{Opened}
-use Rattle.naming_tree.specs.declared.session.Held.{Held}
 use Rattle.naming_tree.specs.declared.session.Entering.{Entering}
 use Rattle.naming_tree.specs.declared.session.Entering.TheVariants as entering
 use Rattle.naming_tree.specs.declared.session.Entry.{Entry}
@@ -21,11 +20,11 @@ use Rattle.naming_tree.specs.declared.placed.Placed.{Placed}
 use Rattle.naming_tree.specs.declared.removing.RemoveStage.{RemoveStage}
 use Rattle.naming_tree.specs.declared.removing.RemoveStage.TheVariants.{Begin, Enter, Lock, Delete, Clear}
 use Rattle.naming_tree.specs.declared.removing.Removing.{Removing}
-use Rattle.naming_tree.specs.Records.{Slot, free_bytes}
-use Rattle.naming_tree.specs.Directories.{directory_of, placed_row}
+use Rattle.dir_records.specs.Records.{Slot, free_bytes}
+use Rattle.dir_records.specs.Directories.{directory_of, placed_row}
 use Rattle.naming_tree.specs.Entering.{enter_op, entry_of, bytes_after, held_of, op_of_closing, IsEntering}
 use Rattle.naming_tree.specs.Endings.{no_ending, refused_with, decided, completed, ending_after, result_of, IsEnding}
-use Rattle.naming_tree.specs.Placing.{store_record, held_with, IsPlaced, IsThere}
+use Rattle.naming_tree.specs.Placing.{store_record, held_with, IsThere}
 use Rattle.naming_tree.specs.Turns.{Turn, turn_of}
 
 -- it goes on in a stage

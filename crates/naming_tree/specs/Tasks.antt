@@ -1,21 +1,18 @@
 -- What is done in the directory to which a walk led, reply by reply.
-use Rattle.std.specs.Prelude.{◌≡◌, Bool, true, false, Option, Some, None, List, IsSome}
+use Rattle.std.specs.Prelude.{◌≡◌, Bool, true, false, Option, Some, None}
 use Rattle.uid_names.specs.Names.{ObjectName}
 use Rattle.dom_history.specs.declared.op.Op.{Op}
 use Rattle.dom_history.specs.declared.op.Reply.{Reply}
-use Rattle.naming_tree.specs.declared.row.DirRow.{DirRow}
 use Rattle.naming_tree.specs.declared.reading.Reading.{Reading}
-use Rattle.naming_tree.specs.declared.adding.Adding.{Adding}
-use Rattle.naming_tree.specs.declared.removing.Removing.{Removing}
 use Rattle.naming_tree.specs.declared.task.Task.{Task}
 use Rattle.naming_tree.specs.declared.task.Task.TheVariants.{List as ListRows, Add, Remove}
 use Rattle.naming_tree.specs.declared.step.NameResult.{NameResult}
 use Rattle.naming_tree.specs.declared.step.NameResult.TheVariants.{Nodes, NotDir, Store}
-use Rattle.naming_tree.specs.Directories.{rows_in}
+use Rattle.dir_records.specs.Directories.{rows_in}
 use Rattle.naming_tree.specs.Readings.{reading_of, reading_op, reading_after, is_done, IsReading}
 use Rattle.naming_tree.specs.Adding.{adding_after, adding_asks, IsAdding}
 use Rattle.naming_tree.specs.Adding as adding
-use Rattle.naming_tree.specs.Removing.{removing_after, removing_asks, IsRemoving}
+use Rattle.naming_tree.specs.Removing.{removing_after, removing_asks}
 use Rattle.naming_tree.specs.Removing as removing
 use Rattle.naming_tree.specs.NamePaths.{listed}
 use Rattle.naming_tree.specs.Turns.{Turn, Goes, Comes}

@@ -1,21 +1,21 @@
 -- A walk along a path, and what it asks.
-use Rattle.std.specs.Prelude.{ℕ, zero, suc, Bool, true, false, Option, Some, None, List, [], ◌∷◌, ◌++◌, bytes_eq, option_map}
+use Rattle.std.specs.Prelude.{ℕ, zero, suc, Bool, true, Option, Some, None, List, [], ◌∷◌, ◌++◌, bytes_eq, option_map}
 use Rattle.std.specs.List.{position_from}
 use Rattle.uid_names.specs.Names.{ObjectName}
 use Rattle.uid_names.specs.declared.mode.ObjKind.{ObjKind}
-use Rattle.uid_names.specs.declared.mode.ObjKind.TheVariants.{File, Directory, Link, Mail}
-use Rattle.naming_tree.specs.declared.row.DirRow.{DirRow}
-use Rattle.naming_tree.specs.declared.path.Start.{Start}
-use Rattle.naming_tree.specs.declared.path.Start.TheVariants as starts
-use Rattle.naming_tree.specs.declared.path.Route.{Route}
+use Rattle.uid_names.specs.declared.mode.ObjKind.TheVariants.{Directory, Link}
+use Rattle.dir_records.specs.declared.row.DirRow.{DirRow}
+use Rattle.dir_records.specs.declared.path.Start.{Start}
+use Rattle.dir_records.specs.declared.path.Start.TheVariants as starts
+use Rattle.dir_records.specs.declared.path.Route.{Route}
 use Rattle.naming_tree.specs.declared.step.Within.{Within}
 use Rattle.naming_tree.specs.declared.step.Walked.{Walked}
 use Rattle.naming_tree.specs.declared.step.Walked.TheVariants.{Root, At}
 use Rattle.naming_tree.specs.declared.step.NameResult.TheVariants.{Found, NoName, NotDir, LinkLoop, BadDir}
 use Rattle.naming_tree.specs.declared.site.Site.{Site}
-use Rattle.naming_tree.specs.Records.{Slot}
-use Rattle.naming_tree.specs.Directories.{directory_of, row_named}
-use Rattle.naming_tree.specs.Paths.{route_of}
+use Rattle.dir_records.specs.Records.{Slot}
+use Rattle.dir_records.specs.Directories.{directory_of, row_named}
+use Rattle.dir_records.specs.Paths.{route_of}
 use Rattle.naming_tree.specs.Dialogues.{Dialogue, Ends}
 use Rattle.naming_tree.specs.Sessions.{reading}
 

@@ -6,20 +6,19 @@ ghost use Rattle.dom_history.specs.declared.op.Op.TheVariants.{Lock, Unlock, Sto
 ghost use Rattle.dom_history.specs.declared.op.Spot.TheVariants.{Of};
 ghost use Rattle.naming_tree.specs.Turns.{turn_of, FitsAsked};
 ghost use Rattle.naming_tree.specs.Entering.{IsEntering, IsOpened};
-ghost use Rattle.naming_tree.specs.Records.{row_bytes};
-ghost use Rattle.naming_tree.specs.declared.directory.TheConstants.{MOST_RECORDS as MostRecords};
+ghost use Rattle.dir_records.specs.Records.{row_bytes};
+ghost use Rattle.dir_records.specs.declared.directory.TheConstants.{MOST_RECORDS as MostRecords};
 ghost use Rattle.naming_tree.specs.Additions.{added_row, IsAddition};
 ghost use Rattle.naming_tree.specs.Placing.{store_record, IsPlaced, IsThere};
 ghost use Rattle.naming_tree.specs.Endings.{refused_with};
 ghost use Rattle.naming_tree.specs.Adding.{ends, on_slots, entered, judged as judged_by, on_made, on_named, heard_in, heard_at, finish, adding_after, adding_asks, adding_of, text_of, went_on, stage_op as stage_asks, IsTexted, IsOn, IsAdding, IsStage, IsStageAt};
 
 use crate::addition::Addition;
-use crate::directory::{DirFault, Directory, MOST_RECORDS};
 use crate::ending::Ending;
 use crate::placed::{Placed, lock, store_record, unlock};
-use crate::row::{DirRow, write_row};
 use crate::session::{Entering, Entry, Held, Opened, is_fine};
 use crate::step::NameResult;
+use dir_records::{DirFault, DirRow, Directory, MOST_RECORDS, write_row};
 use dom_history::{Op, Reply, Spot};
 use std::alloc::Global;
 use uid_names::{ByteList, Mode, NoMemory, Uid};

@@ -1,5 +1,5 @@
 //! What is added to directories.
-use crate::component::Component;
+use dir_records::Component;
 use uid_names::{ByteList, ObjKind};
 
 /// A name with the object that is made for it. `room` is in pages; a link has a text.

@@ -14,13 +14,13 @@ ghost use Rattle.uid_names.specs.Rooms.{IsRoom};
 
 use crate::adding::Adding;
 use crate::addition::Addition;
-use crate::path::Route;
 use crate::reading::Reading;
 use crate::removing::Removing;
 use crate::site::Site;
 use crate::step::{NameResult, NameStep, Walked};
 use crate::task::Task;
 use crate::walking::Walking;
+use dir_records::Route;
 use dom_history::{Op, Reply};
 use std::alloc::Global;
 use uid_names::{ByteList, NoMemory, ObjKind, Uid};

@@ -3,9 +3,9 @@ ghost use Rattle.std.specs.Prelude.{◌≡◌, Some, None, IfOk, OnOk, OnErr, Is
 ghost use Rattle.std.specs.Option.{option_copied};
 ghost use Rattle.naming_tree.specs.Turns.{FitsStood, stood_after, stood_says, IsStep};
 
-use crate::component::Component;
 use crate::removing::Removing;
 use crate::step::NameStep;
+use dir_records::Component;
 use dom_history::Reply;
 use std::alloc::Global;
 use std::marker::Model;

@@ -4,9 +4,9 @@ ghost use Rattle.std.specs.Option.{option_copied};
 ghost use Rattle.naming_tree.specs.Turns.{FitsStood, stood_after, stood_says, IsStep};
 
 use crate::by_path::ByPath;
-use crate::path::Route;
 use crate::site::Site;
 use crate::step::NameStep;
+use dir_records::Route;
 use dom_history::Reply;
 use std::alloc::Global;
 use std::marker::Model;
@@ -35,7 +35,7 @@ impl Model for DropName {
 }
 
 impl DropName {
-    ghost use Rattle.naming_tree.specs.Paths.{route_of};
+    ghost use Rattle.dir_records.specs.Paths.{route_of};
     ghost use Rattle.naming_tree.specs.ByPaths.{drop_name_of, by_path_after, by_path_asks};
 
     /// The removal of a path's last name, from a working directory.

@@ -1,19 +1,16 @@
 //! Laws of names. Each stands on a function without a body, so that the check proves it.
-ghost use Rattle.std.specs.Prelude.{◌≡◌, ◌≢◌, ℕ, Bool, true, false, Some, None, Option, List, IsSome, bytes_eq};
+ghost use Rattle.std.specs.Prelude.{◌≡◌, ℕ, Bool, Some, Option, List, IsSome};
 ghost use Rattle.uid_names.specs.Names.{ObjectName};
 ghost use Rattle.uid_names.specs.Rooms.{IsRoom};
 ghost use Rattle.uid_names.specs.declared.mode.ObjKind.{ObjKind};
 ghost use Rattle.dom_history.specs.declared.op.Reply.{Reply};
 ghost use Rattle.naming_tree.specs.declared.addition.Addition.{Addition};
 ghost use Rattle.naming_tree.specs.declared.site.Site.{Site};
-ghost use Rattle.naming_tree.specs.declared.row.DirRow.{DirRow};
 ghost use Rattle.naming_tree.specs.declared.step.Walked.{Walked};
 ghost use Rattle.naming_tree.specs.declared.step.NameResult.TheVariants.{LinkLoop};
-ghost use Rattle.naming_tree.specs.Records.{Slot, row_bytes, slot_of, IsRow};
-ghost use Rattle.naming_tree.specs.Directories.{directory_of, are_apart, row_named, placed_row, first_free, with_slot, IsDirectory};
 ghost use Rattle.naming_tree.specs.Dialogues.{Dialogue, Ends, says, after, FitsHeard};
 ghost use Rattle.naming_tree.specs.Turns.{machine_says};
-ghost use Rattle.naming_tree.specs.Paths.{route_of};
+ghost use Rattle.dir_records.specs.Paths.{route_of};
 ghost use Rattle.naming_tree.specs.Walks.{walk, follow};
 ghost use Rattle.naming_tree.specs.Bounds.{IsBounded, names_along};
 ghost use Rattle.naming_tree.specs.Walking.{walk_of, walking_asks, walking_after};
@@ -50,30 +47,4 @@ pub fn paths_go_by_all_they_heard()
     ensures listed { (site : Site) (path : List ℕ) (working : ObjectName) (heard : List Reply) → IsSome (route_of path) → FitsHeard (list_dir site path working) heard → machine_says by_path_asks by_path_after (list_dir_of site (route_of path) working) heard ≡ Some (says (after (list_dir site path working) heard)) }
     ensures added { (site : Site) (path : List ℕ) (working : ObjectName) (kind : ObjKind) (room : ℕ) (text : Option (List ℕ)) (heard : List Reply) → IsSome (route_of path) → IsRoom room → IsText kind text → FitsHeard (add_name site path working kind room text) heard → machine_says by_path_asks by_path_after (add_name_of site (route_of path) working kind room text) heard ≡ Some (says (after (add_name site path working kind room text) heard)) }
     ensures removed { (site : Site) (path : List ℕ) (working : ObjectName) (heard : List Reply) → IsSome (route_of path) → FitsHeard (drop_name site path working) heard → machine_says by_path_asks by_path_after (drop_name_of site (route_of path) working) heard ≡ Some (says (after (drop_name site path working) heard)) }
-{}
-
-/// What is written of a row is read again.
-#[tactic(auto, using(crate::proofs::RecordsRead::record_read))]
-pub fn rows_are_read_as_they_are_written()
-    ensures { (row : DirRow) → IsRow row → slot_of (row_bytes row) ≡ Some (Some row) }
-{}
-
-/// A name that is new to a directory is found where it was put, and each other name still stands for what it stood for.
-#[tactic(auto, using(crate::proofs::SlotsPut::added_found, crate::proofs::SlotsPut::others_stay))]
-pub fn added_names_are_found()
-    ensures found { (row : DirRow) (slots : List Slot) → row_named row.name slots ≡ None → row_named row.name (with_slot (first_free slots) (Some row) slots) ≡ Some row }
-    ensures others { (row : DirRow) (other : List ℕ) (slots : List Slot) → bytes_eq row.name other ≡ false → row_named other (with_slot (first_free slots) (Some row) slots) ≡ row_named other slots }
-{}
-
-/// Once the record of a name is free the name is not found, and each other name still stands for what it stood for.
-#[tactic(auto, using(crate::proofs::SlotsPut::gone, crate::proofs::SlotsPut::kept))]
-pub fn dropped_names_are_gone()
-    ensures gone { (name : List ℕ) (slots : List Slot) (place : ℕ) (row : DirRow) → are_apart slots ≡ true → placed_row name slots ≡ Some (place, row) → row_named name (with_slot place None slots) ≡ None }
-    ensures others { (name other : List ℕ) (slots : List Slot) (place : ℕ) (row : DirRow) → name ≢ other → placed_row name slots ≡ Some (place, row) → row_named other (with_slot place None slots) ≡ row_named other slots }
-{}
-
-/// A directory that is read has at most 128 records, and no two of them have one name.
-#[tactic(auto, using(crate::proofs::DirectoriesRead::directory_read))]
-pub fn names_of_a_directory_differ()
-    ensures { (bytes : List ℕ) (slots : List Slot) → directory_of bytes ≡ Some slots → IsDirectory slots }
 {}

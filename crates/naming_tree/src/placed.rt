@@ -5,8 +5,8 @@ ghost use Rattle.dom_history.specs.declared.op.Op.TheVariants.{Lock, Unlock, Del
 ghost use Rattle.dom_history.specs.Ranges.{IsOp};
 ghost use Rattle.naming_tree.specs.Placing.{store_record, held_with, IsPlaced};
 
-use crate::row::RECORD_BYTES;
 use crate::session::{Held, Opened};
+use dir_records::RECORD_BYTES;
 use dom_history::{Op, Spot};
 use std::alloc::Global;
 use uid_names::{ByteList, Mode, NoMemory, Uid};
@@ -46,13 +46,13 @@ pub fn store_record(
     alloc: Global,
     opened: &Opened,
     place: u32,
-    record: &[u8; RECORD_BYTES],
+    raw: &[u8; RECORD_BYTES],
 ) -> Result<Op, NoMemory>
     requires { IsPlaced opened.now place }
-    ensures value { IfOk result (λ op. op ≡ store_record opened.now place record.now) }
+    ensures value { IfOk result (λ op. op ≡ store_record opened.now place raw.now) }
     ensures range { IfOk result IsOp }
 {
-    let bytes = ByteList::from_slice(alloc, record)?;
+    let bytes = ByteList::from_slice(alloc, raw)?;
     Ok(Op::Store {
         spot: Spot::Addr(opened.address + place * RECORD_BYTES as u32),
         bytes,

@@ -6,13 +6,11 @@ ghost use Rattle.naming_tree.specs.Entering.{IsEntering};
 ghost use Rattle.naming_tree.specs.Endings.{refused_with};
 ghost use Rattle.naming_tree.specs.Removing.{ends, on_slots, entered, judged as judged_by, on_locked, on_deleted, on_cleared, heard_in, heard_at, finish, removing_after, removing_asks, removing_of, stage_op as stage_asks, IsOn, IsRemoving, IsStage, IsStageAt};
 
-use crate::component::Component;
-use crate::directory::{DirFault, Directory};
 use crate::ending::Ending;
 use crate::placed::{Placed, lock, store_record};
-use crate::row::RECORD_BYTES;
 use crate::session::{Entering, Entry, Held, Opened, is_fine};
 use crate::step::NameResult;
+use dir_records::{Component, DirFault, Directory, RECORD_BYTES};
 use dom_history::{Op, Reply};
 use std::alloc::Global;
 use uid_names::{ByteList, Mode, NoMemory, ObjKind, Uid};

@@ -2,8 +2,8 @@
 ghost use Rattle.std.specs.Prelude.{◌≡◌};
 ghost use Rattle.naming_tree.specs.Walks.{start_at, node_named, at_start, at_entry};
 
-use crate::path::Start;
 use crate::step::Walked;
+use dir_records::Start;
 use dom_history::NodeNames;
 use uid_names::{NodeId, ObjKind, Uid};
 

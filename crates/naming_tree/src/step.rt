@@ -1,6 +1,8 @@
 //! What the machines ask and come to.
-use crate::component::Component;
-use crate::directory::DirRows;
+ghost use Rattle.std.specs.Prelude.{◌≡◌};
+ghost use Rattle.naming_tree.specs.Walks.{at_row};
+
+use dir_records::{Component, DirRow, DirRows};
 use dom_history::{Op, Reply};
 use uid_names::{ObjKind, Uid};
 
@@ -23,6 +25,22 @@ pub enum Walked {
         kind: ObjKind,
         within: Option<Within>,
     },
+}
+
+impl Walked {
+    /// The object of a row of a directory. Takes no memory.
+    pub fn at_row(row: &DirRow, dir: Uid) -> Walked
+        ensures { result ≡ at_row dir row.now }
+    {
+        Walked::At {
+            uid: row.uid,
+            kind: row.kind,
+            within: Some(Within {
+                dir,
+                name: row.name,
+            }),
+        }
+    }
 }
 
 /// What a machine comes to.

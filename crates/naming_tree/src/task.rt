@@ -6,14 +6,13 @@ ghost use Rattle.naming_tree.specs.Readings.{reading_op, IsReading};
 ghost use Rattle.naming_tree.specs.Tasks.{task_begins, list_on, task_after, task_asks, at_root as result_at_root, IsOn, IsTask};
 ghost use Rattle.naming_tree.specs.declared.task.Task.TheVariants.{List as ListRows};
 ghost use Rattle.naming_tree.specs.NamePaths.{listed as listed_rows};
-ghost use Rattle.naming_tree.specs.Directories.{rows_in};
+ghost use Rattle.dir_records.specs.Directories.{rows_in};
 
 use crate::adding::Adding;
-use crate::directory::{DirFault, read_dir};
-use crate::listing::by_name;
 use crate::reading::Reading;
 use crate::removing::Removing;
 use crate::step::NameResult;
+use dir_records::{DirFault, by_name, read_dir};
 use dom_history::{Op, Reply};
 use std::alloc::Global;
 use uid_names::{NoMemory, Uid};

@@ -3,10 +3,10 @@ ghost use Rattle.std.specs.Prelude.{◌≡◌, Some, None, IfOk, OnOk, OnErr, Is
 ghost use Rattle.std.specs.Option.{option_copied};
 ghost use Rattle.naming_tree.specs.Turns.{FitsStood, stood_after, stood_says, IsStep};
 
-use crate::path::Route;
 use crate::site::Site;
 use crate::step::NameStep;
 use crate::walking::Walking;
+use dir_records::Route;
 use dom_history::Reply;
 use std::alloc::Global;
 use std::marker::Model;
@@ -35,7 +35,7 @@ impl Model for Walk {
 }
 
 impl Walk {
-    ghost use Rattle.naming_tree.specs.Paths.{route_of};
+    ghost use Rattle.dir_records.specs.Paths.{route_of};
     ghost use Rattle.naming_tree.specs.Walking.{walk_of, walking_asks, walking_after};
 
     /// A walk along a path from a working directory. `last` tells whether a link at the end is followed.

@@ -5,20 +5,17 @@ ghost use Rattle.dom_history.specs.Ranges.{IsOp};
 ghost use Rattle.dom_history.specs.Fitting.{Fits};
 ghost use Rattle.naming_tree.specs.declared.step.Walked.TheVariants.{At};
 ghost use Rattle.naming_tree.specs.declared.step.NameResult.TheVariants.{Found, NotDir as NotDirResult};
-ghost use Rattle.naming_tree.specs.Directories.{directory_of};
-ghost use Rattle.naming_tree.specs.Paths.{route_of};
+ghost use Rattle.dir_records.specs.Directories.{directory_of};
+ghost use Rattle.dir_records.specs.Paths.{route_of};
 ghost use Rattle.naming_tree.specs.Turns.{turn_of, Goes, Comes, FitsAsked};
 ghost use Rattle.naming_tree.specs.Readings.{reading_op, IsReading};
 ghost use Rattle.naming_tree.specs.Walks.{holder as holder_of, at_end, at_middle};
 ghost use Rattle.naming_tree.specs.Walking.{looks, follows, stands, settled, at_found, at_slots, at_route, moved, walking_after, walking_asks, walking_of, IsWalking, IsOn};
 
-use crate::component::Component;
-use crate::directory::{DirFault, Directory};
-use crate::names::Names;
-use crate::path::Route;
 use crate::reading::Reading;
 use crate::site::Site;
 use crate::step::{NameResult, Walked, Within};
+use dir_records::{Component, DirFault, Directory, Names, Route};
 use dom_history::{Op, Reply};
 use std::alloc::Global;
 use uid_names::{NoMemory, ObjKind, Uid};
@@ -171,7 +168,7 @@ impl Walking {
         ensures on { IfNone result (IsOn self.new) }
     {
         match directory.find(&within.name) {
-            Some(row) => self.settle(alloc, &Some(row.at(within.dir))),
+            Some(row) => self.settle(alloc, &Some(Walked::at_row(&row, within.dir))),
             None => Some(NameResult::NoName),
         }
     }

@@ -42,6 +42,7 @@ use Rattle.std.specs.Prelude.{nat_lt, ◌++◌, slice_index_or, replicate, Resul
 use Rattle.std.proofs.lemmas.Bool.Decides.{nat_tests}
 use Rattle.std.proofs.lemmas.List.Elements.{All-cons}
 use Rattle.uid_names.specs.declared.limits.TheConstants.{MAX_NODES, NODE_PROCESSES}
+use Rattle.uid_names.proofs.ListLemmas.{zeros-at}
 use Rattle.object_store.specs.HomeStates.{HomeState}
 use Rattle.fault_handler.specs.Conditions.{empty_desk}
 use Rattle.page_server.specs.ServerStates.{ServerState, IsBegun, first_server}
@@ -90,11 +91,6 @@ firsts-at (suc n) (suc i) = firsts-at n i
 pub on-told : {A E T Q : Type 0} (r : Result A E) → (T → Q) → OnOk r T → OnOk r Q
 on-told (Ok x) f is = f is
 on-told (Err e) f is = tt
-
-zeros-at : (n i : ℕ) → slice_index_or {A = ℕ} (replicate n 0) i 0 ≡ 0
-zeros-at zero i = refl
-zeros-at (suc n) zero = refl
-zeros-at (suc n) (suc i) = zeros-at n i
 
 module _ {P : Type 0} (spent : P → Bool) (wants : P → Want) where
   told-first : (o : Option P) (w : Want) → w ≡ Phase → IfSome o (λ y. spent y ≡ false) → IfSome o (λ y. wants y ≡ Phase) → IsTold spent wants o w

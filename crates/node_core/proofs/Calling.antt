@@ -2,27 +2,22 @@
 use Rattle.std.proofs.Common.{◌≡◌, ◌≢◌, ℕ, true, false, Option, Some, None, is_some, refl, sym, ap, subst, ◌∙◌}
 use Rattle.std.specs.Option.{option_map}
 use Rattle.uid_names.specs.Steps.{◌>>=◌}
+use Rattle.uid_names.proofs.Somes.{found_there}
 use Rattle.dom_history.specs.declared.op.Op.{Op}
 use Rattle.dom_history.specs.declared.op.Op.TheVariants as ops
 use Rattle.dom_history.specs.declared.op.Want.{Want}
 use Rattle.dom_history.specs.declared.op.Want.TheVariants.{Do}
 use Rattle.ring_messages.specs.declared.body.Body.{Body}
-use Rattle.ring_messages.specs.Bodies.{Ask, Answer, answer_of}
+use Rattle.ring_messages.specs.Bodies.{Answer, answer_of}
 use Rattle.fault_handler.specs.declared.open_call.OpenCall.{OpenCall}
 use Rattle.fault_handler.specs.declared.open_call.OpenCall.TheVariants as calls
 use Rattle.fault_handler.specs.Desks.{DeskState, open_call_of}
 use Rattle.fault_handler.specs.PageReplies.{PageAnswer, page_answer}
 use Rattle.fault_handler.specs.LockCalls.{LockCall, LockAnswer, lock_call, lock_answer, fits_lock_call, fits_call, fits_by, answers}
 use Rattle.lock_validate.specs.Answers.{answer_at, lock_answer_of}
-use Rattle.node_runs.specs.Agreements.{IsCallOpen, IsCalling}
 use Rattle.node_runs.specs.Operations.{Said, said_to_lock, said_to_call, said_by, said_of, call_failed, failed}
 use Rattle.node_runs.proofs.Keeping.{IsDeskOp}
 use Rattle.node_core.specs.Processes.{is_new, is_list}
-
--- what is there
-pub there : {A : Type 0} (o : Option A) → is_some o ≡ true → (x : A) × (o ≡ Some x)
-there None is = absurd (cc)
-there (Some x) is = (x, refl)
 
 -- nothing is there
 map-none : {A B : Type 0} (f : A → B) (o : Option A) → is_some o ≡ false → option_map f o ≡ None
@@ -44,19 +39,6 @@ desk-one (ops.Unmap u) new list = tt
 
 pub desk-op : (want : Want) (op : Op) → is_new want ≡ false → is_list want ≡ false → want ≡ Do op → IsDeskOp op
 desk-op want op new list wants = desk-one op (subst (λ w. is_new w ≡ false) wants new) (subst (λ w. is_list w ≡ false) wants list)
-
--- its call is open at the desk
-pub call-open : (d : DeskState) (p : ℕ) (op : Op) (ask : Ask) → IsDeskOp op → IsCalling d p op ask → IsCallOpen d p op ask
-call-open d p (ops.New home kind room) ask is call = absurd is
-call-open d p (ops.List home after) ask is call = absurd is
-call-open d p (ops.Lock u m) ask is call = call
-call-open d p (ops.Unlock u) ask is call = call
-call-open d p (ops.Delete u) ask is call = call
-call-open d p (ops.Load spot count) ask is call = call
-call-open d p (ops.Store spot bytes) ask is call = call
-call-open d p (ops.Length u) ask is call = call
-call-open d p (ops.Map u) ask is call = call
-call-open d p (ops.Unmap u) ask is call = call
 
 -- the call of a lock, an unlock or a removal
 pub lock-there : (call : OpenCall) → call ≢ calls.Access → (l : LockCall) × (lock_call call ≡ Some l)
@@ -124,7 +106,7 @@ module _ (d : DeskState) (p : ℕ) (op : Op) (desk : IsDeskOp op) where
       → (answer : Answer) × (a : PageAnswer) × (answer_of body ≡ Some answer) × (page_answer d p answer ≡ Some a) × (said_of d p op body ≡ Some (Said.ToAccess a))
   said-access body fits opened =
       let answer = answer-there (answer_of body) fits in
-      let a = there (page_answer d p answer.0) (fits-as body answer.0 calls.Access fits answer.1 opened) in
+      let a = found_there (page_answer d p answer.0) (fits-as body answer.0 calls.Access fits answer.1 opened) in
       (answer.0, a.0, answer.1, a.1, said-as body answer.0 calls.Access answer.1 opened ∙ ap (option_map Said.ToAccess) a.1)
 
   -- to a lock, an unlock or a removal
@@ -133,7 +115,7 @@ module _ (d : DeskState) (p : ℕ) (op : Op) (desk : IsDeskOp op) where
   said-lock body call fits opened other =
       let answer = answer-there (answer_of body) fits in
       let l = lock-there call other in
-      let a = there (lock_answer l.0 answer.0) (sym (ap (fits_lock_call d p answer.0) l.1) ∙ fits-as body answer.0 call fits answer.1 opened) in (
+      let a = found_there (lock_answer l.0 answer.0) (sym (ap (fits_lock_call d p answer.0) l.1) ∙ fits-as body answer.0 call fits answer.1 opened) in (
         a.0,
         ap (λ c. c >>= λ x. answer_at x body) opened ∙ ap (λ c. c >>= λ x. answer_of body >>= lock_answer x) l.1 ∙ ap (λ o. o >>= lock_answer l.0) answer.1 ∙ a.1,
         said-as body answer.0 call answer.1 opened ∙ ap (said_to_lock d p answer.0) l.1 ∙ ap (option_map Said.ToLock) a.1,

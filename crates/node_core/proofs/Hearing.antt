@@ -1,9 +1,11 @@
 -- A reply to the open call of a process is taken.
 use Rattle.std.proofs.Common.{◌≡◌, ℕ, Bool, true, false, List, [], Option, Some, None, refl, sym, ap, subst, ◌∙◌}
+use Rattle.std.proofs.lemmas.Option.{same_Some}
 use Rattle.uid_names.specs.Names.{ObjectName}
 use Rattle.uid_names.specs.Steps.{◌>>=◌}
 use Rattle.uid_names.specs.declared.ids.Place.{Place}
 use Rattle.uid_names.specs.declared.lock_row.LockRow.{LockRow}
+use Rattle.uid_names.proofs.Somes.{map-some}
 use Rattle.dom_history.specs.declared.op.Op.{Op}
 use Rattle.dom_history.specs.declared.op.Op.TheVariants as ops
 use Rattle.dom_history.specs.declared.op.Reply.{Reply}
@@ -21,7 +23,6 @@ use Rattle.node_runs.specs.Outcomes.{Stepped, Stage, quiet, dropping, turned, mo
 use Rattle.node_runs.specs.Doings.{Doing, passed, stage_of, hears_said}
 use Rattle.node_runs.specs.Rooms.{moved_as_named}
 use Rattle.node_runs.specs.Steps.{stepped_as_named}
-use Rattle.node_runs.proofs.Somes.{some-is, map-some}
 use Rattle.node_runs.proofs.Forgetting.{alike-itself}
 use Rattle.node_core.specs.declared.machine.Machine.{Machine}
 use Rattle.node_core.specs.declared.turns.Done.{Done}
@@ -116,7 +117,7 @@ module _ {P G : Type 0} (spent : P → Bool) (wants : P → Want) (becomes : P �
   heard-replied new done reply dropped turns none said begun g op m number want proc s is =
       let o = λ (begun : Place). let x : BegunOp = record { op = op; begun = begun } in x in
       let n = state_of old in
-      let same = some-is _ s (subst (λ x. stepped_as_named g n (hears_said n m (o begun) x) ≡ Some s) (said op want) is) in
+      let same = same_Some _ s (subst (λ x. stepped_as_named g n (hears_said n m (o begun) x) ≡ Some s) (said op want) is) in
       subst (Led spent wants becomes old new done) same
       (subst (λ q. Led spent wants becomes old new done (dropping [] (turned g n q (o begun) (Stage.Settles m.number) (Turn.Ends reply)))) (sym proc)
       (subst (λ ds. Led spent wants becomes old new done (dropping ds (turned g n p (o begun) (Stage.Settles m.number) (Turn.Ends reply)))) none
@@ -128,7 +129,7 @@ module _ {P G : Type 0} (spent : P → Bool) (wants : P → Want) (becomes : P �
   heard-nothing done dropped within quietly none said begun g op m number want proc s is =
       let o = λ (begun : Place). let x : BegunOp = record { op = op; begun = begun } in x in
       let n = state_of old in
-      let same = some-is _ s (subst (λ x. stepped_as_named g n (hears_said n m (o begun) x) ≡ Some s) (said op want) is) in
+      let same = same_Some _ s (subst (λ x. stepped_as_named g n (hears_said n m (o begun) x) ≡ Some s) (said op want) is) in
       subst (Led spent wants becomes old old done) same
       (led-untold spent wants becomes old old done (quiet n Note.Nothing) within refl refl refl refl within.earlier (alike-itself n) (seen-silent old.procs)
       (ap (λ d. d.frame) quietly) (ap (λ d. d.effects) (quietly ∙ ap nothing none)))
@@ -151,7 +152,7 @@ module _ {P G : Type 0} (spent : P → Bool) (wants : P → Want) (becomes : P �
       → (s : Stepped) → stepped_as_named (given_of old) (state_of old) event ≡ Some s → Led spent wants becomes old old done s
   passed-led done dropped within quietly none event same s is =
       let n = state_of old in
-      subst (Led spent wants becomes old old done) (some-is (quiet n Note.Nothing) s (subst (λ e. stepped_as_named (given_of old) n e ≡ Some s) same is))
+      subst (Led spent wants becomes old old done) (same_Some (quiet n Note.Nothing) s (subst (λ e. stepped_as_named (given_of old) n e ≡ Some s) same is))
       (led-untold spent wants becomes old old done (quiet n Note.Nothing) within refl refl refl refl within.earlier (alike-itself n) (seen-silent old.procs)
       (ap (λ d. d.frame) quietly) (ap (λ d. d.effects) (quietly ∙ ap nothing none)))
 

@@ -3,8 +3,10 @@ use Rattle.std.proofs.Common.{◌≡◌, ℕ, zero, suc, ◌-◌, ◌^◌, ◌<�
 use Rattle.std.specs.Prelude.{slice_index_or, true, not, Result, Ok, Err, IfOk, OnOk}
 use Rattle.std.proofs.lemmas.List.{length-map}
 use Rattle.std.proofs.lemmas.List.Elements.{All-nil}
+use Rattle.std.proofs.lemmas.Option.{same_Some}
 use Rattle.uid_names.specs.Openings.{Start, IsStart}
 use Rattle.uid_names.specs.declared.limits.TheConstants.{MAX_PHASES}
+use Rattle.uid_names.proofs.Passed.{left-true, right-true}
 use Rattle.dom_history.specs.declared.event.What.{What}
 use Rattle.dom_history.specs.declared.event.What.TheVariants.{Begin, Go, Notice, Ready, Mark}
 use Rattle.dom_history.specs.declared.op.Reply.{Reply}
@@ -19,8 +21,6 @@ use Rattle.node_runs.specs.Incomings.{Incoming, has_program, may_happen, enabled
 use Rattle.node_runs.specs.Outcomes.{Stepped}
 use Rattle.node_runs.specs.SentFrames.{IsIncoming}
 use Rattle.node_runs.specs.Steps.{step_of}
-use Rattle.node_runs.proofs.Bools.{left-true, right-true}
-use Rattle.node_runs.proofs.Somes.{some-is}
 use Rattle.node_runs.proofs.Nodes.{Keeps, node-with}
 use Rattle.node_runs.proofs.Reaching.{step_of-keeps}
 use Rattle.node_runs.proofs.Counts.{step_of-counted}
@@ -38,7 +38,7 @@ use Rattle.node_core.proofs.Seen.{seen-silent}
 -- what is open is wanted
 wants-of : (w : Want) (opened : Option Open) (page : List ℕ) (o : OpenOp) → doing_of w opened page ≡ Some o → w ≡ Do o.began.op
 wants-of (Do op) None page o is = absurd (cc)
-wants-of (Do op) (Some x) page o is = ap (λ (y : OpenOp). Do y.began.op) (some-is (open_seen op x page) o is)
+wants-of (Do op) (Some x) page o is = ap (λ (y : OpenOp). Do y.began.op) (same_Some (open_seen op x page) o is)
 wants-of Phase opened page o is = absurd (cc)
 wants-of AllDone opened page o is = absurd (cc)
 

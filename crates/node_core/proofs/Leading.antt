@@ -31,11 +31,6 @@ use Rattle.node_core.specs.Machines.{state_of, IsAtEvent}
 use Rattle.node_core.specs.Outcomes.{LedFrom, Sent}
 use Rattle.node_core.proofs.Seen.{seen-silent, want-set_same, want-set_other, alike-set}
 
--- what holds of each thing that it may be
-pub if-some : {A : Type 0} (o : Option A) (Q : A → Type 0) → ((x : A) → o ≡ Some x → Q x) → IfSome o Q
-if-some None Q each = tt
-if-some (Some x) Q each = each x refl
-
 -- a frame with the same fields
 pub same-frame : (from sender to proc caller number other tick : ℕ) (body carried : Body) → from ≡ sender → proc ≡ caller → number ≡ other → body ≡ carried
     → ◌≡◌ {A = Message} (record { from = from; to = to; proc = proc; number = number; tick = tick; body = body }) (record { from = sender; to = to; proc = caller; number = other; tick = tick; body = carried })

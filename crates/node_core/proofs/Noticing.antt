@@ -1,9 +1,11 @@
 -- A process is told that a frame of its open call was lost or is late.
 use Rattle.std.proofs.Common.{◌≡◌, ℕ, ◌+◌, ◌-◌, ◌<◌, ◌≤◌, Bool, List, [], zero, suc, ◌∷◌, length, get_or, set, Option, Some, None, refl, sym, ap, subst, ◌∙◌}
 use Rattle.std.specs.Option.{ForSome}
+use Rattle.std.proofs.lemmas.Option.{same_Some}
 use Rattle.uid_names.specs.Names.{ObjectName, IsProcNumber}
 use Rattle.uid_names.specs.Steps.{◌>>=◌}
 use Rattle.uid_names.specs.declared.ids.Place.{Place}
+use Rattle.uid_names.proofs.Somes.{bind-some, map-some}
 use Rattle.dom_history.specs.declared.op.Op.{Op}
 use Rattle.dom_history.specs.declared.op.Reply.{Reply}
 use Rattle.dom_history.specs.declared.op.Want.{Want}
@@ -14,39 +16,56 @@ use Rattle.ring_messages.specs.Bodies.{body_of_ask}
 use Rattle.ring_messages.specs.Frames.{Message}
 use Rattle.ring_messages.specs.Ranges.{IsBody}
 use Rattle.fault_handler.specs.Accesses.{Accessed}
-use Rattle.node_runs.specs.NodeStates.{Asked, Await, BegunOp, OpenOp, proc_of, with_proc}
+use Rattle.node_runs.specs.NodeStates.{Asked, Await, BegunOp, OpenOp, ProcState, proc_of, with_proc}
 use Rattle.node_runs.specs.Notes.{Note}
 use Rattle.node_runs.specs.Operations.{failed}
 use Rattle.node_runs.specs.Outcomes.{Stepped, Stage, request, moved}
 use Rattle.node_runs.specs.Doings.{noticed_call, resends, gives_up, notices_as, notices}
 use Rattle.node_runs.specs.Dones.{asking}
 use Rattle.node_runs.specs.Steps.{stepped_as_named}
-use Rattle.node_runs.proofs.Somes.{some-is, map-some, bind-some}
 use Rattle.node_core.specs.declared.machine.Machine.{Machine}
 use Rattle.node_core.specs.declared.processes.Again.{Again}
 use Rattle.node_core.specs.declared.processes.Proc.{Proc}
 use Rattle.node_core.specs.declared.turns.Done.{Done}
-use Rattle.node_core.specs.Processes.{IsAnswer, IsCalling, IsAgain, again_sent, proc_seen, want_at}
+use Rattle.node_core.specs.Processes.{IsAnswer, IsCalling, IsAgain, IsGivenUp, again_sent, proc_seen, want_at}
 use Rattle.node_core.specs.Machines.{given_of, state_of, IsBefore}
 use Rattle.node_core.specs.Outcomes.{Sent, Led, Moves}
 use Rattle.node_core.proofs.Seen.{put-seen, wants-kept}
 use Rattle.node_core.proofs.Leading.{led-sent, same-frame}
-use Rattle.node_core.proofs.Opening.{wanted-open, call-stands}
+use Rattle.node_core.proofs.Opening.{seen-here, wanted-open, call-stands}
 
 -- the call that is open
 answer-there : (o : BegunOp) (a : Await) → IsAnswer a → (c : Asked) × (◌≡◌ {A = Option OpenOp} (Some (record { began = o; awaits = a })) (asking o c))
 answer-there o (Await.Answer c) is = (c, refl)
 answer-there o (Await.Page u k) is = absurd is
 
-pub calling-there : (d : Option OpenOp) → IsCalling d → (o : BegunOp) × (c : Asked) × (d ≡ asking o c)
+calling-there : (d : Option OpenOp) → IsCalling d → (o : BegunOp) × (c : Asked) × (d ≡ asking o c)
 calling-there None is = absurd is
 calling-there (Some x) is = let found = answer-there x.began x.awaits is in (x.began, found.0, found.1)
 
 -- what stood there is put there
-pub set-same : (qs : List Proc) (i : ℕ) (d : Proc) → set qs i (get_or qs i d) ≡ qs
+set-same : (qs : List Proc) (i : ℕ) (d : Proc) → set qs i (get_or qs i d) ≡ qs
 set-same [] i d = refl
 set-same (q ∷ qs) zero d = refl
 set-same (q ∷ qs) (suc i) d = ap (λ xs. q ∷ xs) (set-same qs i d)
+
+-- the open call of a process, as its node's state has it and as it is kept at its place
+pub record CallAt {P G : Type 0} (old : Machine P G) (p i : ℕ) (d : Proc) : Type 0 where
+  pub began : BegunOp
+  pub call : Asked
+  pub doing : (proc_of (state_of old) p).doing ≡ asking began call
+  pub kept : (proc_seen (get_or old.procs i d)).doing ≡ asking began call
+
+pub call-at : {P G : Type 0} (spent : P → Bool) (wants : P → Want) (old : Machine P G) → IsBefore spent wants old → (p i : ℕ) (d : Proc) → i < 4 → i ≡ p - 1
+    → IsCalling (proc_of (state_of old) p).doing → CallAt old p i d
+call-at spent wants old before p i d bound at_p calling =
+    let found = calling-there (proc_of (state_of old) p).doing calling in
+    let here = ap (λ (x : ProcState). x.doing) (seen-here old.procs i p (get_or old.procs i d) d before.within.four bound at_p refl) in
+    record { began = found.0; call = found.1; doing = found.2; kept = sym here ∙ found.2 }
+
+-- where it is given up, the process is the same
+pub given-up-same : {P G : Type 0} (old : Machine P G) (p i : ℕ) (d q : Proc) → CallAt old p i d → IsGivenUp (get_or old.procs i d) q → set old.procs i q ≡ old.procs
+given-up-same old p i d q it given = ap (set old.procs i) (given it.began it.call it.kept).1 ∙ set-same old.procs i d
 
 module _ {P G : Type 0} (spent : P → Bool) (wants : P → Want) (becomes : P → Option Reply → P) (old : Machine P G) (before : IsBefore spent wants old)
     (p : ℕ) (proc : IsProcNumber p) (o : BegunOp) (c : Asked) (doing : (proc_of (state_of old) p).doing ≡ asking o c) where
@@ -81,7 +100,7 @@ module _ {P G : Type 0} (spent : P → Bool) (wants : P → Want) (becomes : P �
       same-frame old.desk.node old.desk.node again.home p p again.number c.waiting.number old.tick again.body (body_of_ask c.ask) refl refl is.number is.body
       ∙ ap (λ h. let m : Message = record { from = old.desk.node; to = h; proc = p; number = c.waiting.number; tick = old.tick; body = body_of_ask c.ask } in m) is.home in
       let event : (notices g n p (proc_of n p).doing >>= stepped_as_named g n) ≡ Some (resends g n p o (noticed_call c)) = ap (λ e. e >>= stepped_as_named g n) (notices-as Noticed.Resend answer) in
-      subst (Led spent wants becomes old new done) (some-is (resends g n p o (noticed_call c)) s (sym event ∙ comes))
+      subst (Led spent wants becomes old new done) (same_Some (resends g n p o (noticed_call c)) s (sym event ∙ comes))
       (led-sent spent wants becomes old new (set old.procs i x) done (again_sent old.desk.node p old.tick again) (request g n p (noticed_call c))
       (with_proc n p (record (proc_of n p) { doing = asking o (noticed_call c) })) [] None Note.Nothing before.within (wants-kept old.procs i d x same)
       (ap (λ ps. record n { procs = ps }) put) frame sent)
@@ -96,5 +115,5 @@ module _ {P G : Type 0} (spent : P → Bool) (wants : P → Want) (becomes : P �
       let there = bind-some (notices g n p (proc_of n p).doing) (stepped_as_named g n) s comes in
       let found = map-some (gives_up n p o c.waiting.number) (failed n.desk p o.op) there.0 (sym (notices-as Noticed.GiveUp answer) ∙ there.1) in
       let stepped : stepped_as_named g n (gives_up n p o c.waiting.number found.0) ≡ Some s = subst (λ e. stepped_as_named g n e ≡ Some s) found.2 there.2 in
-      subst (Led spent wants becomes old new done) (some-is (moved g n p o (Stage.Settles c.waiting.number) found.0) s stepped)
+      subst (Led spent wants becomes old new done) (same_Some (moved g n p o (Stage.Settles c.waiting.number) found.0) s stepped)
       (moves o.begun o.op wanted-notice found.0 found.1 g o.op (Stage.Settles c.waiting.number) refl wanted-notice found.0 refl)

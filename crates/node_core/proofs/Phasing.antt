@@ -6,11 +6,8 @@ use Rattle.node_runs.specs.NodeStates.{NodeState}
 use Rattle.node_runs.specs.Doings.{node_numbers, others_marked, in_next_phase, after_marks}
 use Rattle.node_runs.specs.Alikes.{AreAlike}
 use Rattle.node_runs.proofs.AlikeProcs.{all-same}
+use Rattle.node_runs.proofs.Ticks.{next-procs}
 use Rattle.node_core.specs.Marks.{is_taken}
-
-next-procs : (b : Bool) (n : NodeState) → (in_next_phase b n).procs ≡ n.procs
-next-procs true n = refl
-next-procs false n = refl
 
 -- no process changes
 pub after-procs : (g : Given) (n : NodeState) → (after_marks g n).procs ≡ n.procs

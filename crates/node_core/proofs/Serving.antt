@@ -1,6 +1,7 @@
 -- A frame is taken that asks this node's home.
-use Rattle.std.proofs.Common.{◌≡◌, ℕ, ◌≤◌, Bool, List, [], Option, Some, None, IsSome, refl, sym, ap, subst, ◌∙◌, arith}
+use Rattle.std.proofs.Common.{◌≡◌, ℕ, ◌≤◌, Bool, List, [], Option, Some, None, refl, sym, ap, subst, ◌∙◌, arith}
 use Rattle.std.specs.Option.{option_map}
+use Rattle.std.proofs.lemmas.Option.{same_Some}
 use Rattle.uid_names.specs.Names.{ObjectName}
 use Rattle.dom_history.specs.declared.op.Reply.{Reply}
 use Rattle.dom_history.specs.declared.op.Want.{Want}
@@ -16,7 +17,6 @@ use Rattle.node_runs.specs.Outcomes.{Stepped, quiet, sending, dropping}
 use Rattle.node_runs.specs.Doings.{served_note, replies, serves, takes}
 use Rattle.node_runs.specs.Steps.{stepped_as_named}
 use Rattle.node_runs.specs.Alikes.{AreAlike}
-use Rattle.node_runs.proofs.Somes.{some-is}
 use Rattle.node_runs.proofs.Forgetting.{alike-itself}
 use Rattle.node_core.specs.declared.machine.Machine.{Machine}
 use Rattle.node_core.specs.declared.turns.Done.{Done}
@@ -24,11 +24,6 @@ use Rattle.node_core.specs.Machines.{given_of, state_of, IsAtEvent}
 use Rattle.node_core.specs.Outcomes.{Sent, Led}
 use Rattle.node_core.proofs.Seen.{seen-silent}
 use Rattle.node_core.proofs.Untold.{led-untold}
-
--- what is there
-pub there : {A : Type 0} (o : Option A) → IsSome o → (x : A) × (o ≡ Some x)
-there None is = absurd (cc)
-there (Some x) is = (x, refl)
 
 module _ {P G : Type 0} (spent : P → Bool) (wants : P → Want) (becomes : P → Option Reply → P) (old : Machine P G) (server : ServerState) (m : Message) (ask : Ask)
     (within : IsAtEvent spent wants old) (asks : ask_of m.body ≡ Some ask) (side : server.side ≡ (serve_frame old.server.side m).side) (tick : server.tick ≡ old.tick) where
@@ -62,7 +57,7 @@ module _ {P G : Type 0} (spent : P → Bool) (wants : P → Want) (becomes : P �
       → Sent served new done reply dropped → dropped ≡ [] → Some reply ≡ option_map (reply_to m old.tick) a → Led spent wants becomes old new done (replies node m ask how a)
   replied-led how new done reply dropped None sent none is = absurd (cc)
   replied-led how new done reply dropped (Some answer) sent none is =
-      sent-led new done reply dropped answer (served_note how (caller_of m) m.number ask answer) sent none (some-is reply (reply_to m old.tick answer) is)
+      sent-led new done reply dropped answer (served_note how (caller_of m) m.number ask answer) sent none (same_Some reply (reply_to m old.tick answer) is)
 
   passed-led : (how : Looked) (done : Done) (a : Option Answer) → done ≡ record { frame = None; effects = record { dropped = []; sent = None; ended = None } } → None ≡ option_map (reply_to m old.tick) a
       → Led spent wants becomes old served done (replies node m ask how a)
@@ -75,7 +70,7 @@ module _ {P G : Type 0} (spent : P → Bool) (wants : P → Want) (becomes : P �
   answered-as = ap (λ a. (serve_asked old.server.side (caller_of m) m.number a).answer) asks
 
   this : (s : Stepped) → stepped_as_named (given_of old) (state_of old) (takes (state_of old) m (ask_of m.body)) ≡ Some s → serves (state_of old) m ask ≡ s
-  this s is = some-is (serves (state_of old) m ask) s (subst (λ a. stepped_as_named (given_of old) (state_of old) (takes (state_of old) m a) ≡ Some s) asks is)
+  this s is = same_Some (serves (state_of old) m ask) s (subst (λ a. stepped_as_named (given_of old) (state_of old) (takes (state_of old) m a) ≡ Some s) asks is)
 
   pub serves-sent : (new : Machine P G) (done : Done) (reply : Message) (dropped : List (ObjectName × ℕ)) (s : Stepped)
       → Sent served new done reply dropped → dropped ≡ [] → Some reply ≡ option_map (reply_to m old.tick) (serve_frame old.server.side m).answer

@@ -1,5 +1,5 @@
 -- An event of a node is an event of each state that it stands for.
-use Rattle.std.proofs.Common.{◌≡◌, ℕ, Bool, true, false, List, [], ◌∷◌, ◌++◌, Option, Some, None, is_some, refl, sym, ap, subst, ◌∙◌}
+use Rattle.std.proofs.Common.{◌≡◌, ℕ, Bool, true, false, List, [], ◌∷◌, ◌++◌, Option, Some, None, IfSome, is_some, refl, sym, ap, subst, ◌∙◌}
 use Rattle.std.specs.Prelude.{◌==◌}
 use Rattle.std.specs.List.{list_any}
 use Rattle.std.specs.Option.{option_map}
@@ -7,6 +7,7 @@ use Rattle.std.proofs.lemmas.List.{append-nil}
 use Rattle.uid_names.specs.Names.{IsProcNumber}
 use Rattle.uid_names.specs.declared.ids.Place.{Place}
 use Rattle.uid_names.proofs.ListLemmas.{by_cases}
+use Rattle.uid_names.proofs.Somes.{found_there, map-there}
 use Rattle.dom_history.specs.declared.event.What.{What}
 use Rattle.dom_history.specs.declared.op.Reply.{Reply}
 use Rattle.dom_history.specs.declared.op.Want.{Want}
@@ -28,7 +29,7 @@ use Rattle.node_runs.proofs.SettingUp.{given-procs}
 use Rattle.node_runs.proofs.Forgetting.{alike-on}
 use Rattle.node_core.specs.Processes.{want_at}
 use Rattle.node_core.specs.Programs.{program_in, numbers_in, told_all}
-use Rattle.node_core.specs.Nodes.{Noted, IsTold, IsKept, line_of, given_of, state_of, Stands, Happened}
+use Rattle.node_core.specs.Nodes.{Inner, Noted, given_in, IsTold, IsKept, line_of, given_of, state_of, Stands, Happened}
 use Rattle.node_core.specs.Machines as machine
 use Rattle.node_core.specs.Machines.{inner_of}
 use Rattle.node_core.specs.Outcomes.{Led}
@@ -39,6 +40,16 @@ use Rattle.node_core.specs.declared.turns.Done.{Done}
 use Rattle.node_core.proofs.Keeping.{same-number, same-nodes, same-frames}
 use Rattle.node_core.proofs.FirstPrograms.{has-program}
 use Rattle.node_core.proofs.Seen.{seen-silent}
+
+-- the program of a process lives
+pub program-lives : {P : Type 0} (spent : P → Bool) (wants : P → Want) (x : Inner P) → IsKept spent wants x → (p : ℕ) → IfSome (program_in x.programs p) (λ y. spent y ≡ false)
+program-lives {P = P} spent wants x kept p = by (program_in x.programs p) refl
+  where
+    by : (o : Option P) → program_in x.programs p ≡ o → IfSome o (λ y. spent y ≡ false)
+    by None is = tt
+    by (Some y) is =
+        let proc = given-procs (given_in x) kept.given.programs p (has-program x.programs p ∙ ap (λ (o : Option P). is_some o) is) in
+        (subst (λ (o : Option P). IsTold spent wants o (want_at x.procs p)) is (kept.told p proc)).0
 
 module _ {P : Type 0} (becomes : P → Option Reply → P) where
   -- what was told after the rest
@@ -60,18 +71,9 @@ module _ {P : Type 0} (becomes : P → Option Reply → P) where
           is ∙ ap (option_map (λ x. told_all becomes x first)) old ∙ ap (λ hs. Some (told_all becomes (program_after becomes y heard) hs)) same
           ∙ sym (ap (λ x. Some x) (ap (program_after becomes y) there ∙ after-told y told heard))
 
--- what an option holds
-there : {A : Type 0} (o : Option A) → is_some o ≡ true → (x : A) × (o ≡ Some x)
-there None is = absurd (cc)
-there (Some x) is = (x, refl)
-
 nothing : {A : Type 0} (o : Option A) → is_some o ≡ false → o ≡ None
 nothing None is = refl
 nothing (Some x) is = absurd (cc)
-
-map-there : {A B : Type 0} (f : A → B) (o : Option A) → is_some (option_map f o) ≡ is_some o
-map-there f None = refl
-map-there f (Some x) = refl
 
 module _ {P : Type 0} (spent : P → Bool) (wants : P → Want) (becomes : P → Option Reply → P) (made : ℕ → Option P) (g : Given) (x : Noted P) (n : NodeState)
     (stands : Stands wants becomes made g x n) (kept : IsKept spent wants x.inner) where
@@ -85,7 +87,7 @@ module _ {P : Type 0} (spent : P → Bool) (wants : P → Want) (becomes : P →
 
   same-asks : (p : ℕ) → has_program (given_of x) p ≡ true → want_at x.inner.procs p ≡ g.asks p (proc_of n p).heard
   same-asks p has =
-      let y = there (made p) (sym (stands.programs p) ∙ (sym (same-programs p) ∙ has)) in
+      let y = found_there (made p) (sym (stands.programs p) ∙ (sym (same-programs p) ∙ has)) in
       let now : program_in x.inner.programs p ≡ Some (program_after becomes y.0 (proc_of n p).heard) = stands.told p ∙ ap (option_map (λ z. program_after becomes z (proc_of n p).heard)) y.1 in
       sym (told-wants (program_in x.inner.programs p) (want_at x.inner.procs p) (program_after becomes y.0 (proc_of n p).heard) (kept.told p (given-procs (given_of x) kept.given.programs p has)) now)
       ∙ sym (stands.asks p y.0 y.1 (proc_of n p).heard)
@@ -162,9 +164,9 @@ module _ {P G : Type 0} (spent : P → Bool) (wants : P → Want) (becomes : P �
     line-is : (t : Stepped) → AreAlikeSteps (machine.state_of m) n s t → ◌≡◌ {A = Happening} (record { place = place; what = what; effects = done.effects }) (line_of g.number what t)
     line-is t steps =
         let line = λ (p : Place) (e : Effects). let h : Happening = record { place = p; what = what; effects = e } in h in
-        let there = λ (tick node : ℕ). let p : Place = record { tick = tick; node = node } in p in
-        ap (λ p. line p done.effects) (at_place ∙ ap (λ k. there k new.desk.node) (led.alike.tick ∙ steps.node.tick) ∙ ap (there t.node.tick) (number ∙ sym stands.number))
-        ∙ ap (line (there t.node.tick g.number)) (led.effects ∙ steps.effects)
+        let at = λ (tick node : ℕ). let p : Place = record { tick = tick; node = node } in p in
+        ap (λ p. line p done.effects) (at_place ∙ ap (λ k. at k new.desk.node) (led.alike.tick ∙ steps.node.tick) ∙ ap (at t.node.tick) (number ∙ sym stands.number))
+        ∙ ap (line (at t.node.tick g.number)) (led.effects ∙ steps.effects)
 
     emits-is : (t : Stepped) → AreAlikeSteps (machine.state_of m) n s t → emitted ≡ emitted_by what t
     emits-is t steps =

@@ -1,6 +1,7 @@
 -- What is known of an operation by what its desk says.
 use Rattle.std.proofs.Common.{◌≡◌, ℕ, Bool, Option, Some, None, IsSome, IfSome, refl, sym, ap, subst, ◌∙◌}
 use Rattle.std.specs.Option.{option_map, ForSome}
+use Rattle.std.proofs.lemmas.Option.{same_Some}
 use Rattle.dom_history.specs.declared.op.Op.{Op}
 use Rattle.dom_history.specs.declared.op.Reply.{Reply}
 use Rattle.dom_history.specs.declared.op.Want.{Want}
@@ -46,19 +47,11 @@ wanted-op Done is = absurd is
 pub do-same : (w : Want) (a b : Op) → w ≡ Do a → w ≡ Do b → a ≡ b
 do-same w a b is as_well = cc
 
--- what is there
-pub some-there : {A : Type 0} (o : Option A) → IsSome o → (x : A) × (o ≡ Some x)
-some-there None is = absurd (cc)
-some-there (Some x) is = (x, refl)
-
 -- a reply that fits it may be told
 pub fits-wanted : (w : Want) (reply : Reply) → IsWanted w → ((op : Op) → w ≡ Do op → Fits op reply) → FitsWant w (Some reply)
 fits-wanted (Do op) reply is fits = fits op refl
 fits-wanted Phase reply is fits = absurd is
 fits-wanted Done reply is fits = absurd is
-
-some-is : {A : Type 0} (x y : A) → Some x ≡ Some y → x ≡ y
-some-is x y e = cc
 
 -- a step that is an outcome's tells it
 pub step-seen : (desk : DeskState) (m : Moved) (step : Step) → Gives as_step desk m step → seen_step step ≡ Some (record { turn = m.turn; dropped = m.dropped })
@@ -74,11 +67,11 @@ begun-desk opening d p (ops.List home after) o is = absurd (cc)
 begun-desk opening d p (ops.Lock u m) o is = absurd (cc)
 begun-desk opening d p (ops.Unlock u) o is = absurd (cc)
 begun-desk opening d p (ops.Delete u) o is = absurd (cc)
-begun-desk opening d p (ops.Load spot count) o is = ap (access_of d p) (some-is (DeskOp.Loads spot count) o is)
-begun-desk opening d p (ops.Store spot bytes) o is = ap (access_of d p) (some-is (DeskOp.Stores spot bytes) o is)
-begun-desk opening d p (ops.Length u) o is = ap (access_of d p) (some-is (DeskOp.Measures u) o is)
-begun-desk opening d p (ops.Map u) o is = ap (access_of d p) (some-is (DeskOp.Maps u) o is)
-begun-desk opening d p (ops.Unmap u) o is = ap (access_of d p) (some-is (DeskOp.Unmaps u) o is)
+begun-desk opening d p (ops.Load spot count) o is = ap (access_of d p) (same_Some (DeskOp.Loads spot count) o is)
+begun-desk opening d p (ops.Store spot bytes) o is = ap (access_of d p) (same_Some (DeskOp.Stores spot bytes) o is)
+begun-desk opening d p (ops.Length u) o is = ap (access_of d p) (same_Some (DeskOp.Measures u) o is)
+begun-desk opening d p (ops.Map u) o is = ap (access_of d p) (same_Some (DeskOp.Maps u) o is)
+begun-desk opening d p (ops.Unmap u) o is = ap (access_of d p) (same_Some (DeskOp.Unmaps u) o is)
 
 -- what an access comes to is seen
 pub comes-seen : (d : DeskState) (p : ℕ) (op : Op) (desk : DeskState) (accessed : Accessed) (access : Access) → Holds p (IsMoved d p op) accessed → Comes p (λ m. Gives as_access desk m access) accessed → IsSome (seen_access access)
@@ -89,14 +82,14 @@ comes-seen d p op desk accessed access holds comes =
 -- what holds of each thing that is made of what is there
 pub for-mapped : {A B : Type 0} (o : Option A) (f : A → B) (Q : B → Type 0) → ForSome o (λ x. Q (f x)) → ForSome (option_map f o) Q
 for-mapped None f Q each y is = absurd (cc)
-for-mapped (Some x) f Q each y is = subst Q (some-is (f x) y is) (each x refl)
+for-mapped (Some x) f Q each y is = subst Q (same_Some (f x) y is) (each x refl)
 
 -- what goes on after a wait begins anew
 pub gone-begun : (opening : Start) (d : DeskState) (p : ℕ) (op : Op) (a : Accessed) → gone_on d p op ≡ Some a → begun opening d p op ≡ a
-gone-begun opening d p (ops.Load spot count) a is = some-is (access_of d p (DeskOp.Loads spot count)) a is
-gone-begun opening d p (ops.Store spot bytes) a is = some-is (access_of d p (DeskOp.Stores spot bytes)) a is
-gone-begun opening d p (ops.Unlock u) a is = some-is (Accessed.Settled (begin_unlock_of d p u)) a is
-gone-begun opening d p (ops.Delete u) a is = some-is (Accessed.Settled (begin_delete_of d p u)) a is
+gone-begun opening d p (ops.Load spot count) a is = same_Some (access_of d p (DeskOp.Loads spot count)) a is
+gone-begun opening d p (ops.Store spot bytes) a is = same_Some (access_of d p (DeskOp.Stores spot bytes)) a is
+gone-begun opening d p (ops.Unlock u) a is = same_Some (Accessed.Settled (begin_unlock_of d p u)) a is
+gone-begun opening d p (ops.Delete u) a is = same_Some (Accessed.Settled (begin_delete_of d p u)) a is
 gone-begun opening d p (ops.New home kind room) a is = absurd (cc)
 gone-begun opening d p (ops.List home after) a is = absurd (cc)
 gone-begun opening d p (ops.Lock u m) a is = absurd (cc)
@@ -117,7 +110,7 @@ module _ {P G : Type 0} (spent : P → Bool) (wants : P → Want) (becomes : P �
   pub moves-settled : (old new : Machine P G) (done : code.Done) (p : ℕ) (begun : Place) (desk : DeskState) (m : Moved) → desk ≡ m.desk → desk.node ≡ old.desk.node
       → Turns spent wants becomes (record old { desk = desk }) new done p begun m.turn m.dropped → Moves spent wants becomes old new done p begun (Accessed.Settled m)
   moves-settled old new done p begun desk m same node turns g op stage number wanted x is =
-      subst (λ (y : Moved). Led spent wants becomes old new done (moved g (state_of old) p (record { op = op; begun = begun }) stage y)) (some-is m x is)
+      subst (λ (y : Moved). Led spent wants becomes old new done (moved g (state_of old) p (record { op = op; begun = begun }) stage y)) (same_Some m x is)
       (moves-as old new done p begun desk m same node turns g op stage number wanted)
 
   -- a step of the desk is what it says
@@ -143,7 +136,7 @@ module _ {P G : Type 0} (spent : P → Bool) (wants : P → Want) (becomes : P �
       by_victim d task (Some victim) gives g op stage number wanted x is =
           let m = room_made d p task victim in
           let gave = gives victim refl in
-          subst (λ (y : Moved). Led spent wants becomes old new done (moved g (state_of old) p (record { op = op; begun = begun }) stage y)) (some-is m x is)
+          subst (λ (y : Moved). Led spent wants becomes old new done (moved g (state_of old) p (record { op = op; begun = begun }) stage y)) (same_Some m x is)
           (moves-as old new done p begun desk m gave.0 node (turned_as m gave) g op stage number wanted)
 
       by_way : (a : Accessed) → Comes p (λ m. Gives as_access desk m access) a → Moves spent wants becomes old new done p begun a

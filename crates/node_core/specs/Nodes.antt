@@ -151,6 +151,12 @@ module _ {P : Type 0} where
     pub events : new.log.events ≡ old.log.events ++ line_of g.number what s ∷ []
     pub node : new.log.node ≡ old.log.node
 
+  -- the event that a call did, whatever the node stood for
+  abbrev pub Does : (P → Want) → (P → Option Reply → P) → What → Incoming → Noted P → Noted P → Emitted → Type 0
+  Does wants becomes what incoming old new emitted =
+      (made : ℕ → Option P) (g : Given) (n : NodeState) → Stands wants becomes made g old n →
+      (s : Stepped) × Happened wants becomes made g what incoming old new emitted n s
+
   -- a node was given this
   pub record IsGivenBy (wants : P → Want) (becomes : P → Option Reply → P) (setup : NodeSetup) (start : Start) (made : List (ℕ × P)) (g : Given) : Type 0 where
     pub number : g.number ≡ setup.node

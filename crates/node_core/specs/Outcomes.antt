@@ -14,11 +14,11 @@ use Rattle.ring_messages.specs.Frames.{Message}
 use Rattle.fault_handler.specs.Outcomes.{Turn}
 use Rattle.fault_handler.specs.Accesses.{Accessed}
 use Rattle.node_runs.specs.Setups.{Given}
-use Rattle.node_runs.specs.NodeStates.{proc_of, with_proc}
+use Rattle.node_runs.specs.NodeStates.{NodeState, proc_of, with_proc}
 use Rattle.node_runs.specs.Notes.{Note}
-use Rattle.node_runs.specs.Outcomes.{Stepped, Stage, sending, dropping, turned, moved}
-use Rattle.node_runs.specs.Doings.{Doing, hears_said}
-use Rattle.node_runs.specs.Operations.{said_of}
+use Rattle.node_runs.specs.Outcomes.{Stepped, Stage, sending, quiet, dropping, turned, moved}
+use Rattle.node_runs.specs.Doings.{Doing, after_marks, hears_said}
+use Rattle.node_runs.specs.Operations.{begun as begun_as, failed as failed_as, said_of}
 use Rattle.node_runs.specs.Rooms.{moved_as_named}
 use Rattle.node_runs.specs.Steps.{stepped_as_named}
 use Rattle.node_runs.specs.Alikes.{AreAlike}
@@ -106,3 +106,16 @@ module _ {P G : Type 0} (spent : P → Bool) (wants : P → Want) (becomes : P �
   -- it did what the definition has
   abbrev pub Does : Machine P G → Machine P G → Done → Option Doing → Type 0
   Does old new done doing = ForSome (doing >>= stepped_as_named (given_of old) (state_of old)) (λ s. Led old new done s)
+
+  -- the operation that a process wants began there, as the definition has it
+  abbrev pub Begins : Machine P G → Machine P G → Done → ℕ → Place → Type 0
+  Begins old new done p begun = (op : Op) → want_at old.procs p ≡ Do op → Moves old new done p begun (begun_as (given_of old).opening old.desk p op)
+
+  -- its open call was given up, as the definition has it
+  abbrev pub GivesUp : Machine P G → Machine P G → Done → ℕ → Type 0
+  GivesUp old new done p =
+      (begun : Place) (op : Op) → want_at old.procs p ≡ Do op → ForSome (failed_as old.desk p op) (λ m. Moves old new done p begun (Accessed.Settled m))
+
+  -- with this state a mark was sent or taken, and the phase was over if that was the last one
+  abbrev pub PassesPhase : Machine P G → Machine P G → Done → NodeState → Type 0
+  PassesPhase old new done n = Does old new done (Some (Doing.Does (quiet (after_marks (given_of old) n) Note.Nothing)))

@@ -1,15 +1,20 @@
 -- What definitions see of a process that a node keeps.
-use Rattle.std.specs.Prelude.{◌≡◌, ℕ, Bool, true, false, List, [], Option, Some, None, map}
+use Rattle.std.specs.Prelude.{◌≡◌, ℕ, ◌+◌, Bool, true, false, List, [], Option, Some, None, map}
 use Rattle.std.specs.Option.{option_map}
+use Rattle.uid_names.specs.declared.ids.Place.{Place}
 use Rattle.dom_history.specs.declared.op.Op.{Op}
 use Rattle.dom_history.specs.declared.op.Op.TheVariants as ops
 use Rattle.dom_history.specs.declared.op.Want.{Want}
 use Rattle.dom_history.specs.declared.op.Want.TheVariants.{Do, Phase, Done}
 use Rattle.dom_history.specs.Ranges.{IsOp}
-use Rattle.ring_messages.specs.Bodies.{body_of_ask}
+use Rattle.call_once.specs.Notices.{noticed}
+use Rattle.call_once.specs.declared.asking.Noticed.{Noticed}
+use Rattle.ring_messages.specs.Bodies.{Ask, body_of_ask}
 use Rattle.ring_messages.specs.Frames.{Message}
 use Rattle.fault_handler.specs.Desks.{at}
-use Rattle.node_runs.specs.NodeStates.{Asked, Await, OpenOp, ProcState}
+use Rattle.node_runs.specs.NodeStates.{Asked, Await, BegunOp, OpenOp, ProcState}
+use Rattle.node_runs.specs.Outcomes.{next_call}
+use Rattle.node_runs.specs.Doings.{noticed_call}
 use Rattle.node_core.specs.declared.processes.Call.{Call}
 use Rattle.node_core.specs.declared.processes.Await as kept
 use Rattle.node_core.specs.declared.processes.Await.TheVariants as awaits
@@ -78,6 +83,35 @@ pub record IsAgain (c : Asked) (again : Again) : Type 0 where
   pub home : again.home ≡ c.home
   pub number : again.number ≡ c.waiting.number
   pub body : again.body ≡ body_of_ask c.ask
+
+-- an operation is open that began there, and awaits this
+abbrev pub with_open : ProcState → Op → Place → Await → ProcState
+with_open q op begun awaits = record q { doing = Some (record { began = record { op = op; begun = begun }; awaits = awaits }) }
+
+-- it awaits the answer to this call, which has one notice more
+abbrev pub with_notice : Proc → Op → Place → Call → ProcState
+with_notice q op begun c = with_open (proc_seen q) op begun (Await.Answer (noticed_call (call_seen c q.page.value)))
+
+-- it makes its next call
+abbrev pub with_call : ProcState → Op → Place → ℕ → Ask → ProcState
+with_call q op begun home ask =
+    record q {
+      doing = Some (record { began = record { op = op; begun = begun }; awaits = Await.Answer (next_call q home ask) });
+      last = q.last + 1;
+    }
+
+-- its open call has one notice more, and its request is to be sent again
+abbrev pub IsResent : Proc → Proc → Again → Type 0
+IsResent old new again =
+    (o : BegunOp) (c : Asked) → (proc_seen old).doing ≡ Some (record { began = o; awaits = Await.Answer c })
+    → IsAgain c again × (noticed (c.waiting.notices + 1) ≡ Noticed.Resend)
+    × (proc_seen new ≡ record (proc_seen old) { doing = Some (record { began = o; awaits = Await.Answer (noticed_call c) }) })
+
+-- its open call has its last notice, and is to be given up
+abbrev pub IsGivenUp : Proc → Proc → Type 0
+IsGivenUp old new =
+    (o : BegunOp) (c : Asked) → (proc_seen old).doing ≡ Some (record { began = o; awaits = Await.Answer c })
+    → (noticed (c.waiting.notices + 1) ≡ Noticed.GiveUp) × (new ≡ old)
 
 -- the frame that it is sent in
 abbrev pub again_sent : ℕ → ℕ → ℕ → Again → Message

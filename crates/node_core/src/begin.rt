@@ -52,7 +52,7 @@ fn access(alloc: Global, desk: &mut Desk, proc: ProcId, want: &Want) -> Result<A
     }
 }
 
-/// The same, with what all processes want.
+/// What the desk makes of the access that a process wants, where all processes' own is given.
 fn access_wanted(
     alloc: Global,
     desk: &mut Desk,
@@ -77,7 +77,7 @@ fn access_wanted(
 
 impl<P: Program, G: Pages> Machine<P, G> {
     ghost use Rattle.node_core.specs.Machines.{given_of, state_of, IsAtEvent, IsBefore};
-    ghost use Rattle.node_core.specs.Outcomes.{IsFresh, Moves, Does};
+    ghost use Rattle.node_core.specs.Outcomes.{IsFresh, Moves, Begins, Does};
 
     /// A process begins what its program wants, or is at the end of its phase or of all.
     pub(crate) fn begin(
@@ -166,8 +166,7 @@ impl<P: Program, G: Pages> Machine<P, G> {
         requires wanted { IsWanted (want_at self.old.procs proc.number) }
         requires desk { IsDesk self.old.desk }
         requires idle { IsIdle self.old.desk proc.number }
-        ensures { OnOk result ((op : Op) → want_at self.old.procs proc.number ≡ Do op →
-            Moves P.spent P.wants P.becomes self.old self.new done.new proc.number begun (begun_as (given_of self.old).opening self.old.desk proc.number op)) }
+        ensures { OnOk result (Begins P.spent P.wants P.becomes self.old self.new done.new proc.number begun) }
     {
         match &self.procs[index_of(proc)].want {
             Want::Do(Op::New { home, kind, room }) => {
@@ -225,8 +224,7 @@ impl<P: Program, G: Pages> Machine<P, G> {
         requires program { IsSome (program_in self.old.programs.items proc.number) }
         requires wanted { want_at self.old.procs proc.number ≡ Do (New home kind room) }
         requires room { IsRoom room }
-        ensures { OnOk result ((op : Op) → want_at self.old.procs proc.number ≡ Do op →
-            Moves P.spent P.wants P.becomes self.old self.new done.new proc.number begun (begun_as (given_of self.old).opening self.old.desk proc.number op)) }
+        ensures { OnOk result (Begins P.spent P.wants P.becomes self.old self.new done.new proc.number begun) }
     {
         if self.may_make(home, room) {
             let body = Body::Make { kind, room };
@@ -250,8 +248,7 @@ impl<P: Program, G: Pages> Machine<P, G> {
         requires at { IsAtEvent P.spent P.wants self.old }
         requires program { IsSome (program_in self.old.programs.items proc.number) }
         requires wanted { want_at self.old.procs proc.number ≡ Do (ListOp home after) }
-        ensures { OnOk result ((op : Op) → want_at self.old.procs proc.number ≡ Do op →
-            Moves P.spent P.wants P.becomes self.old self.new done.new proc.number begun (begun_as (given_of self.old).opening self.old.desk proc.number op)) }
+        ensures { OnOk result (Begins P.spent P.wants P.becomes self.old self.new done.new proc.number begun) }
     {
         if self.is_node(home) {
             let body = Body::List { after };
@@ -281,8 +278,7 @@ impl<P: Program, G: Pages> Machine<P, G> {
         requires wanted { want_at self.old.procs proc.number ≡ Do (Lock uid mode) }
         requires range { IsOp (Lock uid mode) }
         requires idle { IsIdle self.old.desk proc.number }
-        ensures { OnOk result ((op : Op) → want_at self.old.procs proc.number ≡ Do op →
-            Moves P.spent P.wants P.becomes self.old self.new done.new proc.number begun (begun_as (given_of self.old).opening self.old.desk proc.number op)) }
+        ensures { OnOk result (Begins P.spent P.wants P.becomes self.old self.new done.new proc.number begun) }
     {
         let step = begin_lock(alloc, &mut self.desk, proc, uid, mode)?;
         self.stepped(alloc, proc, begun, step, done)
@@ -303,8 +299,7 @@ impl<P: Program, G: Pages> Machine<P, G> {
         requires wanted { want_at self.old.procs proc.number ≡ Do (Unlock uid) }
         requires range { IsOp (Unlock uid) }
         requires idle { IsIdle self.old.desk proc.number }
-        ensures { OnOk result ((op : Op) → want_at self.old.procs proc.number ≡ Do op →
-            Moves P.spent P.wants P.becomes self.old self.new done.new proc.number begun (begun_as (given_of self.old).opening self.old.desk proc.number op)) }
+        ensures { OnOk result (Begins P.spent P.wants P.becomes self.old self.new done.new proc.number begun) }
     {
         let step = begin_unlock(alloc, &mut self.desk, proc, uid)?;
         self.stepped(alloc, proc, begun, step, done)
@@ -325,8 +320,7 @@ impl<P: Program, G: Pages> Machine<P, G> {
         requires wanted { want_at self.old.procs proc.number ≡ Do (Delete uid) }
         requires range { IsOp (Delete uid) }
         requires idle { IsIdle self.old.desk proc.number }
-        ensures { OnOk result ((op : Op) → want_at self.old.procs proc.number ≡ Do op →
-            Moves P.spent P.wants P.becomes self.old self.new done.new proc.number begun (begun_as (given_of self.old).opening self.old.desk proc.number op)) }
+        ensures { OnOk result (Begins P.spent P.wants P.becomes self.old self.new done.new proc.number begun) }
     {
         let step = begin_delete(alloc, &mut self.desk, proc, uid)?;
         self.stepped(alloc, proc, begun, step, done)
@@ -348,8 +342,7 @@ impl<P: Program, G: Pages> Machine<P, G> {
         requires access { (op : Op) → want_at self.old.procs proc.number ≡ Do op → IsSome (desk_op op) }
         requires desk { IsDesk self.old.desk }
         requires idle { IsIdle self.old.desk proc.number }
-        ensures { OnOk result ((op : Op) → want_at self.old.procs proc.number ≡ Do op →
-            Moves P.spent P.wants P.becomes self.old self.new done.new proc.number begun (begun_as (given_of self.old).opening self.old.desk proc.number op)) }
+        ensures { OnOk result (Begins P.spent P.wants P.becomes self.old self.new done.new proc.number begun) }
     {
         let (desk, procs) = (&mut self.desk, &self.procs);
         let access = access_wanted(alloc, desk, proc, procs)?;

@@ -3,6 +3,7 @@
 
 mod asked;
 mod begin;
+pub mod fault;
 mod machine;
 mod marks;
 pub mod node;
@@ -14,5 +15,6 @@ pub mod setup;
 mod take;
 mod turns;
 
+pub use fault::RunFault;
 pub use node::Node;
 pub use setup::{Emitted, Incoming, NodeSetup};

@@ -207,7 +207,8 @@ impl<P: Program, G: Pages> Machine<P, G> {
         self.tell_program(alloc, proc, last, phase)
     }
 
-    /// The same, at the start as well, before there is an event.
+    /// Tells the program of a process a reply, or that a phase begins, and keeps what it wants then: at an event, and at the
+    /// start, before there is one.
     fn tell_program(
         &mut self,
         alloc: Global,
@@ -402,7 +403,7 @@ impl<P: Program, G: Pages> Machine<P, G> {
         self.does(alloc, what, incoming, done)
     }
 
-    /// The same, at a machine that has the tick of the event.
+    /// One event, that is enabled, at a machine that has the tick of the event by now.
     fn does(
         &mut self,
         alloc: Global,

@@ -102,7 +102,7 @@ impl<P: Program, G: Pages> Model for Node<P, G> {
 }
 
 impl<P: Program, G: Pages> Node<P, G> {
-    ghost use Rattle.node_core.specs.Nodes.{given_of, state_of, program_of, is_enabled, Stands, Happened, IsGivenBy};
+    ghost use Rattle.node_core.specs.Nodes.{given_of, state_of, program_of, is_enabled, Stands, Happened, Does, IsGivenBy};
 
     /// A node at the start. Each program is asked what it wants first.
     ///
@@ -213,9 +213,10 @@ impl<P: Program, G: Pages> Node<P, G> {
         (self.log, self.machine.programs)
     }
 
-    /// The program of a process, as it is now. Takes no memory.
+    /// The program of a process, as it is now: it lives, unless the node is spent. Takes no memory.
     pub fn program(&self, proc: u8) -> Option<&P>
-        ensures { option_copied result ≡ program_of self.now proc }
+        ensures value { option_copied result ≡ program_of self.now proc }
+        ensures live { self.now.spent ≡ false → IfSome (option_copied result) (λ y. P.spent y ≡ false) }
     {
         program_of(self.machine.programs.as_slice(), proc)
     }
@@ -231,8 +232,7 @@ impl<P: Program, G: Pages> Node<P, G> {
         requires enabled { is_enabled self.old what (seen incoming.now) ≡ true }
         requires tick { (state_of self.old).tick < 2 ^ 40 }
         requires incoming { tick_of (seen incoming.now) < 2 ^ 40 }
-        ensures happens { IfOk result (λ emitted. (made : ℕ → Option P) (g : Given) (n : NodeState) → Stands P.wants P.becomes made g self.old n →
-            (s : Stepped) × Happened P.wants P.becomes made g what (seen incoming.now) self.old self.new emitted n s) }
+        ensures happens { IfOk result (λ emitted. Does P.wants P.becomes what (seen incoming.now) self.old self.new emitted) }
         ensures log { OnErr result (self.new.log ≡ self.old.log) }
         ensures spent { OnErr result (self.new.spent ≡ true) }
     {

@@ -1,14 +1,12 @@
 //! A process is told that a frame of its open call was lost or is late.
 ghost use Rattle.std.specs.Prelude.{◌≡◌, ◌≤◌, ◌<◌, ◌^◌, ℕ, [], length, false, IsSome, OnOk};
 ghost use Rattle.std.specs.Option.{ForSome};
-ghost use Rattle.uid_names.specs.declared.ids.Place.{Place};
 ghost use Rattle.uid_names.specs.declared.limits.TheConstants.{NODE_PROCESSES};
 ghost use Rattle.dom_history.specs.declared.op.Op.{Op};
 ghost use Rattle.dom_history.specs.declared.op.Want.TheVariants.{Do};
 ghost use Rattle.dom_history.specs.Fitting.{Fits};
 ghost use Rattle.ring_messages.specs.Ranges.{IsBody};
 ghost use Rattle.fault_handler.specs.Desks.{at};
-ghost use Rattle.fault_handler.specs.Accesses.{Accessed};
 ghost use Rattle.fault_handler.specs.Conditions.{IsOf};
 ghost use Rattle.fault_handler.specs.Outcomes.{ended};
 ghost use Rattle.node_runs.specs.NodeStates.{proc_of};
@@ -31,7 +29,7 @@ use uid_names::{NODE_PROCESSES, NoMemory, ProcId};
 
 impl<P: Program, G: Pages> Machine<P, G> {
     ghost use Rattle.node_core.specs.Machines.{given_of, state_of, IsAtEvent, IsBefore};
-    ghost use Rattle.node_core.specs.Outcomes.{IsFresh, Sent, Moves, Does};
+    ghost use Rattle.node_core.specs.Outcomes.{IsFresh, Sent, GivesUp, Does};
 
     /// The request is sent again, or the call is given up.
     pub(crate) fn notice(
@@ -80,8 +78,7 @@ impl<P: Program, G: Pages> Machine<P, G> {
         requires program { IsSome (program_in self.old.programs.items proc.number) }
         requires wanted { IsWanted (want_at self.old.procs proc.number) }
         requires call { (op : Op) → want_at self.old.procs proc.number ≡ Do op → IsInCall self.old.desk proc.number op }
-        ensures { OnOk result ((begun : Place) (op : Op) → want_at self.old.procs proc.number ≡ Do op →
-            ForSome (failed_as self.old.desk proc.number op) (λ m. Moves P.spent P.wants P.becomes self.old self.new done.new proc.number begun (Accessed.Settled m))) }
+        ensures { OnOk result (GivesUp P.spent P.wants P.becomes self.old self.new done.new proc.number) }
     {
         let (desk, procs) = (&mut self.desk, &self.procs);
         let reply = failed_wanted(desk, proc, procs);
@@ -118,7 +115,7 @@ fn failed(desk: &mut Desk, proc: ProcId, want: &Want) -> Reply
     }
 }
 
-/// The same where the desk has a part in the operation.
+/// The reply to an operation whose call is given up, where the desk has a part in the operation.
 fn failed_at_desk(desk: &mut Desk, proc: ProcId, want: &Want) -> Reply
     requires own { IsOf desk.old proc }
     requires wanted { IsWanted want.now }

@@ -1,8 +1,6 @@
 //! A node comes to the end of its phase, and takes in that others did.
 ghost use Rattle.std.specs.Prelude.{◌≡◌, ◌≤◌, ◌<◌, ◌-◌, ◌^◌, ◌∷◌, ◌&&◌, ◌||◌, ◌==◌, nat_le, not, Some, true, OnOk};
-ghost use Rattle.node_runs.specs.Notes.{Note};
-ghost use Rattle.node_runs.specs.Outcomes.{quiet as quiet_step};
-ghost use Rattle.node_runs.specs.Doings.{Doing, after_marks, others_marked};
+ghost use Rattle.node_runs.specs.Doings.{after_marks, others_marked};
 ghost use Rattle.node_core.specs.Marks.{is_taken};
 
 use crate::machine::Machine;
@@ -14,15 +12,14 @@ use uid_names::{NoMemory, NodeId};
 
 impl<P: Program, G: Pages> Machine<P, G> {
     ghost use Rattle.node_core.specs.Machines.{given_of, state_of, IsBefore};
-    ghost use Rattle.node_core.specs.Outcomes.{IsFresh, Does};
+    ghost use Rattle.node_core.specs.Outcomes.{IsFresh, PassesPhase};
 
     /// The node sends the mark of its phase.
     pub(crate) fn end_phase(&mut self, alloc: Global, done: &mut Done)
         requires fresh { IsFresh done.old }
         requires before { IsBefore P.spent P.wants self.old }
         requires going { self.old.phase ≤ self.old.phases }
-        ensures { Does P.spent P.wants P.becomes self.old self.new done.new
-            (Some (Doing.Does (quiet_step (after_marks (given_of self.old) (record (state_of self.old) { ready = true })) Note.Nothing))) }
+        ensures { PassesPhase P.spent P.wants P.becomes self.old self.new done.new (record (state_of self.old) { ready = true }) }
     {
         self.ready = true;
         self.pass_phase();
@@ -40,8 +37,7 @@ impl<P: Program, G: Pages> Machine<P, G> {
         requires fresh { IsFresh done.old }
         requires before { IsBefore P.spent P.wants self.old }
         requires going { self.old.phase ≤ self.old.phases }
-        ensures { OnOk result (Does P.spent P.wants P.becomes self.old self.new done.new
-            (Some (Doing.Does (quiet_step (after_marks (given_of self.old) (record (state_of self.old) { marks = (from, phase) ∷ self.old.marks })) Note.Nothing)))) }
+        ensures { OnOk result (PassesPhase P.spent P.wants P.becomes self.old self.new done.new (record (state_of self.old) { marks = (from, phase) ∷ self.old.marks })) }
     {
         self.marks.add(from, phase)?;
         self.pass_phase();

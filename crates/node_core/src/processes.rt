@@ -12,7 +12,7 @@ ghost use Rattle.call_once.specs.Notices.{noticed};
 ghost use Rattle.call_once.specs.declared.asking.Noticed.{Noticed};
 ghost use Rattle.call_once.specs.declared.asking.TheConstants.{MOST_NOTICES};
 ghost use Rattle.node_runs.specs.Doings.{noticed_call};
-ghost use Rattle.node_core.specs.Processes.{open_in, call_seen, proc_seen, IsCalling, IsAgain};
+ghost use Rattle.node_core.specs.Processes.{open_in, call_seen, proc_seen, with_open, with_notice, with_call, IsCalling, IsAgain, IsResent, IsGivenUp};
 
 use crate::asked::KeptAsk;
 use call_once::{Asking, Noticed};
@@ -104,13 +104,7 @@ impl Proc {
         requires few { self.old.last < 2 ^ 40 }
         ensures number { result ≡ self.old.last + 1 }
         ensures want { self.new.want ≡ self.old.want }
-        ensures state { IfSome (ask_of body.now) (λ ask. (op : Op) → self.old.want ≡ Do op → proc_seen self.new ≡ record (proc_seen self.old) {
-          doing = Some (record {
-            began = record { op = op; begun = begun };
-            awaits = Awaiting.Answer (next_call (proc_seen self.old) home ask);
-          });
-          last = self.old.last + 1;
-        }) }
+        ensures state { IfSome (ask_of body.now) (λ ask. (op : Op) → self.old.want ≡ Do op → proc_seen self.new ≡ with_call (proc_seen self.old) op begun home ask) }
     {
         let number = self.last + 1;
         let ask = KeptAsk::keep(body, &mut *self.page);
@@ -127,11 +121,8 @@ impl Proc {
         requires called { IsCalling (proc_seen self.old).doing }
         requires few { (o : BegunOp) (c : Asked) → (proc_seen self.old).doing ≡ Some (record { began = o; awaits = Awaiting.Answer c }) →
             c.waiting.notices < MOST_NOTICES }
-        ensures again { IfOk result (λ sent. IfSome sent (λ again. (o : BegunOp) (c : Asked) → (proc_seen self.old).doing ≡ Some (record { began = o; awaits = Awaiting.Answer c }) →
-            IsAgain c again × (noticed (c.waiting.notices + 1) ≡ Noticed.Resend)
-            × (proc_seen self.new ≡ record (proc_seen self.old) { doing = Some (record { began = o; awaits = Awaiting.Answer (noticed_call c) }) }))) }
-        ensures none { IfOk result (λ sent. IfNone sent ((o : BegunOp) (c : Asked) → (proc_seen self.old).doing ≡ Some (record { began = o; awaits = Awaiting.Answer c }) →
-            (noticed (c.waiting.notices + 1) ≡ Noticed.GiveUp) × (self.new ≡ self.old))) }
+        ensures again { IfOk result (λ sent. IfSome sent (IsResent self.old self.new)) }
+        ensures none { IfOk result (λ sent. IfNone sent (IsGivenUp self.old self.new)) }
         ensures want { self.new.want ≡ self.old.want }
     {
         let Some(Open { begun, awaits }) = self.doing() else {
@@ -143,7 +134,8 @@ impl Proc {
         }
     }
 
-    /// The same, with its call.
+    /// One notice more of this call, which the operation that began at this place awaits: its request, which is to be sent
+    /// again, or None where it is given up.
     fn notice_call(
         &mut self,
         alloc: Global,
@@ -152,12 +144,7 @@ impl Proc {
     ) -> Result<Option<Again>, NoMemory>
         requires { call.asking.notices < MOST_NOTICES }
         ensures again { IfOk result (λ sent. IfSome sent (λ again. IsAgain (call_seen call self.old.page.value) again × (noticed (call.asking.notices + 1) ≡ Noticed.Resend))) }
-        ensures state { IfOk result (λ sent. IfSome sent (λ again. (op : Op) → self.old.want ≡ Do op → proc_seen self.new ≡ record (proc_seen self.old) {
-          doing = Some (record {
-            began = record { op = op; begun = begun };
-            awaits = Awaiting.Answer (noticed_call (call_seen call self.old.page.value));
-          });
-        })) }
+        ensures state { IfOk result (λ sent. IfSome sent (λ again. (op : Op) → self.old.want ≡ Do op → proc_seen self.new ≡ with_notice self.old op begun call)) }
         ensures none { IfOk result (λ sent. IfNone sent ((noticed (call.asking.notices + 1) ≡ Noticed.GiveUp) × (self.new ≡ self.old))) }
         ensures want { self.new.want ≡ self.old.want }
     {
@@ -176,9 +163,7 @@ impl Proc {
     /// The operation that began at this place waits for a page. Takes no memory.
     pub(crate) fn wait(&mut self, begun: Place, uid: Uid, page: u32)
         ensures want { self.new.want ≡ self.old.want }
-        ensures state { (op : Op) → self.old.want ≡ Do op → proc_seen self.new ≡ record (proc_seen self.old) {
-          doing = Some (record { began = record { op = op; begun = begun }; awaits = Awaiting.Page uid page });
-        } }
+        ensures state { (op : Op) → self.old.want ≡ Do op → proc_seen self.new ≡ with_open (proc_seen self.old) op begun (Awaiting.Page uid page) }
     {
         let awaits = Await::Page(uid, page);
         self.opened = Some(Open { begun, awaits });

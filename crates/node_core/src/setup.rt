@@ -4,8 +4,9 @@ ghost use Rattle.node_runs.specs.Incomings.{tick_of};
 ghost use Rattle.node_runs.specs.SentFrames.{IsNamedBody, IsFrame, IsIncoming};
 ghost use Rattle.node_core.specs.Receivings.{seen};
 
-use ring_messages::{Body, Frame};
-use uid_names::NodeId;
+use ring_messages::{Body, Copied, Frame};
+use std::alloc::Global;
+use uid_names::{NoMemory, NodeId};
 
 /// What a node is given beside the opening: its number and that of all nodes, its page frames, 5 to 256, and the number
 /// of phases, 1 to 1,000.
@@ -47,12 +48,26 @@ impl Incoming {
         }
     }
 
-    /// What each frame is like: for the check alone.
-    pub(crate) fn known(&self)
+    /// A frame that is received is one as nodes send them. For the check alone: nothing is done.
+    pub fn known(&self)
         ensures { IsIncoming (seen self.now) }
     {
         if let Incoming::Frame(frame) = self {
             frame_known(frame);
+        }
+    }
+}
+
+impl Copied for Incoming {
+    fn copy(&self, alloc: Global) -> Result<Incoming, NoMemory> {
+        match self {
+            Incoming::Nothing => Ok(Incoming::Nothing),
+            Incoming::Frame(frame) => Ok(Incoming::Frame(frame.copy(alloc)?)),
+            Incoming::Gone { number, tick } => Ok(Incoming::Gone {
+                number: *number,
+                tick: *tick,
+            }),
+            Incoming::Mark { tick } => Ok(Incoming::Mark { tick: *tick }),
         }
     }
 }

@@ -9,7 +9,7 @@ ghost use Rattle.ring_messages.specs.Bodies.{ask_of};
 ghost use Rattle.fault_handler.specs.Desks.{at, put_at};
 ghost use Rattle.fault_handler.specs.Outcomes.{Turn, seen_access};
 ghost use Rattle.fault_handler.specs.Next.{FitsTurn, IsAsked};
-ghost use Rattle.lock_validate.specs.Steps.{seen_step, Tells};
+ghost use Rattle.lock_validate.specs.Steps.{seen_step, TellsTurn};
 ghost use Rattle.ring_messages.specs.Ranges.{IsBody};
 ghost use Rattle.node_core.specs.Outcomes.{IsFresh};
 ghost use Rattle.node_core.specs.Processes.{IsWanted, want_at};
@@ -108,7 +108,7 @@ impl<P: Program, G: Pages> Machine<P, G> {
         }
     }
 
-    /// The same of what locking, unlocking and removal say.
+    /// What comes of an operation that began at this place, where locking, unlocking or removal say this to it.
     #[inline(always)]
     pub(crate) fn stepped(
         &mut self,
@@ -124,8 +124,8 @@ impl<P: Program, G: Pages> Machine<P, G> {
         requires program { IsSome (program_in self.old.programs.items proc.number) }
         requires wanted { IsWanted (want_at self.old.procs proc.number) }
         requires there { IsSome (seen_step step) }
-        requires fits { (op : Op) → want_at self.old.procs proc.number ≡ Do op → Tells (FitsTurn op) step }
-        requires asks { Tells (IsAsked self.old.desk.nodes) step }
+        requires fits { (op : Op) → want_at self.old.procs proc.number ≡ Do op → TellsTurn (FitsTurn op) step }
+        requires asks { TellsTurn (IsAsked self.old.desk.nodes) step }
         ensures { OnOk result (IfSome (seen_step step) (λ o. Turns P.spent P.wants P.becomes self.old self.new done.new proc.number begun o.turn o.dropped)) }
     {
         match step {

@@ -4,8 +4,11 @@ use Rattle.std.proofs.Common.{◌≡◌, ℕ, ◌+◌, ◌-◌, Bool, true, fals
 use Rattle.std.specs.Prelude.{◌==◌, nat_le, nat_lt, not, ◌&&◌, ◌||◌, is_none}
 use Rattle.std.specs.Option.{option_map}
 use Rattle.std.proofs.lemmas.List.{length-set}
+use Rattle.std.proofs.lemmas.Option.{same_Some}
 use Rattle.uid_names.specs.Names.{ObjectName}
 use Rattle.uid_names.specs.Openings.{Start}
+use Rattle.uid_names.proofs.Passed.{left-true}
+use Rattle.uid_names.proofs.Somes.{map-some}
 use Rattle.dom_history.specs.declared.op.Op.{Op}
 use Rattle.dom_history.specs.declared.op.Op.TheVariants as ops
 use Rattle.dom_history.specs.declared.op.Reply.{Reply}
@@ -36,8 +39,6 @@ use Rattle.node_runs.specs.Rooms.{moved_as_named}
 use Rattle.node_runs.specs.Doings.{Doing, begun_at, pauses, finishes, begins, goes_on, replies, serves, hears_said, hears_if, hears_at, hears, takes, noticed_call, resends, gives_up, notices_as, notices_at, notices, in_next_phase, node_numbers, others_marked, after_marks, event_of}
 use Rattle.node_runs.specs.Steps.{stepped_as_named}
 use Rattle.node_runs.specs.Alikes.{AreAlikeProcs, AreAlike, HeardMore, AreAlikeSteps}
-use Rattle.node_runs.proofs.Somes.{some-is, map-some}
-use Rattle.node_runs.proofs.Bools.{left-true}
 use Rattle.node_runs.proofs.AlikeProcs.{AreToldAlike, told-nothing, put-both, all-same, all-alike}
 
 -- an operation begins alike where there are as many nodes and objects may be as large
@@ -350,7 +351,7 @@ module _ (g other_given : Given) (n other : NodeState) (alike : (p : ℕ) → Ar
     event-alike (Mark from phase) (Incoming.Gone number t) may = tt
 
     named-alike : (event same : Doing) (s : Stepped) → SameDoing n m event same → stepped_as_named g n event ≡ Some s → (t : Stepped) × (stepped_as_named h m same ≡ Some t) × AreAlikeSteps n m s t
-    named-alike (Doing.Does done) same s (t, is, steps) e = (t, ap (stepped_as_named h m) is, subst (λ x. AreAlikeSteps n m x t) (some-is done s e) steps)
+    named-alike (Doing.Does done) same s (t, is, steps) e = (t, ap (stepped_as_named h m) is, subst (λ x. AreAlikeSteps n m x t) (same_Some done s e) steps)
     named-alike (Doing.Moves p o stage accessed) same s is e =
         let found = map-some (moved g n p o stage) (moved_as_named p accessed) s e in (
           moved h m p o stage found.0,
@@ -363,5 +364,5 @@ module _ (g other_given : Given) (n other : NodeState) (alike : (p : ℕ) → Ar
         → (same : Doing) × (t : Stepped) × (other_found ≡ Some same) × (stepped_as_named h m same ≡ Some t) × AreAlikeSteps n m s t
     found-alike None other_found event s is there e = absurd (cc)
     found-alike (Some found) other_found event s (same, is, alikes) there e =
-        let out = named-alike found same s alikes (subst (λ x. stepped_as_named g n x ≡ Some s) (sym (some-is found event there)) e) in
+        let out = named-alike found same s alikes (subst (λ x. stepped_as_named g n x ≡ Some s) (sym (same_Some found event there)) e) in
         (same, out.0, is, out.1, out.2)

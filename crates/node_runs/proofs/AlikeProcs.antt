@@ -6,11 +6,10 @@ use Rattle.std.specs.List.{list_any, list_all}
 use Rattle.std.proofs.lemmas.Bool.{cases_eq}
 use Rattle.std.proofs.lemmas.Bool.Decides.{nat_tests}
 use Rattle.std.proofs.lemmas.List.{get_or-set_same, get_or-set_other, set_past}
-use Rattle.uid_names.proofs.ListLemmas.{by_cases}
+use Rattle.uid_names.proofs.ListLemmas.{by_cases, list_all-one}
 use Rattle.dom_history.specs.Follows.{Heard}
 use Rattle.node_runs.specs.NodeStates.{ProcState}
 use Rattle.node_runs.specs.Alikes.{AreAlikeProcs}
-use Rattle.node_runs.proofs.Bools.{left-true, right-true, equal}
 
 -- two processes that are alike after both were told the same
 pub record AreToldAlike (old new other_old other_new : ProcState) : Type 0 where
@@ -50,13 +49,6 @@ both-ways true c to from = sym (to refl)
 both-ways false true to from = from refl
 both-ways false false to from = refl
 
-all-one : (f : ℕ → Bool) (xs : List ℕ) (p : ℕ) → list_all f xs ≡ true → list_any (λ q. q == p) xs ≡ true → f p ≡ true
-all-one f [] p all there = absurd (cc)
-all-one f (x ∷ xs) p all there =
-    by_cases (x == p) (f p ≡ true)
-    (λ e. subst (λ k. f k ≡ true) (equal x p e) (left-true (f x) (list_all f xs) all))
-    (λ e. all-one f xs p (right-true (f x) (list_all f xs) all) (grind (arith, nat_tests, e, there)))
-
 one-all : (f : ℕ → Bool) (xs : List ℕ) → ((p : ℕ) → list_any (λ q. q == p) xs ≡ true → f p ≡ true) → list_all f xs ≡ true
 one-all f [] each = refl
 one-all f (x ∷ xs) each =
@@ -65,7 +57,7 @@ one-all f (x ∷ xs) each =
     rw (first, rest) refl
 
 all-within : (f h : ℕ → Bool) (xs ys : List ℕ) → ((x : ℕ) → f x ≡ h x) → ((p : ℕ) → list_any (λ q. q == p) xs ≡ list_any (λ q. q == p) ys) → list_all f xs ≡ true → list_all h ys ≡ true
-all-within f h xs ys same members all = one-all h ys (λ p there. sym (same p) ∙ all-one f xs p all (members p ∙ there))
+all-within f h xs ys same members all = one-all h ys (λ p there. sym (same p) ∙ list_all-one f xs p all (members p ∙ there))
 
 -- tests that agree on each element pass alike on lists that have the same elements
 pub all-alike : (f h : ℕ → Bool) (xs ys : List ℕ) → ((x : ℕ) → f x ≡ h x) → ((p : ℕ) → list_any (λ q. q == p) xs ≡ list_any (λ q. q == p) ys) → list_all f xs ≡ list_all h ys

@@ -2,6 +2,8 @@
 use Rattle.std.proofs.Common.{◌≡◌, true, Some, ap, subst, ◌∙◌}
 use Rattle.std.specs.Prelude.{not, ◌&&◌}
 use Rattle.uid_names.specs.Steps.{◌>>=◌}
+use Rattle.uid_names.proofs.Passed.{right-true}
+use Rattle.uid_names.proofs.Somes.{bind-some}
 use Rattle.dom_history.specs.declared.event.What.{What}
 use Rattle.node_runs.specs.Setups.{Given}
 use Rattle.node_runs.specs.NodeStates.{NodeState, is_ended}
@@ -10,8 +12,6 @@ use Rattle.node_runs.specs.Outcomes.{Stepped}
 use Rattle.node_runs.specs.Doings.{event_of, ticked}
 use Rattle.node_runs.specs.Steps.{stepped_as_named, named_step}
 use Rattle.node_runs.specs.Alikes.{AreAlikeGiven, AreAlike, AreAlikeSteps}
-use Rattle.node_runs.proofs.Somes.{bind-some}
-use Rattle.node_runs.proofs.Bools.{right-true}
 use Rattle.node_runs.proofs.Alike.{happen-alike, event-alike, found-alike}
 
 -- a node with the processes and marks of another

@@ -1,9 +1,10 @@
 -- What an event does to the calls of its node's processes.
 use Rattle.uid_names.specs.Names.{ObjectName}
-use Rattle.std.proofs.Common.{◌≡◌, ◌≢◌, ℕ, ◌+◌, Bool, true, false, List, ◌∷◌, length, Option, Some, None, ◌⊎◌, inl, inr, refl, sym, ap, subst, ◌∙◌}
+use Rattle.std.proofs.Common.{◌≡◌, ◌≢◌, ℕ, ◌+◌, Bool, true, List, ◌∷◌, length, Option, Some, None, ◌⊎◌, inl, inr, refl, sym, ap, subst, ◌∙◌}
 use Rattle.dom_history.specs.declared.event.What.{What}
-use Rattle.ring_messages.specs.Bodies.{Answer, ask_of, body_of_answer}
+use Rattle.ring_messages.specs.Bodies.{Answer, ask_of}
 use Rattle.ring_messages.specs.Frames.{Message}
+use Rattle.ring_messages.proofs.Asking.{answers-ask-nothing}
 use Rattle.std.specs.Prelude.{◌&&◌}
 use Rattle.std.proofs.lemmas.Bool.{cases_eq}
 use Rattle.fault_handler.specs.Desks.{DeskState, at, put_at}
@@ -16,6 +17,7 @@ use Rattle.node_runs.specs.Incomings.{Incoming, has_program}
 use Rattle.node_runs.specs.Outcomes.{Stepped, Stage, request, next_call, turned, dropping, moved}
 use Rattle.node_runs.specs.Doings.{begun_at, stage_of, noticed_call, in_next_phase, others_marked}
 use Rattle.node_runs.specs.Dones.{Did, asking, paused, finished, began, resumed, served, passed_over, heard, ignored, resent, gave_up, got_ready, marked}
+use Rattle.node_runs.proofs.Ticks.{next-procs}
 
 -- a frame that answers
 abbrev pub IsReply : Given → Option Message → Type 0
@@ -42,19 +44,6 @@ pub data CallStep (g : Given) (n : NodeState) (s : Stepped) : Type 0 where
       → (proc_of s.node p).last ≡ c.waiting.number → (proc_of s.node p).doing ≡ asking o c → ((q : ℕ) → IsProc q → q ≢ p → proc_of s.node q ≡ proc_of n q) → length s.node.procs ≡ 4 → CallStep g n s
   again : (p : ℕ) (o : BegunOp) (c : Asked) → IsProc p → (proc_of n p).doing ≡ asking o c → s.call ≡ None → s.frame ≡ Some (request g n p (noticed_call c))
       → (proc_of s.node p).last ≡ (proc_of n p).last → (proc_of s.node p).doing ≡ asking o (noticed_call c) → ((q : ℕ) → IsProc q → q ≢ p → proc_of s.node q ≡ proc_of n q) → length s.node.procs ≡ 4 → CallStep g n s
-
-answers-no-request : (a : Answer) → ask_of (body_of_answer a) ≡ None
-answers-no-request (Answer.Page stamp bytes) = refl
-answers-no-request (Answer.Stored stamp) = refl
-answers-no-request (Answer.Stale stamp) = refl
-answers-no-request Answer.NoGrant = refl
-answers-no-request Answer.NoObject = refl
-answers-no-request (Answer.Granted grant stamp kind room n) = refl
-answers-no-request (Answer.Conflict p m) = refl
-answers-no-request Answer.Done = refl
-answers-no-request (Answer.Made u) = refl
-answers-no-request Answer.NoSpace = refl
-answers-no-request (Answer.Listed rows more) = refl
 
 stays : (q : ProcState) → Stays q q
 stays q = record { last = refl; doing = inl refl }
@@ -93,10 +82,6 @@ module _ (g : Given) (n : NodeState) (four : length n.procs ≡ 4) where
   moved-calls : (p : ℕ) → IsProc p → (o : BegunOp) (stage : Stage) (m : Moved) → CallStep g n (moved g n p o stage m)
   moved-calls p proc o stage m = dropping-calls (turned g (record n { desk = m.desk }) p o stage m.turn) m.dropped (turned-calls p proc o stage m.desk m.turn)
 
-  next-procs : (b : Bool) (x : NodeState) → (in_next_phase b x).procs ≡ x.procs
-  next-procs true x = refl
-  next-procs false x = refl
-
   phase-calls : (b : Bool) (x : NodeState) → x.procs ≡ n.procs → (q : ℕ) → Stays (proc_of n q) (proc_of (in_next_phase b x) q)
   phase-calls b x same q = let e = ap (λ ps. at ps q first_proc) (next-procs b x ∙ same) in subst (Stays (proc_of n q)) (sym e) (stays (proc_of n q))
 
@@ -108,7 +93,7 @@ module _ (g : Given) (n : NodeState) (four : length n.procs ≡ 4) where
   did-calls procs what incoming s frame (finished p has none is) = silent refl tt (all-stay p (procs p has) _ (record { last = refl; doing = inl refl })) (length-put n.procs p _ four)
   did-calls procs what incoming s frame (began p op to has none is may) = moved-calls p (procs p has) (begun_at g n op) Stage.Starts to
   did-calls procs what incoming s frame (resumed p o u k accessed to has is come goes may) = moved-calls p (procs p has) o Stage.Resumes to
-  did-calls procs what incoming s frame (served from index m ask answer sender receiver asks is) = silent refl (receiver, frame, answers-no-request answer) (λ p proc. stays (proc_of n p)) four
+  did-calls procs what incoming s frame (served from index m ask answer sender receiver asks is) = silent refl (receiver, frame, answers-ask-nothing answer) (λ p proc. stays (proc_of n p)) four
   did-calls procs what incoming s frame (passed_over from index m ask sender receiver asks is) = silent refl tt (λ p proc. stays (proc_of n p)) four
   did-calls procs what incoming s frame (heard from index m o c said to sender receiver asks is same fits may) = moved-calls m.proc frame o (stage_of m.number said) to
   did-calls procs what incoming s frame (ignored from index m sender receiver asks) = silent refl tt (λ p proc. stays (proc_of n p)) four

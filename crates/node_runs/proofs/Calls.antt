@@ -3,10 +3,12 @@ use Rattle.std.proofs.Common.{◌≡◌, ◌≢◌, ℕ, ◌+◌, ◌≤◌, Lis
 use Rattle.std.specs.Prelude.{◌==◌, if◌then◌else◌, ◌⊎◌}
 use Rattle.std.proofs.lemmas.Bool.{cases_eq}
 use Rattle.std.proofs.lemmas.Bool.Decides.{nat_tests}
+use Rattle.std.proofs.lemmas.Option.{same_Some}
 use Rattle.uid_names.proofs.ListLemmas.{by_cases}
 use Rattle.dom_history.specs.declared.event.What.{What}
 use Rattle.ring_messages.specs.Bodies.{Ask, body_of_ask, ask_of}
 use Rattle.ring_messages.specs.Frames.{Message}
+use Rattle.ring_messages.proofs.Asking.{asked-seen}
 use Rattle.fault_handler.specs.Desks.{at}
 use Rattle.fault_handler.proofs.Fours.{by_proc}
 use Rattle.fault_handler.specs.Invariant.{IsProc}
@@ -18,7 +20,6 @@ use Rattle.node_runs.specs.Doings.{ticked, noticed_call}
 use Rattle.node_runs.specs.Dones.{asking}
 use Rattle.node_runs.specs.Runs.{World, first_world, Choice, put, numbered, incoming_of, frames_after, calls_after, world_after}
 use Rattle.node_runs.specs.CallsKeep.{HasProcs, AsksThis, IsCallAt, IsOnLink, EachOf, IsAwaited, IsOpenAt, AreCalls}
-use Rattle.node_runs.proofs.Somes.{some-is}
 use Rattle.node_runs.proofs.Doing.{step_of-did}
 use Rattle.node_runs.proofs.Receiving.{EachOf-more, incoming-is}
 use Rattle.node_runs.proofs.CallSteps.{IsReply, IsNoCall, IsUnasking, Stays, CallStep, silent, asked, again, IsFrameProc, did-calls}
@@ -31,7 +32,7 @@ pub put-other : {A : Type 0} (f : ℕ → A) (k i : ℕ) (x : A) → i ≢ k →
 put-other f k i x differs = by_cases (i == k) (put f k x i ≡ f i) (λ h. absurd (differs (grind (arith, nat_tests, h)))) (λ h. ap (λ b. if b then x else f i) h)
 
 -- a number that has a call is within the list
-numbered-within : (k : ℕ) (calls : List Asked) (to : ℕ) (ask : Ask) → IsCallAt calls k to ask → k ≤ length calls
+pub numbered-within : (k : ℕ) (calls : List Asked) (to : ℕ) (ask : Ask) → IsCallAt calls k to ask → k ≤ length calls
 numbered-within k [] to ask is = absurd is
 numbered-within k (c ∷ older) to ask is =
     let within : k ≤ length older + 1 =
@@ -61,19 +62,8 @@ Grows old new = (n p k to : ℕ) (ask : Ask) → IsCallAt (old n p) k to ask →
 link-grows : (old new : ℕ → ℕ → List Asked) → Grows old new → (from to : ℕ) (m : Message) → IsOnLink old from to m → IsOnLink new from to m
 link-grows old new grows from to m is = record { sender = is.sender; receiver = is.receiver; proc = is.proc; call = λ ask asks. grows from m.proc m.number to ask (is.call ask asks) }
 
--- what a request asks is what its call asks
-asks-own : (ask : Ask) → ask_of (body_of_ask ask) ≡ Some ask
-asks-own (Ask.PageIn u k) = refl
-asks-own (Ask.PageOut u k grant base bytes) = refl
-asks-own (Ask.AttrOut u n grant base) = refl
-asks-own (Ask.Lock u m) = refl
-asks-own (Ask.Unlock u) = refl
-asks-own (Ask.Remove u) = refl
-asks-own (Ask.Make kind room) = refl
-asks-own (Ask.ListLocks after) = refl
-
 of-call : (calls : List Asked) (k to : ℕ) (own : Ask) → IsCallAt calls k to own → (ask : Ask) → ask_of (body_of_ask own) ≡ Some ask → IsCallAt calls k to ask
-of-call calls k to own is ask asks = subst (λ a. IsCallAt calls k to a) (some-is own ask (sym (asks-own own) ∙ asks)) is
+of-call calls k to own is ask asks = subst (λ a. IsCallAt calls k to a) (same_Some own ask (sym (asked-seen own) ∙ asks)) is
 
 -- the frames after one more
 pub frames-one : (w : World) (n : ℕ) (m : Message) (P : ℕ → ℕ → Message → Type 0) → P n m.to m → ((from to : ℕ) → EachOf (P from to) (w.frames from to)) → (from to : ℕ) → EachOf (P from to) (frames_after w n (Some m) from to)

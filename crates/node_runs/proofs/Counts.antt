@@ -1,10 +1,10 @@
 -- An event sends one frame and makes one call at most, so that no number is above the tick.
 use Rattle.std.proofs.Common.{◌≡◌, ℕ, ◌+◌, ◌-◌, ◌≤◌, Bool, true, false, List, ◌∷◌, length, Some, inl, inr, refl, sym, ap, subst, arith}
-use Rattle.std.specs.Prelude.{zero, suc, replicate, nat_lt, ◌&&◌, slice_index_or, slice_set}
+use Rattle.std.specs.Prelude.{nat_lt, ◌&&◌, slice_index_or, slice_set}
 use Rattle.std.proofs.lemmas.Bool.{cases_eq}
 use Rattle.std.proofs.lemmas.Bool.Decides.{nat_tests}
 use Rattle.std.proofs.lemmas.List.{get_or-set_same, get_or-set_other, set_past}
-use Rattle.uid_names.proofs.ListLemmas.{by_cases}
+use Rattle.uid_names.proofs.ListLemmas.{by_cases, zeros-at}
 use Rattle.uid_names.specs.Names.{ObjectName}
 use Rattle.uid_names.specs.declared.limits.TheConstants.{MAX_NODES}
 use Rattle.dom_history.specs.declared.event.What.{What}
@@ -103,11 +103,6 @@ step_of-counted g n what incoming dropped s is e =
       last = λ p proc. let a = one.last p in let b = is.last p proc in omega (arith, tick, a, b);
       side = subst (λ t. IsCountedTo t s.node.side) (sym tick) (did-counted g (ticked n incoming) what incoming s n.tick (omega arith) is.side did);
     }
-
-zeros-at : (n i : ℕ) → slice_index_or {A = ℕ} (replicate n 0) i 0 ≡ 0
-zeros-at zero i = refl
-zeros-at (suc n) zero = refl
-zeros-at (suc n) (suc i) = zeros-at n i
 
 -- at the start nothing was sent or asked
 pub first-counted : (s : Setup) → IsSetup s → (n : ℕ) → IsCounted (first_node (given s n))

@@ -14,10 +14,9 @@ use Rattle.call_once.specs.declared.served.Looked.{Looked}
 use Rattle.call_once.specs.declared.served.Looked.TheVariants.{Fresh, Again, Old}
 use Rattle.call_once.specs.Calls.{Call, call_of, number_in, last_of, looked, with_call}
 use Rattle.call_once.proofs.KeptCalls.{call_of-with_call}
-use Rattle.ring_messages.specs.declared.body.Body.{Body}
-use Rattle.ring_messages.specs.declared.body.Body.TheVariants as bodies
 use Rattle.ring_messages.specs.Bodies.{Ask, Answer, ask_of, is_request}
 use Rattle.ring_messages.specs.Frames.{Message, caller_of}
+use Rattle.ring_messages.proofs.Asking.{request-is}
 use Rattle.page_server.specs.Decisions.{decide}
 use Rattle.page_server.specs.Serving.{HomeSide, serve_as, serve_of}
 use Rattle.fault_handler.specs.Desks.{DeskState}
@@ -37,18 +36,6 @@ use Rattle.node_runs.proofs.Sides.{next-side}
 use Rattle.node_runs.proofs.Worlds.{IsNext, place_at, every-run}
 use Rattle.node_runs.proofs.Receiving.{EachOf-more, numbered-each}
 use Rattle.node_runs.proofs.Calls.{put-same, put-other, Grows, calls-grow, calls-first, calls-later}
-
--- a body that asks something is a request
-request-is : (b : Body) (ask : Ask) → ask_of b ≡ Some ask → is_request b ≡ true
-request-is (bodies.PageIn u page) ask e = refl
-request-is (bodies.PageOut u page grant base bytes) ask e = refl
-request-is (bodies.AttrOut u n grant base) ask e = refl
-request-is (bodies.Lock u m) ask e = refl
-request-is (bodies.Unlock u) ask e = refl
-request-is (bodies.Remove u) ask e = refl
-request-is (bodies.Make kind room) ask e = refl
-request-is (bodies.List after) ask e = refl
-request-is _ ask e = absurd (cc)
 
 fresh-above : (number last : ℕ) → looked number last ≡ Fresh → last < number
 fresh-above number last is = by_cases (nat_lt last number) (last < number) (λ h. grind (arith, nat_tests, h)) (λ h. absurd (other h))

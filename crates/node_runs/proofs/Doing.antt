@@ -1,7 +1,11 @@
 -- Each step did one of the things that an event does.
 use Rattle.std.proofs.Common.{◌≡◌, ℕ, ◌+◌, Bool, true, false, List, Option, Some, None, refl, sym, ap, subst, ◌∙◌}
 use Rattle.std.specs.Prelude.{◌==◌, not, is_none}
+use Rattle.std.proofs.lemmas.Bool.{not-true}
+use Rattle.std.proofs.lemmas.Option.{same_Some}
 use Rattle.uid_names.specs.Names.{ObjectName}
+use Rattle.uid_names.proofs.Passed.{left-true, right-true, equal}
+use Rattle.uid_names.proofs.Somes.{none-is, map-some}
 use Rattle.dom_history.specs.declared.op.Want.{Want}
 use Rattle.dom_history.specs.declared.op.Want.TheVariants.{Do, Phase, Done}
 use Rattle.dom_history.specs.declared.event.What.{What}
@@ -22,18 +26,12 @@ use Rattle.node_runs.specs.Outcomes.{Stepped, Stage, moved}
 use Rattle.node_runs.specs.Doings.{Doing, begins, goes_on, replies, hears_said, hears_if, hears_at, hears, takes, gives_up, notices_as, notices_at, notices, noticed_call, event_of, ticked}
 use Rattle.node_runs.specs.Steps.{step_of}
 use Rattle.node_runs.specs.Dones.{Did, asking, paused, finished, began, resumed, served, passed_over, heard, ignored, resent, gave_up, got_ready, marked}
-use Rattle.node_runs.proofs.Somes.{some-is, map-some}
-use Rattle.node_runs.proofs.Bools.{left-true, right-true, not-true, equal}
 use Rattle.node_runs.proofs.Stepping.{Leaves, step_of-is}
-
-pub no-op : {A : Type 0} (o : Option A) → is_none o ≡ true → o ≡ None
-no-op None h = refl
-no-op (Some x) h = absurd (cc)
 
 module _ (g : Given) (n : NodeState) (s : Stepped) where
   -- what is left is that of the event that it is
   this : (event same : Doing) → Some event ≡ Some same → Leaves g n same s → Leaves g n event s
-  this event same e = subst (λ x. Leaves g n x s) (sym (some-is event same e))
+  this event same e = subst (λ x. Leaves g n x s) (sym (same_Some event same e))
 
   begins-did : (p : ℕ) (w : Want) → has_program g p ≡ true → (proc_of n p).doing ≡ None → g.asks p (proc_of n p).heard ≡ w → Leaves g n (begins g n p w) s → Did g n (Begin p) Incoming.Nothing s
   begins-did p (Do op) has none is (to, may, left) = subst (Did g n (Begin p) Incoming.Nothing) (sym left) (began p op to has none is may)
@@ -101,7 +99,7 @@ module _ (g : Given) (n : NodeState) (s : Stepped) where
 
   pub event_of-did : (what : What) (incoming : Incoming) (event : Doing) → may_happen g n what incoming ≡ true → event_of g n what incoming ≡ Some event → Leaves g n event s → Did g n what incoming s
   event_of-did (Begin p) Incoming.Nothing event may e left =
-      begins-did p (g.asks p (proc_of n p).heard) (left-true (has_program g p) _ may) (no-op (proc_of n p).doing (left-true (is_none (proc_of n p).doing) _ (right-true _ _ may))) refl (this (begins g n p (g.asks p (proc_of n p).heard)) event e left)
+      begins-did p (g.asks p (proc_of n p).heard) (left-true (has_program g p) _ may) (none-is (proc_of n p).doing (left-true (is_none (proc_of n p).doing) _ (right-true _ _ may))) refl (this (begins g n p (g.asks p (proc_of n p).heard)) event e left)
   event_of-did (Begin p) (Incoming.Frame m) event may e left = absurd (cc)
   event_of-did (Begin p) (Incoming.Gone number tick) event may e left = absurd (cc)
   event_of-did (Begin p) (Incoming.Mark tick) event may e left = absurd (cc)

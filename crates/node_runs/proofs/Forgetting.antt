@@ -129,7 +129,7 @@ pub counted-forgotten : (n : NodeState) → IsCounted n → IsCounted (forgotten
 counted-forgotten n is = counted-alike n (forgotten n) (forgotten-alike n) is
 
 -- an operation that a desk answers has its call there
-open-calling : (d : DeskState) (p : ℕ) (op : Op) (ask : Ask) → IsDeskOp op → IsCalling d p op ask → IsCallOpen d p op ask
+pub open-calling : (d : DeskState) (p : ℕ) (op : Op) (ask : Ask) → IsDeskOp op → IsCalling d p op ask → IsCallOpen d p op ask
 open-calling d p (ops.New home kind room) ask is calls = absurd is
 open-calling d p (ops.List home after) ask is calls = absurd is
 open-calling d p (ops.Lock u m) ask is calls = calls

@@ -3,6 +3,8 @@ use Rattle.std.proofs.Common.{◌≡◌, ℕ, ◌+◌, Bool, true, false, Option
 use Rattle.std.specs.Prelude.{◌==◌, not, is_none}
 use Rattle.std.specs.Option.{option_map}
 use Rattle.uid_names.specs.Steps.{◌>>=◌}
+use Rattle.uid_names.proofs.Passed.{left-true, right-true, equal}
+use Rattle.uid_names.proofs.Somes.{none-is}
 use Rattle.dom_history.specs.declared.op.Want.{Want}
 use Rattle.dom_history.specs.declared.op.Want.TheVariants.{Do, Phase, Done}
 use Rattle.dom_history.specs.declared.event.What.{What}
@@ -32,9 +34,7 @@ use Rattle.node_runs.specs.Steps.{stepped_as_named, step_of, named_step}
 use Rattle.node_runs.specs.Agreements.{Agrees}
 use Rattle.node_runs.specs.SentFrames.{IsFrame, IsIncoming}
 use Rattle.node_runs.specs.NodesKeep.{IsNodeOf}
-use Rattle.node_runs.proofs.Bools.{left-true, right-true, equal}
 use Rattle.node_runs.proofs.Stepping.{Leaves, leaves-steps}
-use Rattle.node_runs.proofs.Doing.{no-op}
 use Rattle.node_runs.proofs.Nodes.{node-with}
 use Rattle.node_runs.proofs.SettingUp.{given-procs}
 use Rattle.node_runs.proofs.Keeping.{IsMoved, begun-moved, gone_on-moved, answered-moved, failed-moved}
@@ -126,7 +126,7 @@ module _ (g : Given) (given_is : IsGiven g) (n : NodeState) (is : IsNodeOf g n) 
   event_of-happens : (what : What) (incoming : Incoming) → IsIncoming incoming → may_happen g n what incoming ≡ true → Happens (event_of g n what incoming)
   event_of-happens (Begin p) Incoming.Nothing frame may =
       let proc = procs p (left-true (has_program g p) _ may) in
-      let none = no-op (proc_of n p).doing (left-true (is_none (proc_of n p).doing) _ (right-true _ _ may)) in
+      let none = none-is (proc_of n p).doing (left-true (is_none (proc_of n p).doing) _ (right-true _ _ may)) in
       (begins g n p (g.asks p (proc_of n p).heard), refl, begins-happens p proc (g.asks p (proc_of n p).heard) (agrees-as p proc None none) (given_is.wants p (proc_of n p).heard (is.followed p proc).named))
   event_of-happens (Begin p) (Incoming.Frame m) frame may = absurd (cc)
   event_of-happens (Begin p) (Incoming.Gone number tick) frame may = absurd (cc)

@@ -1,6 +1,7 @@
 -- What the home of a node stays through a request, and what it tells of objects that it made.
 use Rattle.std.proofs.Common.{◌≡◌, ℕ, ◌+◌, Bool, true, false, List, Option, Some, None, refl, subst}
 use Rattle.std.specs.Prelude.{All}
+use Rattle.std.proofs.lemmas.Option.{same_Some}
 use Rattle.uid_names.specs.Names.{ProcName, ObjectName, IsName}
 use Rattle.uid_names.specs.declared.mode.Mode.{Mode}
 use Rattle.object_store.specs.declared.attributes.Attr.{Attr}
@@ -15,23 +16,12 @@ use Rattle.call_once.proofs.KeptCalls.{with_call-all, call_of-all}
 use Rattle.ring_messages.specs.Bodies.{Ask, Answer, body_of_answer}
 use Rattle.page_server.specs.Decisions.{decide, page_answer, write_answer, lock_answer, remove_answer, make_answer, is_granted, may_remove}
 use Rattle.page_server.specs.Serving.{HomeSide, serve_as, serve_of}
-use Rattle.page_server.proofs.Bounds.{either}
+use Rattle.page_server.proofs.Rising.{decided-node}
 use Rattle.node_runs.specs.SentFrames.{IsNamedBody}
-use Rattle.node_runs.proofs.Somes.{some-is}
 
 -- it stays that of its node
 abbrev IsAt : ℕ → HomeState → Type 0
 IsAt node home = home.node ≡ node
-
-decided-node : (home : HomeState) (locks : Table) (p : ProcName) (ask : Ask) → (decide home locks p ask).home.node ≡ home.node
-decided-node home locks p (Ask.PageIn u page) = refl
-decided-node home locks p (Ask.PageOut u page grant base bytes) = either (IsAt home.node) _ refl refl
-decided-node home locks p (Ask.AttrOut u n grant base) = either (IsAt home.node) _ refl refl
-decided-node home locks p (Ask.Lock u mode) = refl
-decided-node home locks p (Ask.Unlock u) = refl
-decided-node home locks p (Ask.Remove u) = either (IsAt home.node) _ refl refl
-decided-node home locks p (Ask.Make kind room) = either (IsAt home.node) _ refl refl
-decided-node home locks p (Ask.ListLocks after) = refl
 
 pub served-node : (side : HomeSide) (p : ProcName) (number : ℕ) (ask : Ask) → (serve_of side p number ask).side.home.node ≡ side.home.node
 served-node side p number ask = by (looked number (last_of p side.served))
@@ -86,7 +76,7 @@ AreNamed side = All (λ (call : Call Answer). IsNamedAnswer call.body) side.serv
 kept-named : (side : HomeSide) (p : ProcName) (found : Option (Call Answer)) (answer : Answer) → AreNamed side → call_of p side.served ≡ found → body_in found ≡ Some answer → IsNamedAnswer answer
 kept-named side p None answer all is told = absurd (cc)
 kept-named side p (Some call) answer all is told =
-    subst IsNamedAnswer (some-is call.body answer told) (call_of-all (λ (call : Call Answer). IsNamedAnswer call.body) side.served p call all is)
+    subst IsNamedAnswer (same_Some call.body answer told) (call_of-all (λ (call : Call Answer). IsNamedAnswer call.body) side.served p call all is)
 
 module _ (side : HomeSide) (p : ProcName) (number : ℕ) (ask : Ask) (named : AreNamed side) (next : IsName (record { counter = side.home.greatest + 1; home = side.home.node })) where
   pub served-named : AreNamed (serve_of side p number ask).side
@@ -102,6 +92,6 @@ module _ (side : HomeSide) (p : ProcName) (number : ℕ) (ask : Ask) (named : Ar
   told-named answer = by (looked number (last_of p side.served))
     where
       by : (how : Looked) → (serve_as how side p number ask).answer ≡ Some answer → IsNamedAnswer answer
-      by Fresh told = subst IsNamedAnswer (some-is (decide side.home side.locks p ask).answer answer told) (decided-named side.home side.locks p ask next)
+      by Fresh told = subst IsNamedAnswer (same_Some (decide side.home side.locks p ask).answer answer told) (decided-named side.home side.locks p ask next)
       by Again told = kept-named side p (call_of p side.served) answer named refl told
       by Old told = absurd (cc)

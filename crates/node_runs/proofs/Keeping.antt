@@ -3,12 +3,15 @@ use Rattle.std.proofs.Common.{◌≡◌, ◌≢◌, ℕ, Bool, true, false, [], 
 use Rattle.std.specs.Prelude.{◌&&◌, nat_le, IsTrue}
 use Rattle.std.specs.Option.{option_map}
 use Rattle.std.proofs.lemmas.Bool.Decides.{nat_tests}
+use Rattle.std.proofs.lemmas.Option.{same_Some}
 use Rattle.uid_names.specs.Names.{ObjectName, ProcName}
 use Rattle.uid_names.specs.Openings.{Start}
 use Rattle.uid_names.specs.Rooms.{IsRoom}
 use Rattle.uid_names.specs.Steps.{◌>>=◌}
 use Rattle.uid_names.specs.declared.mode.ObjKind.{ObjKind}
 use Rattle.uid_names.proofs.InOrder.{AllPairs-nil}
+use Rattle.uid_names.proofs.Passed.{left-true}
+use Rattle.uid_names.proofs.Somes.{bind-some, map-some}
 use Rattle.dom_history.specs.declared.op.Op.{Op}
 use Rattle.dom_history.specs.declared.op.Op.TheVariants as ops
 use Rattle.dom_history.specs.declared.op.Reply.{Reply}
@@ -48,8 +51,6 @@ use Rattle.desk_laws.proofs.Leaving.{IsLeft, comes_of-left}
 use Rattle.node_runs.specs.Operations.{new_by, list_by, begun, gone_on, Said, said_to_new, said_to_list, said_to_lock, said_to_call, said_by, said_of, answered, access_failed, call_failed, failed}
 use Rattle.node_runs.specs.Agreements.{IsCallOpen, IsCalling, IsWaiting}
 use Rattle.node_runs.specs.SentFrames.{IsNamedBody}
-use Rattle.node_runs.proofs.Bools.{left-true}
-use Rattle.node_runs.proofs.Somes.{some-is, map-some, bind-some}
 
 -- what the desk is for a process whose operation came to this
 abbrev pub AfterTurn : DeskState → ℕ → Op → Turn → Type 0
@@ -207,14 +208,14 @@ module _ (d : DeskState) (p : ℕ) (is : IsDesk d) (proc : IsProc p) where
   -- an answer that says something came to a New or a List
   new-answered : (home : ℕ) (kind : ObjKind) (room : ℕ) (x : Answer) (said : Said) → IsIdle d p → IsNamedBody (body_of_answer x) → said_to_new x ≡ Some said → Holds p (IsMoved d p (ops.New home kind room)) (answered d p said)
   new-answered home kind room (Answer.Made u) said idle named says =
-      subst (λ s. Holds p (IsMoved d p (ops.New home kind room)) (answered d p s)) (some-is (Said.Replies (replies.Made u)) said says) (ended-moved d p (ops.New home kind room) (replies.Made u) is idle tt named)
+      subst (λ s. Holds p (IsMoved d p (ops.New home kind room)) (answered d p s)) (same_Some (Said.Replies (replies.Made u)) said says) (ended-moved d p (ops.New home kind room) (replies.Made u) is idle tt named)
   new-answered home kind room Answer.NoSpace said idle named says =
-      subst (λ s. Holds p (IsMoved d p (ops.New home kind room)) (answered d p s)) (some-is (Said.Replies replies.NoSpace) said says) (ended-moved d p (ops.New home kind room) replies.NoSpace is idle tt tt)
+      subst (λ s. Holds p (IsMoved d p (ops.New home kind room)) (answered d p s)) (same_Some (Said.Replies replies.NoSpace) said says) (ended-moved d p (ops.New home kind room) replies.NoSpace is idle tt tt)
   new-answered home kind room x said idle named says = absurd (cc)
 
   list-answered : (home : ℕ) (after : Option (ObjectName × ProcName)) (x : Answer) (said : Said) → IsIdle d p → IsBody d.node (body_of_answer x) → said_to_list x ≡ Some said → Holds p (IsMoved d p (ops.List home after)) (answered d p said)
   list-answered home after (Answer.Listed rows more) said idle range says =
-      subst (λ s. Holds p (IsMoved d p (ops.List home after)) (answered d p s)) (some-is (Said.Replies (replies.Locks rows more)) said says) (ended-moved d p (ops.List home after) (replies.Locks rows more) is idle range.0 tt)
+      subst (λ s. Holds p (IsMoved d p (ops.List home after)) (answered d p s)) (same_Some (Said.Replies (replies.Locks rows more)) said says) (ended-moved d p (ops.List home after) (replies.Locks rows more) is idle range.0 tt)
   list-answered home after x said idle range says = absurd (cc)
 
   -- which call it is that is none of a lock, an unlock or a removal

@@ -1,5 +1,4 @@
-pub mod Bools
-pub mod Somes
+pub mod EachOf
 pub mod MakingRoom
 pub mod Stepping
 pub mod Doing

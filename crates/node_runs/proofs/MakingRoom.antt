@@ -3,6 +3,7 @@ use Rattle.std.proofs.Common.{◌≡◌, ℕ, Bool, true, false, List, [], ◌�
 use Rattle.std.specs.Prelude.{◌==◌, ◌&&◌}
 use Rattle.std.specs.Option.{option_map}
 use Rattle.std.proofs.lemmas.Bool.Decides.{nat_tests}
+use Rattle.std.proofs.lemmas.Option.{same_Some}
 use Rattle.uid_names.specs.Names.{ObjectName, same_uid}
 use Rattle.page_cache.specs.Caches.{Resident}
 use Rattle.page_cache.specs.Victims.{oldest}
@@ -13,8 +14,8 @@ use Rattle.fault_handler.specs.Victims.{Victim, is_idle_clean, is_idle_dirty, is
 use Rattle.fault_handler.specs.Accesses.{Accessed, Always, room_made}
 use Rattle.node_runs.specs.Rooms.{same_pages, drops_if, sent_home, victim_by, moved_if, moved_by, MayMove}
 use Rattle.uid_names.proofs.Orders.{same_uid_is}
-use Rattle.node_runs.proofs.Bools.{left-true, right-true, equal}
-use Rattle.node_runs.proofs.Somes.{some-is, map-some}
+use Rattle.uid_names.proofs.Passed.{left-true, right-true, equal}
+use Rattle.uid_names.proofs.Somes.{map-some}
 
 same_page-refl : (x : ObjectName × ℕ) → (same_uid x.0 x.0 && (x.1 == x.1)) ≡ true
 same_page-refl x = grind (arith, nat_tests)
@@ -37,12 +38,12 @@ same_pages-is (x ∷ xs) (y ∷ ys) h =
 
 module _ (d : DeskState) (v : Victim) where
   by-drop : (b : Bool) (u : ObjectName) (k : ℕ) → is_idle_page d u k ≡ b → drops_if b u k ≡ Some v → MayMakeRoom d v
-  by-drop true u k idle e = subst (MayMakeRoom d) (some-is (Victim.Drops u k) v e) idle
+  by-drop true u k idle e = subst (MayMakeRoom d) (same_Some (Victim.Drops u k) v e) idle
   by-drop false u k idle e = absurd (cc)
 
   by-send : (clean dirty : Option Resident) → oldest (is_idle_clean d.moving) d.cache.pages ≡ clean → oldest (is_idle_dirty d.moving) d.cache.pages ≡ dirty → sent_home clean dirty ≡ Some v → MayMakeRoom d v
   by-send None None a b e = absurd (cc)
-  by-send None (Some r) a b e = subst (MayMakeRoom d) (some-is (Victim.SendsHome r) v e) (a, b)
+  by-send None (Some r) a b e = subst (MayMakeRoom d) (same_Some (Victim.SendsHome r) v e) (a, b)
   by-send (Some r) dirty a b e = absurd (cc)
 
   -- what the dropped pages say may be
@@ -53,12 +54,12 @@ module _ (d : DeskState) (v : Victim) where
 
   module _ (p : ℕ) (task : Task) where
     drop-same : (b : Bool) (x : ObjectName × ℕ) → drops_if b x.0 x.1 ≡ Some v → same_pages (x ∷ []) (room_made d p task v).dropped ≡ true
-    drop-same true x e = subst (λ (w : Victim). same_pages (x ∷ []) (room_made d p task w).dropped ≡ true) (some-is (Victim.Drops x.0 x.1) v e) (same_pages-refl (x ∷ []))
+    drop-same true x e = subst (λ (w : Victim). same_pages (x ∷ []) (room_made d p task w).dropped ≡ true) (same_Some (Victim.Drops x.0 x.1) v e) (same_pages-refl (x ∷ []))
     drop-same false x e = absurd (cc)
 
     send-same : (clean dirty : Option Resident) → sent_home clean dirty ≡ Some v → same_pages [] (room_made d p task v).dropped ≡ true
     send-same None None e = absurd (cc)
-    send-same None (Some r) e = subst (λ (w : Victim). same_pages [] (room_made d p task w).dropped ≡ true) (some-is (Victim.SendsHome r) v e) refl
+    send-same None (Some r) e = subst (λ (w : Victim). same_pages [] (room_made d p task w).dropped ≡ true) (same_Some (Victim.SendsHome r) v e) refl
     send-same (Some r) dirty e = absurd (cc)
 
     -- they are dropped then
@@ -73,7 +74,7 @@ victim_by-named d p task (Victim.Drops u k) may = ap (λ b. drops_if b u k) may
 victim_by-named d p task (Victim.SendsHome r) may = ap (λ o. sent_home o (oldest (is_idle_dirty d.moving) d.cache.pages)) may.0 ∙ ap (λ o. sent_home None o) may.1
 
 moved_if-is : (b : Bool) (settled m : Moved) → moved_if b settled ≡ Some m → (b ≡ true) × (m ≡ settled)
-moved_if-is true settled m e = (refl, sym (some-is settled m e))
+moved_if-is true settled m e = (refl, sym (same_Some settled m e))
 moved_if-is false settled m e = absurd (cc)
 
 -- what comes out where these pages are dropped may come out, and drops them

@@ -3,6 +3,7 @@ use Rattle.std.proofs.Common.{◌≡◌, ◌≢◌, ℕ, ◌+◌, Bool, true, fa
 use Rattle.std.specs.Prelude.{◌≤◌, ◌<◌, ◌==◌, ◌&&◌, IsTrue}
 use Rattle.std.proofs.lemmas.Bool.Decides.{nat_tests}
 use Rattle.std.proofs.lemmas.List.Elements.{All-cons}
+use Rattle.std.proofs.lemmas.Option.{same_Some}
 use Rattle.uid_names.proofs.InOrder.{AllPairs-nil}
 use Rattle.dom_history.specs.Events.{ArePagesRising, page_lt, AreEffects}
 use Rattle.dom_history.specs.Programs.{FitsWant}
@@ -46,7 +47,6 @@ use Rattle.node_runs.specs.Agreements.{Agrees}
 use Rattle.node_runs.specs.Following.{IsWanted, AreFitting, IsFollowed}
 use Rattle.node_runs.specs.SentFrames.{IsNamedBody, IsFrame, IsIncoming}
 use Rattle.node_runs.specs.NodesKeep.{IsOwnDesk, IsNodeOf}
-use Rattle.node_runs.proofs.Somes.{some-is}
 use Rattle.node_runs.proofs.MakingRoom.{always-may}
 use Rattle.node_runs.proofs.Homes.{served-node}
 use Rattle.node_runs.proofs.Untouching.{Agrees-untouched}
@@ -157,7 +157,7 @@ module _ (g : Given) (n : NodeState) (is : IsNodeOf g n) (late : 1 ≤ n.tick) (
   resumed-keeps o u k accessed to doing goes may =
       let agrees = agrees-as (waiting o u k) doing in
       let found = gone_on-moved n.desk p is.desk proc o.op agrees.0 agrees.1 in
-      let holds : Holds p (IsMoved n.desk p o.op) accessed = subst (Holds p (IsMoved n.desk p o.op)) (some-is found.0 accessed (sym found.1 ∙ goes)) found.2 in
+      let holds : Holds p (IsMoved n.desk p o.op) accessed = subst (Holds p (IsMoved n.desk p o.op)) (same_Some found.0 accessed (sym found.1 ∙ goes)) found.2 in
       moved-keeps o Stage.Resumes to agrees.0 (wants-as o (Await.Page u k) doing) (one-way p (IsMoved n.desk p o.op) accessed to holds may)
 
   heard-keeps : (o : BegunOp) (c : Asked) (stage : Stage) (body : Body) (said : Said) (to : Moved) → (proc_of n p).doing ≡ asking o c → IsBody n.desk.node body → IsNamedBody body
@@ -186,7 +186,7 @@ module _ (g : Given) (n : NodeState) (is : IsNodeOf g n) (late : 1 ≤ n.tick) (
   gave_up-keeps o c stage into doing fails =
       let agrees = agrees-as (asking o c) doing in
       let found = failed-moved n.desk p is.desk proc o.op c.ask agrees.1.0 in
-      moved-keeps o stage into agrees.0 (wants-as o (Await.Answer c) doing) (subst (IsMoved n.desk p o.op) (some-is found.0 into (sym found.1 ∙ fails)) found.2)
+      moved-keeps o stage into agrees.0 (wants-as o (Await.Answer c) doing) (subst (IsMoved n.desk p o.op) (same_Some found.0 into (sym found.1 ∙ fails)) found.2)
 
 -- a request
 module _ (g : Given) (n : NodeState) (is : IsNodeOf g n) (late : 1 ≤ n.tick) (m : Message) (frame : IsFrame m) (receiver : m.to ≡ g.number) (ask : Ask) (asks : ask_of m.body ≡ Some ask) where

@@ -2,7 +2,9 @@
 use Rattle.std.proofs.Common.{◌≡◌, ℕ, Bool, true, false, List, Some, refl, sym, ap, subst, ◌∙◌}
 use Rattle.uid_names.specs.Names.{ObjectName}
 use Rattle.uid_names.specs.Steps.{◌>>=◌}
+use Rattle.uid_names.proofs.Somes.{bind-some, map-some}
 use Rattle.std.specs.Option.{option_map}
+use Rattle.std.proofs.lemmas.Option.{same_Some}
 use Rattle.dom_history.specs.declared.event.What.{What}
 use Rattle.fault_handler.specs.declared.tasks.Task.{Task}
 use Rattle.fault_handler.specs.Desks.{DeskState}
@@ -16,7 +18,6 @@ use Rattle.node_runs.specs.Outcomes.{Stepped, Stage, moved}
 use Rattle.node_runs.specs.Doings.{Doing, event_of, ticked}
 use Rattle.node_runs.specs.Rooms.{same_pages, moved_by, MayMove}
 use Rattle.node_runs.specs.Steps.{stepped_if, stepped_by, step_if, step_of}
-use Rattle.node_runs.proofs.Somes.{some-is, map-some, bind-some}
 use Rattle.node_runs.proofs.MakingRoom.{same_pages-refl, moved_by-may, may-moved_by}
 
 -- what an event may leave
@@ -32,7 +33,7 @@ pub record IsStep (g : Given) (n : NodeState) (what : What) (incoming : Incoming
   pub drops : same_pages dropped s.effects.dropped ≡ true
 
 stepped_if-is : (b : Bool) (done s : Stepped) → stepped_if b done ≡ Some s → (b ≡ true) × (s ≡ done)
-stepped_if-is true done s e = (refl, sym (some-is done s e))
+stepped_if-is true done s e = (refl, sym (same_Some done s e))
 stepped_if-is false done s e = absurd (cc)
 
 stepped_by-is : (g : Given) (n : NodeState) (dropped : List (ObjectName × ℕ)) (event : Doing) (s : Stepped) → stepped_by g n dropped event ≡ Some s
@@ -86,5 +87,5 @@ pub steps-room : (g : Given) (n : NodeState) (what : What) (incoming : Incoming)
 steps-room g n what incoming dropped s p o stage d task comes e =
     let is = step_of-is g n what incoming dropped s e in
     let left : Leaves g (ticked n incoming) (Doing.Moves p o stage (Accessed.NeedsRoom d task)) s =
-    subst (λ x. Leaves g (ticked n incoming) x s) (some-is is.event (Doing.Moves p o stage (Accessed.NeedsRoom d task)) (sym is.comes ∙ comes)) is.leaves in
+    subst (λ x. Leaves g (ticked n incoming) x s) (same_Some is.event (Doing.Moves p o stage (Accessed.NeedsRoom d task)) (sym is.comes ∙ comes)) is.leaves in
     (left.1.0, left.1.1, left.2 ∙ ap (moved g (ticked n incoming) p o stage) left.1.2)

@@ -13,7 +13,7 @@ use Rattle.node_runs.specs.Dones.{Did, paused, finished, began, resumed, served,
 use Rattle.node_runs.specs.Steps.{step_of}
 use Rattle.node_runs.proofs.Doing.{step_of-did}
 
-turned-tick : (g : Given) (n : NodeState) (p : ℕ) (o : BegunOp) (stage : Stage) (turn : Turn) → (turned g n p o stage turn).node.tick ≡ n.tick
+pub turned-tick : (g : Given) (n : NodeState) (p : ℕ) (o : BegunOp) (stage : Stage) (turn : Turn) → (turned g n p o stage turn).node.tick ≡ n.tick
 turned-tick g n p o stage (Turn.Ends reply) = refl
 turned-tick g n p o stage (Turn.Asks home ask) = refl
 turned-tick g n p o stage (Turn.Waits u k) = refl
@@ -43,3 +43,8 @@ did-tick g n what incoming s (marked from phase tick may) = in_next_phase-tick _
 pub step_of-tick : (g : Given) (n : NodeState) (what : What) (incoming : Incoming) (dropped : List (ObjectName × ℕ)) (s : Stepped)
     → step_of g n what incoming dropped ≡ Some s → s.node.tick ≡ max n.tick (tick_of incoming) + 1
 step_of-tick g n what incoming dropped s e = did-tick g (ticked n incoming) what incoming s (step_of-did g n what incoming dropped s e)
+
+-- the next phase begins with the same processes
+pub next-procs : (b : Bool) (n : NodeState) → (in_next_phase b n).procs ≡ n.procs
+next-procs true n = refl
+next-procs false n = refl

@@ -8,9 +8,9 @@ use Rattle.node_runs.specs.NodeStates.{NodeState, first_node}
 use Rattle.node_runs.specs.NodesKeep.{IsCounted}
 use Rattle.node_runs.proofs.Counts.{first-counted, step_of-counted}
 use Rattle.uid_names.specs.declared.ids.Place.{Place}
+use Rattle.uid_names.proofs.Somes.{map-some}
 use Rattle.std.specs.Option.{option_map}
 use Rattle.dom_history.specs.Events.{Happening}
-use Rattle.node_runs.proofs.Somes.{map-some}
 use Rattle.dom_history.specs.Objects.{is_node}
 use Rattle.node_runs.specs.Setups.{Setup, IsSetup, given}
 use Rattle.node_runs.specs.Incomings.{Incoming}

@@ -17,7 +17,7 @@ in_place j Pass = j ∷ []
 in_place j (Twice n) = j ∷ []
 in_place j _ = []
 
--- a copy of frame i falls behind frame j
+-- a copy of frame i falls behind frame j; where that is behind no later frame, behind itself
 abbrev pub falls_behind : ℕ → ℕ → Fate → Bool
 falls_behind i j (Twice n) = i + n == j
 falls_behind i j (Late n) = i + n == j
@@ -35,7 +35,7 @@ copies fate j (suc i) = copies fate j i ++ copy_if (falls_behind (suc i) j (fate
 -- the delivery list of a link on which so many frames were sent
 abbrev pub deliveries : (ℕ → Fate) → ℕ → List ℕ
 deliveries fate zero = []
-deliveries fate (suc j) = deliveries fate j ++ (in_place (suc j) (fate (suc j)) ++ copies fate (suc j) j)
+deliveries fate (suc j) = deliveries fate j ++ (in_place (suc j) (fate (suc j)) ++ copies fate (suc j) (suc j))
 
 -- the frame that the event takes, if it is on this link
 abbrev pub taken_on : ℕ → ℕ → ℕ → What → List ℕ

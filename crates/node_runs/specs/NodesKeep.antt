@@ -1,17 +1,18 @@
 -- What each node keeps, wherever its events led.
-use Rattle.std.specs.Prelude.{◌≡◌, ℕ, ◌≤◌, ◌^◌, Some, List, length}
+use Rattle.std.specs.Prelude.{◌≡◌, ℕ, ◌≤◌, ◌^◌, true, Some, List, ◌∷◌, length}
 use Rattle.uid_names.specs.Names.{ObjectName}
 use Rattle.uid_names.specs.declared.limits.TheConstants.{NODE_PROCESSES}
 use Rattle.dom_history.specs.declared.event.What.{What}
+use Rattle.dom_history.specs.Objects.{is_node}
 use Rattle.page_server.specs.ServerStates.{IsSide, IsCountedTo}
 use Rattle.fault_handler.specs.Desks.{DeskState}
 use Rattle.fault_handler.specs.Invariant.{IsProc, IsDesk}
-use Rattle.node_runs.specs.Setups.{Given}
+use Rattle.node_runs.specs.Setups.{Given, Setup, IsSetup}
 use Rattle.node_runs.specs.NodeStates.{NodeState, first_node, proc_of, emitted_to}
 use Rattle.node_runs.specs.Incomings.{Incoming}
 use Rattle.node_runs.specs.Outcomes.{Stepped}
 use Rattle.node_runs.specs.Steps.{step_of}
-use Rattle.node_runs.specs.Runs.{World}
+use Rattle.node_runs.specs.Runs.{Choice, World, world_after}
 use Rattle.node_runs.specs.Agreements.{Agrees}
 use Rattle.node_runs.specs.Following.{IsFollowed}
 use Rattle.node_runs.specs.SentFrames.{IsIncoming}
@@ -48,3 +49,16 @@ pub data Reached (g : Given) : NodeState → Type 0 where
 -- no tick is above the greatest one, at which nodes end
 abbrev pub IsTimely : World → Type 0
 IsTimely w = (n : ℕ) → (w.nodes n).tick ≤ 2 ^ 40
+
+-- it holds in every run in which no tick is above that
+abbrev pub InEveryRun : (Setup → World → Type 0) → Type 0
+InEveryRun P = (s : Setup) → IsSetup s → (cs : List Choice) (w : World) → world_after s cs ≡ Some w → IsTimely w → P s w
+
+-- and of each node
+abbrev pub AtEveryNode : (NodeState → Type 0) → Type 0
+AtEveryNode P = InEveryRun (λ s w. (n : ℕ) → is_node s.opening n ≡ true → P (w.nodes n))
+
+-- it holds of the worlds before and after each event of such a run
+abbrev pub AtEveryEvent : (World → World → Type 0) → Type 0
+AtEveryEvent P =
+    (s : Setup) → IsSetup s → (cs : List Choice) (c : Choice) (old new : World) → world_after s cs ≡ Some old → world_after s (c ∷ cs) ≡ Some new → IsTimely old → P old new

@@ -19,7 +19,7 @@ ghost use Rattle.node_runs.specs.Alikes.{AreAlikeGiven, AreAlike, AreAlikeSteps}
 ghost use Rattle.node_runs.specs.Doings.{Doing, event_of, ticked};
 ghost use Rattle.node_runs.specs.Dones.{Did};
 ghost use Rattle.node_runs.specs.SentFrames.{IsIncoming, AreFrames};
-ghost use Rattle.node_runs.specs.NodesKeep.{IsNodeOf, IsCounted, Reached, IsTimely};
+ghost use Rattle.node_runs.specs.NodesKeep.{IsNodeOf, IsCounted, Reached, IsTimely, InEveryRun};
 ghost use Rattle.node_runs.specs.Runs.{IsRun, Choice, World, world_after, world_of, AreRising};
 ghost use Rattle.node_runs.specs.CallsKeep.{HasProcs, EachOf, AreCalls};
 ghost use Rattle.node_runs.specs.DecidedCalls.{AreDecisions};
@@ -121,8 +121,8 @@ pub fn each_reached_node_agrees_with_its_desk()
 pub fn each_node_of_a_run_agrees_with_its_desk()
     ensures nodes { (s : Setup) → IsSetup s → (cs : List Choice) (w : World) → world_after s cs ≡ Some w → IsTimely w →
         (n : ℕ) → is_node s.opening n ≡ true → IsNodeOf (given s n) (w.nodes n) }
-    ensures frames { (s : Setup) → IsSetup s → (cs : List Choice) (w : World) → world_after s cs ≡ Some w → IsTimely w → AreFrames w }
-    ensures events { (s : Setup) → IsSetup s → (cs : List Choice) (w : World) → world_after s cs ≡ Some w → IsTimely w → EachOf IsEvent w.done }
+    ensures frames { InEveryRun (λ s w. AreFrames w) }
+    ensures events { InEveryRun (λ s w. EachOf IsEvent w.done) }
 {}
 
 /// In every run, whatever becomes of frames: each request on a link is of a call of its process, so that one number

@@ -5,23 +5,18 @@ ghost use Rattle.script_reader.specs.Scripts.{IsContent};
 ghost use Rattle.node_walks.specs.Beginners.{AreBeginners};
 
 use aegis_shell::Shell;
+use anyhow::{Result, bail};
 use node_core::{Node, NodeSetup};
 use page_store::ListPages;
 use script_reader::Script;
 use std::alloc::Global;
-use std::test::Fail;
 use uid_names::{NodeId, ProcId};
 
-/// A node under test.
+/// A node whose processes are shells.
 pub(crate) type ShellNode = Node<Shell, ListPages>;
 
 /// Adds the program of a process, if it has commands.
-fn add(
-    alloc: Global,
-    script: &Script,
-    proc: ProcId,
-    programs: &mut Vec<(u8, Shell)>,
-) -> Result<(), Fail>
+fn add(alloc: Global, script: &Script, proc: ProcId, programs: &mut Vec<(u8, Shell)>) -> Result<()>
     requires number { IsProcNumber proc.number }
     requires before { AreBeginners proc.number programs.old.items }
     ensures { OnOk result (AreBeginners (proc.number + 1) programs.new.items) }
@@ -33,25 +28,29 @@ fn add(
 }
 
 /// The programs of a node.
-fn programs(alloc: Global, script: &Script, node: NodeId) -> Result<Vec<(u8, Shell)>, Fail>
+fn programs(alloc: Global, script: &Script, node: NodeId) -> Result<Vec<(u8, Shell)>>
     ensures { IfOk result (λ programs. AreBeginners 5 programs.items) }
 {
     let mut programs = Vec::new(alloc);
     for number in 1..5 {
-        let proc = ProcId::new(node, number).ok_or("no such process")?;
+        let Some(proc) = ProcId::new(node, number) else {
+            bail!("no such process");
+        };
         add(alloc, script, proc, &mut programs)?;
     }
     Ok(programs)
 }
 
 /// A node at the start.
-fn node(alloc: Global, script: &Script, number: u8, frames: u16) -> Result<ShellNode, Fail>
+fn node(alloc: Global, script: &Script, number: u8, frames: u16) -> Result<ShellNode>
     requires content { IsContent script.now }
     requires number { number ≤ script.now.opening.nodes }
     requires few { 5 ≤ frames }
     requires many { frames ≤ 256 }
 {
-    let node = NodeId::new(number).ok_or("no such node")?;
+    let Some(node) = NodeId::new(number) else {
+        bail!("no such node");
+    };
     let opening = script.opening();
     let setup = NodeSetup {
         node,
@@ -64,7 +63,7 @@ fn node(alloc: Global, script: &Script, number: u8, frames: u16) -> Result<Shell
 }
 
 /// All nodes of a script, by number.
-pub(crate) fn nodes(alloc: Global, script: &Script) -> Result<Vec<ShellNode>, Fail> {
+pub(crate) fn nodes(alloc: Global, script: &Script) -> Result<Vec<ShellNode>> {
     let mut nodes = Vec::new(alloc);
     for (i, row) in script.nodes().iter().enumerate() {
         nodes.push(node(alloc, script, i as u8 + 1, row.frames)?)?;

@@ -1,20 +1,25 @@
 //! Plays a journal at the nodes of its script, event by event.
+use crate::case::Case;
 use crate::nodes::{ShellNode, nodes};
+use anyhow::Result;
 use dom_history::{Event, EventList, NodeNames, What};
 use journal_text::read_journal;
 use node_core::{Emitted, Incoming};
 use ring_messages::{Frame, read, write};
 use script_reader::{Script, read_script};
 use std::alloc::Global;
-use std::test::Fail;
 use uid_names::{ByteList, NoMemory, NodeId};
 
-/// A script, a journal of it up to the end of its last phase, and what its processes answered.
-pub(crate) struct Row {
-    pub(crate) name: &'static str,
-    pub(crate) script: &'static str,
-    pub(crate) journal: &'static str,
-    pub(crate) report: &'static str,
+/// What was found of a case.
+#[derive(Clone, Copy)]
+pub(crate) enum Found {
+    AsSaid,
+    /// The event of this tick was not enabled, or did something else.
+    Event(u64),
+    /// A node has not ended.
+    End,
+    /// The processes answered something else.
+    Answers,
 }
 
 /// A frame that was sent, as bytes, with its index on its link, its number and its tick.
@@ -58,7 +63,7 @@ impl Play {
     }
 
     /// What an event at a node receives. Where nothing of that kind was sent it receives nothing, and is not enabled.
-    fn incoming(&self, at: NodeId, what: What) -> Result<Incoming, Fail> {
+    fn incoming(&self, at: NodeId, what: What) -> Result<Incoming> {
         Ok(match what {
             What::Take(from, index) => match self.frame(from, at, index) {
                 Some(frame) => Incoming::Frame(read(self.alloc, frame.bytes.bytes())?),
@@ -92,7 +97,7 @@ impl Play {
     }
 
     /// Does an event; whether it was enabled and did what was written of it.
-    fn step(&mut self, event: &Event) -> Result<bool, Fail> {
+    fn step(&mut self, event: &Event) -> Result<bool> {
         let at = event.place().node;
         let incoming = self.incoming(at, event.what())?;
         let number = usize::from(at.number());
@@ -168,7 +173,7 @@ fn is_same(a: &Event, b: &Event) -> bool {
         && left.dropped.items() == right.dropped.items()
 }
 
-/// The names of the nodes of each row, as far as it has them.
+/// The names of the nodes of each case, as far as it has them.
 fn names(alloc: Global) -> Result<NodeNames, NoMemory> {
     let a = ByteList::from_slice(alloc, b"a")?;
     let b = ByteList::from_slice(alloc, b"b")?;
@@ -190,18 +195,18 @@ fn tell(alloc: Global, name: &str, node: ShellNode, report: &mut ByteList) -> Re
 }
 
 /// The nodes of a script at the start.
-fn begun(alloc: Global, script: &Script) -> Result<Play, Fail> {
+fn begun(alloc: Global, script: &Script) -> Result<Play> {
     Ok(Play::new(alloc, nodes(alloc, script)?))
 }
 
 /// The events of a journal.
-fn events(alloc: Global, journal: &str) -> Result<EventList, Fail> {
+fn events(alloc: Global, journal: &[u8]) -> Result<EventList> {
     let names = names(alloc)?;
-    Ok(read_journal(alloc, journal.as_bytes(), &names)?)
+    Ok(read_journal(alloc, journal, &names)?)
 }
 
 /// Does events; the tick of the first that was not enabled, or did something else.
-fn first_wrong(play: &mut Play, events: &[Event]) -> Result<Option<u64>, Fail> {
+fn first_wrong(play: &mut Play, events: &[Event]) -> Result<Option<u64>> {
     for event in events {
         if !play.step(event)? {
             return Ok(Some(event.place().tick));
@@ -210,24 +215,28 @@ fn first_wrong(play: &mut Play, events: &[Event]) -> Result<Option<u64>, Fail> {
     Ok(None)
 }
 
-/// Whether each node has ended, and the processes answered this.
-fn is_over(play: Play, phases: u32, report: &str) -> Result<bool, NoMemory> {
-    let has_ended = play.has_ended(phases);
+/// What is found behind the last event.
+fn found_at_end(play: Play, phases: u32, report: &[u8]) -> Result<Found, NoMemory> {
+    if !play.has_ended(phases) {
+        return Ok(Found::End);
+    }
     let told = play.report()?;
-    Ok(has_ended && told.bytes() == report.as_bytes())
+    Ok(if told.bytes() == report {
+        Found::AsSaid
+    } else {
+        Found::Answers
+    })
 }
 
-/// Plays a row.
-pub(crate) fn play_row(alloc: Global, row: &Row) -> Result<(), Fail> {
-    let script = read_script(alloc, row.script.as_bytes())?;
+/// Plays a case; what was found of it, and how many events its journal has.
+pub(crate) fn play_case(alloc: Global, case: &Case) -> Result<(Found, u64)> {
+    let script = read_script(alloc, case.script.bytes())?;
     let mut play = begun(alloc, &script)?;
-    let phases = script.phases();
-    let events = events(alloc, row.journal)?;
+    let events = events(alloc, case.journal.bytes())?;
+    let count = events.items().len() as u64;
     if let Some(tick) = first_wrong(&mut play, events.items())? {
-        return Err(Fail::new(format_args!("{}: not so at tick {tick}", row.name)));
+        return Ok((Found::Event(tick), count));
     }
-    if !is_over(play, phases, row.report)? {
-        return Err(Fail::new(format_args!("{}: not the end", row.name)));
-    }
-    Ok(())
+    let found = found_at_end(play, script.phases(), case.report.bytes())?;
+    Ok((found, count))
 }

@@ -10,6 +10,7 @@ use Rattle.std.specs.declared.cmp.Ordering.TheVariants.{Less, Equal, Greater}
 use Rattle.std.proofs.lemmas.Bool.{eqb-true, eq-eqb}
 use Rattle.std.proofs.lemmas.Bool.Decides.{nat_tests}
 use Rattle.std.proofs.lemmas.List.Sums.{sum_by-cons}
+use Rattle.uid_names.proofs.Passed.{eqb-sym}
 use Rattle.object_store.specs.declared.attributes.Attr.{Attr}
 use Rattle.object_store.specs.declared.attributes.ObjectRow.{ObjectRow}
 use Rattle.object_store.specs.Objects.{attr_at, room_of, rooms, with_change, changed_if, without_row}
@@ -250,10 +251,6 @@ rooms-without_row-le counter (row ∷ rest) =
       | false ↦ omega (arith, sum_by-cons (λ (r : ObjectRow). r.attr.room) row rest, sum_by-cons (λ (r : ObjectRow). r.attr.room) row (without_row counter rest))
     ]
 
--- an equality test reads either way
-turned : (a b : ℕ) → (a == b) ≡ (b == a)
-turned a b = grind (arith, nat_tests)
-
 -- a first row that is not of the object stays before what is found of it
 beside : (counter q r : ℕ) (s a o o' : Option Attr) → (r == counter) ≡ false → o ≡ (if q == counter then s else o')
     → (if r == q then a else o) ≡ (if q == counter then s else (if r == q then a else o'))
@@ -299,7 +296,7 @@ attr_at-without_row counter q (row ∷ rest) =
 -- what is found after a making
 pub attr_at-push : (greatest q : ℕ) (rows : List ObjectRow) (row : ObjectRow) → AreRowsUpTo greatest rows → greatest < row.counter
     → attr_at (rows ++ row ∷ []) q ≡ (if q == row.counter then Some row.attr else attr_at rows q)
-attr_at-push greatest q [] row within lt = ap (λ (b : Bool). if b then Some row.attr else None) (turned row.counter q)
+attr_at-push greatest q [] row within lt = ap (λ (b : Bool). if b then Some row.attr else None) (eqb-sym row.counter q)
 attr_at-push greatest q (r ∷ rows) row within lt =
     let first : r.counter ≤ greatest = within.0 in
     beside row.counter q r.counter (Some row.attr) (Some r.attr) _ _ (before r.counter row.counter (omega arith)) (attr_at-push greatest q rows row within.2 lt)

@@ -6,8 +6,6 @@ pub mod homes;
 pub mod laws;
 pub mod refusals;
 mod rows;
-#[cfg(test)]
-mod tests;
 
 pub use attributes::Attr;
 pub use homes::Home;

@@ -1,7 +1,7 @@
 -- The cache that its parts stand for, and what each change keeps of them.
-use Rattle.std.proofs.Common.{◌≡◌, ◌≢◌, ℕ, suc, ◌-◌, ◌<◌, ◌≤◌, Bool, true, false, not, List, [], ◌∷◌, map, filter, length, Option, Some, None, is_some, IsSome, count_by, IfSome, IfNone, ◌↔◌, inl, inr, refl, sym, ap, ◌∙◌, arith, subst}
+use Rattle.std.proofs.Common.{◌≡◌, ◌≢◌, ℕ, suc, ◌-◌, ◌<◌, ◌≤◌, Bool, false, not, List, [], ◌∷◌, map, filter, length, Option, Some, None, is_some, IsSome, count_by, IfSome, IfNone, ◌↔◌, inl, inr, refl, sym, ap, ◌∙◌, arith, subst}
 use Rattle.std.proofs.lemmas.Bool.Decides.{nat_tests}
-use Rattle.std.proofs.lemmas.Bool.{cases_eq}
+use Rattle.std.proofs.lemmas.Bool.{cases_eq, not-true}
 use Rattle.std.proofs.lemmas.List.{length-map}
 use Rattle.std.specs.List.{find}
 use Rattle.std.specs.Option.{option_map}
@@ -11,17 +11,19 @@ use Rattle.std.specs.Map.{lookup}
 use Rattle.uid_names.specs.Names.{ObjectName}
 use Rattle.page_frames.specs.declared.frame.Flags.{Flags}
 use Rattle.page_frames.specs.declared.frame.TheConstants.{FEWEST_FRAMES, MOST_FRAMES}
-use Rattle.page_frames.specs.Pools.{Frame, Pool, IsTaken, frame_at, frame_in, no_flags, with_frame, without_frame}
+use Rattle.page_frames.specs.Pools.{Frame, Pool, IsTaken, frame_at, frame_in, with_frame, without_frame}
 use Rattle.page_frames.specs.Pools as frames
 use Rattle.page_frames.proofs.FrameLemmas.{frame_at-with_frame-same, frame_at-with_frame-other, frame_at-without_frame-other, len-with_frame-free, len-with_frame-taken, len-without_frame}
+use Rattle.page_frames.proofs.PoolLemmas.{some_mapped}
 use Rattle.page_cache.specs.declared.slots.PageName.{PageName}
 use Rattle.page_cache.specs.Caches.{Resident, Cached, IsCache, IsFrame, is_of, is_page, is_in, page_at, page_in}
 use Rattle.page_cache.specs.Changes.{changed_if, changed_in, without_page, without_object, spliced, with_flags, with_bytes, used}
 use Rattle.page_cache.specs.Insides.{Slot, IsIndex, is_beyond, same_name, slot_is, slot_in, seen, cache_of, slot_limit, IsSound}
 use Rattle.uid_names.proofs.Finds.{find-passes}
 use Rattle.uid_names.proofs.ListLemmas.{by_cases, count_by-cons_passes, count_by-cons_fails, count_by-none, count_by-found, filter_not-none, length-filter_not, count_by-filter-le, filter-filter_leaves, find_once, count_by-found_by, count_by-filter_found, count_by-to_front, find-map, filter-map, count_by-map}
+use Rattle.uid_names.proofs.Passed.{equal}
 use Rattle.lru.specs.LruCache.{promoted}
-use Rattle.page_cache.proofs.SlotLemmas.{same_number, slot_is-uid, slot_is-page, lookup-page, promoted-page, promoted-absent}
+use Rattle.page_cache.proofs.SlotLemmas.{slot_is-uid, slot_is-page, lookup-page, promoted-page, promoted-absent}
 
 -- a taken frame has one slot at most, a free one none
 slot_limit-le : (pool : Pool) (frame : ℕ) → slot_limit pool frame ≤ 1
@@ -35,11 +37,6 @@ slot_limit-free pool frame free = rw free refl
 pub slot_limit-taken : (pool : Pool) (frame : ℕ) → 0 < slot_limit pool frame → IsTaken pool frame
 slot_limit-taken pool frame some = by_cases (is_some (frame_at pool frame)) (IsTaken pool frame) (λ is. is) (λ is. absurd (let h : 0 < 0 = rw is at some in omega arith))
 
--- what a mapped value comes from
-some_mapped : {X Y : Type 0} (f : X → Y) (o : Option X) → IsSome (option_map f o) → (x : X) × (o ≡ Some x)
-some_mapped f None found = absurd (cc)
-some_mapped f (Some x) found = (x, refl)
-
 -- what no mapped value comes from
 pub none_mapped : {X Y : Type 0} (f : X → Y) (o : Option X) → option_map f o ≡ None → o ≡ None
 none_mapped f None none = refl
@@ -49,16 +46,6 @@ none_mapped f (Some x) none = absurd (cc)
 pub mapped_from : {X Y : Type 0} (f : X → Y) (o : Option X) (y : Y) → option_map f o ≡ Some y → (x : X) × (o ≡ Some x) × (f x ≡ y)
 mapped_from f None y found = absurd (cc)
 mapped_from f (Some x) y found = (x, refl, cc)
-
--- what is not so is false
-not_true : (b : Bool) → not b ≡ true → b ≡ false
-not_true true is = sym is
-not_true false is = refl
-
--- a mapped value is there where the value is
-pub IsSome-mapped : {X Y : Type 0} (f : X → Y) (o : Option X) → IsSome (option_map f o) ↔ IsSome o
-IsSome-mapped f None = (λ h. h, λ h. h)
-IsSome-mapped f (Some x) = (λ h. refl, λ h. refl)
 
 -- and is not where the value is not
 pub IfNone-mapped : {X Y : Type 0} (f : X → Y) (o : Option X) → IfNone (option_map f o) (o ≡ None)
@@ -98,7 +85,7 @@ module _ (pool : Pool) (reserved : ℕ) (slots : List Slot) (places : ℕ) (inde
   pub IsTaken-frame : (frame : ℕ) → IsFrame (map (seen pool) slots) frame → IsTaken pool frame
   IsTaken-frame frame is =
       let found = some_mapped (seen pool) (find (slot_in frame) slots) (rw (page_in-seen pool slots frame) at is) in
-      rw (same_number found.0.1 frame (find-passes (slot_in frame) slots found.0 found.1)) at (IsTaken-slot (slot_in frame) found.0 found.1)
+      rw (equal found.0.1 frame (find-passes (slot_in frame) slots found.0 found.1)) at (IsTaken-slot (slot_in frame) found.0 found.1)
 
   -- the order finds the frame in which the page is
   pub frame-ordered : (name : PageName) → lookup (same_name name) slots ≡ option_map (λ r. r.frame) (page_at (map (seen pool) slots) name.uid name.page)
@@ -135,7 +122,7 @@ module _ (pool : Pool) (reserved : ℕ) (slots : List Slot) (places : ℕ) (inde
   pub page_in-frame : (frame : ℕ) → IsFrame (map (seen pool) slots) frame → (r : Resident) × (page_in (map (seen pool) slots) frame ≡ Some r) × (r.bytes ≡ (frame_in pool frame).bytes) × (r.flags ≡ (frame_in pool frame).flags)
   page_in-frame frame is =
       let found = some_mapped (seen pool) (find (slot_in frame) slots) (rw (page_in-seen pool slots frame) at is) in
-      let same : found.0.1 ≡ frame = same_number found.0.1 frame (find-passes (slot_in frame) slots found.0 found.1) in (
+      let same : found.0.1 ≡ frame = equal found.0.1 frame (find-passes (slot_in frame) slots found.0 found.1) in (
         seen pool found.0,
         page_in-seen pool slots frame ∙ ap (option_map (seen pool)) found.1,
         ap (λ n. (frame_in pool n).bytes) same,
@@ -188,7 +175,7 @@ module _ (pool : Pool) (n : ℕ) (f : Frame) (change : Resident → Resident) (c
       by_cases
       (slot_in n s)
       (seen (with_frame pool n f) s ≡ changed_if (slot_in n s) change (seen pool s))
-      (λ is. let same : s.1 ≡ n = same_number s.1 n is in rw is (rw (same, frame_at-with_frame-same pool n f) (rw same at (changes s same))))
+      (λ is. let same : s.1 ≡ n = equal s.1 n is in rw is (rw (same, frame_at-with_frame-same pool n f) (rw same at (changes s same))))
       (λ apart. rw apart (seen-elsewhere pool (with_frame pool n f) n (λ q differs. frame_at-with_frame-other pool n q f differs) s apart))
 
   -- all pages look as before but the one in the frame
@@ -405,7 +392,7 @@ cache_from_fields c frames reserved ps f r p = λ i. record { frames = f i; rese
 -- an object's page, one by one, is no page of the others
 module _ (pages : List Resident) (uid : ObjectName) where
   pub without_object-without_page : (page : ℕ) → without_object (without_page pages uid page) uid ≡ without_object pages uid
-  without_object-without_page page = filter-filter_leaves (λ r. not (is_of uid r)) (λ r. not (is_page uid page r)) (λ r other. rw (not_true (is_of uid r) other) refl) pages
+  without_object-without_page page = filter-filter_leaves (λ r. not (is_of uid r)) (λ r. not (is_page uid page r)) (λ r other. rw (not-true (is_of uid r) other) refl) pages
 
   -- nothing goes where the object has no page
   pub without_object-none : find (is_of uid) pages ≡ None → without_object pages uid ≡ pages

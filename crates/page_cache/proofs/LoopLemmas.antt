@@ -9,8 +9,9 @@ use Rattle.page_cache.specs.Caches.{Resident}
 use Rattle.page_cache.specs.Victims.{oldest, is_clean_choice, is_dirty_choice}
 use Rattle.page_cache.specs.Insides.{Slot, are_clean, slot_in, seen}
 use Rattle.uid_names.proofs.ListLemmas.{count_by-cons, count_by-cons_passes, count_by-push, find-push}
+use Rattle.uid_names.proofs.Somes.{option_or-none}
 use Rattle.page_cache.proofs.CacheLemmas.{AreTaken, slot_limit-taken}
-use Rattle.page_cache.proofs.PageLemmas.{reverse-cons, option_or-none, oldest-none, oldest-some}
+use Rattle.page_cache.proofs.PageLemmas.{reverse-cons, oldest-none, oldest-some}
 
 -- a page is clean and not in transit as the flags of its frame say
 pub is_clean_choice-seen : (pool : Pool) (s : Slot) (flags : Flags) (clean : Bool) → flags ≡ (frame_in pool s.1).flags → clean ≡ are_clean flags → is_clean_choice (seen pool s) ≡ clean

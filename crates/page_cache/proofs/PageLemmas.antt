@@ -10,15 +10,11 @@ use Rattle.page_cache.specs.Changes.{changed_in}
 use Rattle.page_cache.specs.Victims.{oldest, name_of}
 use Rattle.page_cache.specs.Numbers.{is_dirty_of, lesser, dirty_page}
 use Rattle.uid_names.proofs.ListLemmas.{by_cases, count_by-cons, count_by-push, count_by-cons_passes, count_by-cons_fails, find-count_none, count_by-none, find_once, find-push}
+use Rattle.uid_names.proofs.Somes.{option_or-none}
 
 -- the first comes last
 pub reverse-cons : {X : Type 0} (x : X) (xs : List X) → reverse (x ∷ xs) ≡ reverse xs ++ x ∷ []
 reverse-cons x xs = reverse-append (x ∷ []) xs
-
--- nothing instead changes nothing
-pub option_or-none : {X : Type 0} (o : Option X) → option_or o None ≡ o
-option_or-none None = refl
-option_or-none (Some x) = refl
 
 -- a test that one element passes finds it from either end
 find-reverse : {X : Type 0} (p : X → Bool) (xs : List X) → count_by p xs ≤ 1 → find p (reverse xs) ≡ find p xs
@@ -78,7 +74,7 @@ later_page : (r : Resident) (rest : List Resident) (uid : ObjectName) (page : �
 later_page r rest uid page is = by_cases (is_page uid page r) (IsResident (r ∷ rest) uid page) (λ here. rw here refl) (λ not_here. rw not_here is)
 
 -- the lesser of two is one of them
-lesser_is : (a k : ℕ) (o : Option ℕ) → lesser (Some a) o ≡ Some k → (a ≡ k) ⊎ (o ≡ Some k)
+pub lesser_is : (a k : ℕ) (o : Option ℕ) → lesser (Some a) o ≡ Some k → (a ≡ k) ⊎ (o ≡ Some k)
 lesser_is a k None is = inl (cc)
 lesser_is a k (Some b) is =
     let least : min a b ≡ k = cc in

@@ -17,10 +17,6 @@ use Rattle.uid_names.proofs.ListLemmas.{by_cases, find-count_none, count_by-none
 use Rattle.page_cache.specs.declared.slots.PageName.{PageName}
 use Rattle.page_cache.specs.Insides.{Slot, same_name, name_cmp, slot_is, IsIndex}
 
--- numbers that a test finds equal are equal
-pub same_number : (a b : ℕ) → (a == b) ≡ true → a ≡ b
-same_number a b is = grind (arith, nat_tests)
-
 -- a slot is of the page that a test finds it to be of
 pub slot_is-uid : (uid : ObjectName) (page : ℕ) (s : Slot) → slot_is uid page s ≡ true → s.0.uid ≡ uid
 slot_is-uid uid page s is = same_uid_is s.0.uid uid (grind (arith, nat_tests))

@@ -45,7 +45,7 @@ pub struct Cache {
     reserved: u16,
     // The pages with their frames, the last used one first.
     order: Order,
-    // The same by their names, so that an object's pages stand together.
+    // The pages by their names, so that an object's pages stand together.
     index: Index,
     // How many of the pages are clean and not in transit.
     clean: u16,

@@ -16,7 +16,7 @@ use Rattle.page_frames.specs.Pools.{Frame, Pool, IsPool, IsTaken, frame_at, fram
 use Rattle.page_frames.specs.Insides.{frame_of, taken_of, pool_of, IsSound}
 
 -- what a mapped value comes from
-some_mapped : {X Y : Type 0} (f : X → Y) (o : Option X) → IsSome (option_map f o) → (x : X) × (o ≡ Some x)
+pub some_mapped : {X Y : Type 0} (f : X → Y) (o : Option X) → IsSome (option_map f o) → (x : X) × (o ≡ Some x)
 some_mapped f None found = absurd (cc)
 some_mapped f (Some x) found = (x, refl)
 

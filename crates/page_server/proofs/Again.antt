@@ -1,8 +1,9 @@
 -- A number that was decided is not decided again.
 use Rattle.std.proofs.Common.{◌≡◌, ℕ, List, ◌∙◌, ap, refl, arith}
-use Rattle.std.specs.Prelude.{true, Option, Some}
+use Rattle.std.specs.Prelude.{Option, Some}
 use Rattle.std.proofs.lemmas.Bool.Decides.{nat_tests}
-use Rattle.uid_names.specs.Names.{ProcName, same_proc}
+use Rattle.uid_names.specs.Names.{ProcName}
+use Rattle.uid_names.proofs.Orders.{same_proc-itself}
 use Rattle.call_once.specs.declared.served.Looked.{Looked}
 use Rattle.call_once.specs.declared.served.Looked.TheVariants.{Fresh, Again}
 use Rattle.call_once.specs.Calls.{Call, call_of, body_in, number_in, last_of, looked, with_call}
@@ -11,15 +12,12 @@ use Rattle.ring_messages.specs.Bodies.{Ask, Answer}
 use Rattle.page_server.specs.Decisions.{Decision, decide}
 use Rattle.page_server.specs.Serving.{HomeSide, kept, serve_as, serve_of}
 
-same-itself : (p : ProcName) → same_proc p p ≡ true
-same-itself p = grind (arith, nat_tests)
-
 looked-same : (n : ℕ) → looked n n ≡ Again
 looked-same n = grind (arith, nat_tests)
 
 -- the call that was kept last
 kept-call : (calls : List (Call Answer)) (call : Call Answer) → call_of call.proc (with_call call calls) ≡ Some call
-kept-call calls call = call_of-with_call call calls call.proc ∙ rw (same-itself call.proc) refl
+kept-call calls call = call_of-with_call call calls call.proc ∙ rw (same_proc-itself call.proc) refl
 
 -- what was decided is answered again
 kept-again : (side : HomeSide) (p : ProcName) (number : ℕ) (decision : Decision) (again : Ask)

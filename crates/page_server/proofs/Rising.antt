@@ -93,7 +93,7 @@ module _ (home : HomeState) where
   decided locks p (Ask.ListLocks after) = same
 
 -- a home keeps its node
-decided-node : (home : HomeState) (locks : Table) (p : ProcName) (ask : Ask) → (decide home locks p ask).home.node ≡ home.node
+pub decided-node : (home : HomeState) (locks : Table) (p : ProcName) (ask : Ask) → (decide home locks p ask).home.node ≡ home.node
 decided-node home locks p ask = (decided home locks p ask).node
 
 pub asked-node : (home new : HomeState) (locks : Table) (p : ProcName) (asked : Option Ask) → IsSome asked → IfSome asked (λ ask. new ≡ (decide home locks p ask).home) → new.node ≡ home.node

@@ -1,7 +1,7 @@
 -- Whatever is asked, a home side stays one.
-use Rattle.std.proofs.Common.{◌≡◌, ℕ, ◌+◌, ◌*◌, ◌<◌, ◌≤◌, ◌==◌, List, ap, sym, ◌∙◌, refl, subst, arith}
-use Rattle.std.specs.Prelude.{Bool, true, false, ◌&&◌, if◌then◌else◌, nat_le, nat_lt, All, Option, Some, None, IsSome, IfSome, is_some, is_none}
-use Rattle.std.proofs.lemmas.Bool.{eqb-true, eq-eqb, ltb-true, leb-true}
+use Rattle.std.proofs.Common.{◌≡◌, ℕ, ◌+◌, ◌*◌, ◌<◌, ◌≤◌, ◌==◌, List, ◌∙◌, refl, subst, arith}
+use Rattle.std.specs.Prelude.{Bool, true, false, ◌&&◌, if◌then◌else◌, nat_le, All, Option, Some, None, IsSome, IfSome, is_some, is_none}
+use Rattle.std.proofs.lemmas.Bool.{eq-eqb, ltb-true, leb-true}
 use Rattle.uid_names.specs.Names.{ProcName, ObjectName}
 use Rattle.uid_names.specs.declared.lock_row.LockRow.{LockRow}
 use Rattle.uid_names.specs.declared.mode.Mode.{Mode}
@@ -10,12 +10,12 @@ use Rattle.uid_names.specs.declared.limits.TheConstants.{VOLUME_ROOM, PAGE_BYTES
 use Rattle.page_store.specs.Volumes.{page_of}
 use Rattle.object_store.specs.declared.attributes.Attr.{Attr}
 use Rattle.object_store.specs.Objects.{attr_at, room_of, rooms}
-use Rattle.object_store.specs.HomeStates.{HomeState, attr_of, after_make, after_remove, after_page, after_length}
+use Rattle.object_store.specs.HomeStates.{HomeState, attr_of, after_make, after_page, after_length}
 use Rattle.object_store.specs.Kept.{IsAttr, IsHome}
 use Rattle.object_store.specs.Rules.{has_page, has_length, stamp_of}
 use Rattle.object_store.proofs.HomeLemmas.{IsHome-after_make, IsHome-after_remove, IsHome-after_page, IsHome-after_length, IsAttr-attr_of}
 use Rattle.lock_manager.specs.Grants.{conflict_of, grant_of}
-use Rattle.lock_manager.specs.Tables.{Table, IsTable, with_grant, without_grants_on}
+use Rattle.lock_manager.specs.Tables.{Table, IsTable, with_grant}
 use Rattle.lock_manager.proofs.Keeps.{IsTable-none, IsTable-with_grant, IsTable-without_grant, IsTable-without_grants_on}
 use Rattle.call_once.specs.declared.served.Looked.{Looked}
 use Rattle.call_once.specs.declared.served.Looked.TheVariants.{Fresh, Again, Old}
@@ -27,7 +27,7 @@ use Rattle.ring_messages.specs.Bodies.{Ask, Answer, ask_of, body_of_ask, body_of
 use Rattle.ring_messages.proofs.Asking.{asked-body}
 use Rattle.ring_messages.specs.Ranges.{IsBody}
 use Rattle.page_server.specs.Answers.{IsCarried}
-use Rattle.page_server.specs.Decisions.{Decision, decide, page_answer, write_answer, lock_answer, remove_answer, make_answer, is_granted, may_remove}
+use Rattle.page_server.specs.Decisions.{Decision, decide, page_answer, write_answer, lock_answer, remove_answer, make_answer, may_remove}
 use Rattle.page_server.specs.Serving.{HomeSide, first_side, serve_as, serve_of}
 use Rattle.page_server.specs.ServerStates.{ServerState, IsSide, IsServer}
 use Rattle.page_server.proofs.Bounds.{either, IsCountedTo-decided}
@@ -98,11 +98,11 @@ stamp-low : (home : HomeState) (u : ObjectName) (attr : Option Attr) → IsHome 
 stamp-low home u None kept is there = absurd cc
 stamp-low home u (Some attr) kept is there = (IsAttr-attr_of home u attr kept is).stamp_low
 
-page-there : (attr : Option Attr) (page : ℕ) → has_page attr page ≡ true → is_some attr ≡ true
+pub page-there : (attr : Option Attr) (page : ℕ) → has_page attr page ≡ true → is_some attr ≡ true
 page-there None page there = absurd cc
 page-there (Some attr) page there = refl
 
-length-there : (attr : Option Attr) (length : ℕ) → has_length attr length ≡ true → is_some attr ≡ true
+pub length-there : (attr : Option Attr) (length : ℕ) → has_length attr length ≡ true → is_some attr ≡ true
 length-there None length there = absurd cc
 length-there (Some attr) length there = refl
 

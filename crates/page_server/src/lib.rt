@@ -5,7 +5,5 @@ mod answers;
 pub mod laws;
 mod requests;
 pub mod server;
-#[cfg(test)]
-mod tests;
 
 pub use server::PageServer;

@@ -6,6 +6,7 @@ use Rattle.std.specs.Ordering.{eq_by_cmp}
 use Rattle.std.specs.HashMap.{HashMap}
 use Rattle.std.specs.HashMap as hash
 use Rattle.std.specs.FinMap.{find, get, insert, retain_keys, entries, empty, get-entries, get-empty, get-from_entries, get-insert, get-retain_keys, same_map}
+use Rattle.uid_names.proofs.Somes.{IsSome-mapped}
 use Rattle.slab.specs.Slab.{Slab}
 use Rattle.page_store.specs.declared.blocks.Place.{Place}
 use Rattle.page_store.specs.Volumes.{PageName, page_cmp, is_other, page_of, zeros, IsKept, no_pages, without_object}
@@ -28,11 +29,6 @@ find-mapped f q (e ∷ es) = by_test (eq_by_cmp page_cmp q e.0) (find-mapped f q
 pub get-volume_of : (places : Placed) (blocks : List (Slab (List ℕ))) (name : PageName) → get (volume_of places blocks) name ≡ option_map (page_in blocks) (get places name)
 get-volume_of places blocks name =
     get-from_entries page_cmp-total _ name ∙ find-mapped (page_in blocks) name (entries places) ∙ ap (option_map (page_in blocks)) (sym (get-entries places name))
-
--- a value is there where what it is made of is
-IsSome-option_map : {X Y : Type 0} (f : X → Y) (o : Option X) → IsSome (option_map f o) ↔ IsSome o
-IsSome-option_map f None = (λ h. h, λ h. h)
-IsSome-option_map f (Some x) = (λ h. refl, λ h. refl)
 
 -- what is there is not absent
 pub some_is_none : {X : Type 0} (o : Option X) (x : X) → o ≡ Some x → o ≡ None → ⊥
@@ -68,7 +64,7 @@ module _ (places : Placed) (blocks : List (Slab (List ℕ))) where
 
   -- a page is kept where it has a place
   pub IsKept-placed : (counter page : ℕ) → IsKept (volume_of places blocks) counter page ↔ IsSome (get places (counter, page))
-  IsKept-placed counter page = rw (get-volume_of places blocks (counter, page)) (IsSome-option_map (page_in blocks) (get places (counter, page)))
+  IsKept-placed counter page = rw (get-volume_of places blocks (counter, page)) (IsSome-mapped (page_in blocks) (get places (counter, page)))
 
   -- blocks that have the same pages are the same volume
   pub volume_of-as_stored : (new : List (Slab (List ℕ))) → AsStored blocks new → volume_of places new ≡ volume_of places blocks

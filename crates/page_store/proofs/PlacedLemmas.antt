@@ -11,15 +11,11 @@ use Rattle.std.specs.Map.{lookup, keys_of}
 use Rattle.std.specs.HashMap.{HashMap}
 use Rattle.std.specs.Option.{option_or}
 use Rattle.std.specs.FinMap.{find, get, insert, retain_keys, get-from_entries, get-insert, get-retain_keys, same_map}
+use Rattle.uid_names.proofs.Somes.{option_or-none}
 use Rattle.page_store.specs.declared.blocks.Place.{Place}
 use Rattle.page_store.specs.Volumes.{PageName, page_cmp, is_other}
 use Rattle.page_store.specs.Placed.{named_by, all_named, placed_of, ArePlacesOf}
 use Rattle.page_store.proofs.Orders.{page_cmp-total, page_cmp-IsAntisymmetric, eq_by_cmp-page_cmp, is_other-tied}
-
--- nothing instead changes nothing
-option_or-none : {X : Type 0} (o : Option X) → option_or o None ≡ o
-option_or-none None = refl
-option_or-none (Some x) = refl
 
 -- nothing either way
 cond-none : {X : Type 0} (b : Bool) → let none : Option X = None in cond b none none ≡ none

@@ -69,10 +69,10 @@ impl Pages for BlockPages {
     ghost volume = { λ pages. pages };
 
     fn get(&self, counter: u64, page: u32, into: &mut [u8; PAGE_BYTES]) {
-        *into = match self.places.of(counter, page) {
-            Some(place) => *self.blocks.page(place),
-            None => [0; PAGE_BYTES],
-        };
+        match self.places.of(counter, page) {
+            Some(place) => *into = *self.blocks.page(place),
+            None => *into = [0; PAGE_BYTES],
+        }
     }
 
     /// Puts a page in the place of what was there; without memory nothing changes. A page that is kept takes no memory.

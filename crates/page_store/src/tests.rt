@@ -30,45 +30,33 @@ fn compare<P: Pages>(rt: &impl Abort, pages: &P, rows: &[(u64, u32, u8)]) {
     }
 }
 
-/// Puts pages, some twice, drops an object and puts a page of it again.
+/// What is put at first, one page twice, and what the pages are then.
+const PUT: [(u64, u32, u8); 5] = [
+    (3, 7, 1),
+    (2, 7, 2),
+    (2, 0, 3),
+    (2, 7, 5),
+    (1, MAX_ROOM - 1, 6),
+];
+
+const THEN: [(u64, u32, u8); 5] = [
+    (1, MAX_ROOM - 1, 6),
+    (2, 0, 3),
+    (2, 7, 5),
+    (3, 7, 1),
+    (2, 1, 0),
+];
+
+/// What the pages are once object 2 was dropped and its page 7 was put again.
+const AGAIN: [(u64, u32, u8); 4] = [(1, MAX_ROOM - 1, 6), (2, 0, 0), (2, 7, 8), (3, 7, 1)];
+
+/// Puts pages, drops an object and puts a page of it again.
 fn play<P: Pages>(rt: &impl Abort, pages: &mut P) -> Result<(), Fail> {
-    put_all(
-        pages,
-        &[
-            (3, 7, 1),
-            (2, 7, 2),
-            (2, 0, 3),
-            (3, 0, 4),
-            (2, 7, 5),
-            (1, MAX_ROOM - 1, 6),
-        ],
-    )?;
-    compare(
-        rt,
-        pages,
-        &[
-            (1, MAX_ROOM - 1, 6),
-            (2, 0, 3),
-            (2, 7, 5),
-            (3, 0, 4),
-            (3, 7, 1),
-            (2, 1, 0),
-        ],
-    );
+    put_all(pages, &PUT)?;
+    compare(rt, pages, &THEN);
     pages.drop_object(2);
-    compare(
-        rt,
-        pages,
-        &[
-            (1, MAX_ROOM - 1, 6),
-            (2, 0, 0),
-            (2, 7, 0),
-            (3, 0, 4),
-            (3, 7, 1),
-        ],
-    );
     put_all(pages, &[(2, 7, 8)])?;
-    compare(rt, pages, &[(2, 7, 8), (2, 0, 0), (3, 7, 1)]);
+    compare(rt, pages, &AGAIN);
     Ok(())
 }
 

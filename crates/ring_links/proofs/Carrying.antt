@@ -12,7 +12,7 @@ use Rattle.ring_links.specs.declared.entry.Waiting.{Waiting}
 use Rattle.ring_links.specs.declared.entry.Waiting.TheVariants.{Copy, Mark}
 use Rattle.ring_links.specs.declared.entry.Entry.{Entry}
 use Rattle.ring_links.specs.declared.link.Later.{Later}
-use Rattle.ring_links.specs.Carried.{Carrying, copy_of, mark_of, later_copy, falling, staying, frame_sent, mark_sent, IsFrameOf, CarriesFrames}
+use Rattle.ring_links.specs.Carried.{Carrying, copy_of, mark_of, later_copy, falling, frame_sent, mark_sent, IsFrameOf, CarriesFrames}
 
 module _ {A : Type 0} where
   abbrev IsEntryOf : List A → Entry A → Type 0
@@ -56,18 +56,17 @@ module _ {A : Type 0} where
   frame-carried fate x sent l carries =
       let j = l.frames + 1 in
       let same : length sent + 1 ≡ j = ap (λ (n : ℕ). n + 1) carries.frames in
-      let later = still-later x sent l.later carries.later in
+      let later = l.later ++ map (later_copy x) (links.later_of j fate) in
+      let all =
+      All-append (IsLaterOf (x ∷ sent)) l.later (map (later_copy x) (links.later_of j fate)) (still-later x sent l.later carries.later) (own-later x sent j same fate) in
       record {
         frames = sym (add-one (length sent)) ∙ same;
         queue =
-            All-append (IsEntryOf (x ∷ sent)) l.queue (map (copy_of x) (in_place j fate) ++ falling j l.later) (still-entries x sent l.queue carries.queue)
-            (All-append (IsEntryOf (x ∷ sent)) (map (copy_of x) (in_place j fate)) (falling j l.later) (own-copies x sent j same fate)
-            (All-map (IsEntryOf (x ∷ sent)) (λ (c : Later A). copy_of c.received c.index) (filter (λ (c : Later A). c.behind == j) l.later)
-            (All-filter (λ (c : Later A). c.behind == j) (IsLaterOf (x ∷ sent)) l.later later)));
-        later =
-            All-append (IsLaterOf (x ∷ sent)) (staying j l.later) (map (later_copy x) (links.later_of j fate))
-            (All-filter (λ (c : Later A). not (c.behind == j)) (IsLaterOf (x ∷ sent)) l.later later)
-            (own-later x sent j same fate);
+            All-append (IsEntryOf (x ∷ sent)) l.queue (map (copy_of x) (in_place j fate) ++ falling j later) (still-entries x sent l.queue carries.queue)
+            (All-append (IsEntryOf (x ∷ sent)) (map (copy_of x) (in_place j fate)) (falling j later) (own-copies x sent j same fate)
+            (All-map (IsEntryOf (x ∷ sent)) (λ (c : Later A). copy_of c.received c.index) (filter (λ (c : Later A). c.behind == j) later)
+            (All-filter (λ (c : Later A). c.behind == j) (IsLaterOf (x ∷ sent)) later all)));
+        later = All-filter (λ (c : Later A). not (c.behind == j)) (IsLaterOf (x ∷ sent)) later all;
       }
 
   pub mark-carried : (phase : ℕ) (x : A) (sent : List A) (l : Carrying A) → CarriesFrames sent l → CarriesFrames sent (mark_sent phase x l)

@@ -5,14 +5,12 @@ use Rattle.std.proofs.lemmas.Bool.Decides.{nat_tests}
 use Rattle.std.proofs.lemmas.List.{get_or_past, get_or_default}
 use Rattle.uid_names.specs.declared.ids.Place.{Place}
 use Rattle.dom_history.specs.Histories.{place_lt}
+use Rattle.dom_history.proofs.Places.{place_lt-irrefl}
 use Rattle.ring_links.specs.Merged.{IsLeast}
 use Rattle.ring_links.proofs.Coming.{some-same}
 
 place-over : (a b c : Place) → place_lt a b ≡ false → place_lt c b ≡ true → place_lt a c ≡ false
 place-over a b c h k = grind (arith, nat_tests, h, k)
-
-place-itself : (a : Place) → place_lt a a ≡ false
-place-itself a = grind (arith, nat_tests)
 
 -- whether a place comes before the first one so far
 abbrev pub IsTest : Option (ℕ × Place) → Place → Bool → Type 0
@@ -37,7 +35,7 @@ module _ (nexts : List (Option Place)) where
   was-read i d r within is = get_or_default nexts i None d within ∙ is
 
   itself : (i : ℕ) (p : Place) → get_or nexts i None ≡ Some p → NotBefore p i
-  itself i p next other there = subst (λ (o : Place). place_lt o p ≡ false) (some-same next there) (place-itself p)
+  itself i p next other there = subst (λ (o : Place). place_lt o p ≡ false) (some-same next there) (place_lt-irrefl p)
 
   pub first-taken : (i : ℕ) (p : Place) (first : Option (ℕ × Place)) → i < length nexts → get_or nexts i None ≡ Some p → FirstSoFar i first → IsTest first p true → IsFirstBelow (i + 1) i p
   first-taken i p None within next so-far test = record {

@@ -60,20 +60,19 @@ module _ {A : Type 0} where
       ∙ ap (λ (es : List plain.Entry). map plain.Entry.Copy is ++ es) (plain-falling j later)
       ∙ sym (map-append plain.Entry.Copy is (links.falling j (map plain_later later))))
 
-  plain-later-put : (x : A) (j : ℕ) (later : List (Later A)) (cs : List links.Later)
-      → map plain_later (staying j later ++ map (later_copy x) cs) ≡ links.staying j (map plain_later later) ++ cs
-  plain-later-put x j later cs =
-      map-append plain_later (staying j later) (map (later_copy x) cs)
-      ∙ ap (λ (ds : List links.Later). ds ++ map plain_later (map (later_copy x) cs)) (plain-staying j later)
-      ∙ ap (λ (ds : List links.Later). links.staying j (map plain_later later) ++ ds) (plain-own x cs)
+  plain-with : (x : A) (later : List (Later A)) (cs : List links.Later) → map plain_later (later ++ map (later_copy x) cs) ≡ map plain_later later ++ cs
+  plain-with x later cs =
+      map-append plain_later later (map (later_copy x) cs)
+      ∙ ap (λ (ds : List links.Later). map plain_later later ++ ds) (plain-own x cs)
 
   pub plain-frame : (fate : Fate) (x : A) (l : Carrying A) → plain_link (frame_sent fate x l) ≡ links.frame_sent fate (plain_link l)
   plain-frame fate x l =
       let j = l.frames + 1 in
-      ap (λ (queue : List plain.Entry). link-of j queue (map plain_later (staying j l.later ++ map (later_copy x) (links.later_of j fate))))
-      (plain-put x (in_place j fate) j l.queue l.later)
-      ∙ ap (link-of j (map plain-entry l.queue ++ map plain.Entry.Copy (in_place j fate ++ links.falling j (map plain_later l.later))))
-      (plain-later-put x j l.later (links.later_of j fate))
+      let later = l.later ++ map (later_copy x) (links.later_of j fate) in
+      ap (λ (queue : List plain.Entry). link-of j queue (map plain_later (staying j later))) (plain-put x (in_place j fate) j l.queue later)
+      ∙ ap (link-of j (map plain-entry l.queue ++ map plain.Entry.Copy (in_place j fate ++ links.falling j (map plain_later later)))) (plain-staying j later)
+      ∙ ap (λ (cs : List links.Later). link-of j (map plain-entry l.queue ++ map plain.Entry.Copy (in_place j fate ++ links.falling j cs)) (links.staying j cs))
+      (plain-with x l.later (links.later_of j fate))
 
   pub plain-mark : (phase : ℕ) (x : A) (l : Carrying A) → plain_link (mark_sent phase x l) ≡ links.mark_sent phase (plain_link l)
   plain-mark phase x l =

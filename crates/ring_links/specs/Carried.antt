@@ -39,10 +39,12 @@ staying j later = filter (λ c. not (c.behind == j)) later
 -- a frame of this fate is sent
 abbrev pub frame_sent : {A : Type 0} → Fate → A → Carrying A → Carrying A
 frame_sent fate x l =
+    let j = l.frames + 1 in
+    let later = l.later ++ map (later_copy x) (links.later_of j fate) in
     record {
-      frames = l.frames + 1;
-      queue = l.queue ++ (map (copy_of x) (in_place (l.frames + 1) fate) ++ falling (l.frames + 1) l.later);
-      later = staying (l.frames + 1) l.later ++ map (later_copy x) (links.later_of (l.frames + 1) fate);
+      frames = j;
+      queue = l.queue ++ (map (copy_of x) (in_place j fate) ++ falling j later);
+      later = staying j later;
     }
 
 abbrev pub mark_sent : {A : Type 0} → ℕ → A → Carrying A → Carrying A

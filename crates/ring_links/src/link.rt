@@ -5,13 +5,15 @@ ghost use Rattle.dom_history.specs.declared.plan.Fate.TheVariants as fates;
 ghost use Rattle.ring_links.specs.Carried.{empty_link, frame_sent, mark_sent, falling, staying};
 
 use crate::entry::{Entry, Waiting};
+use dom_history::Fate;
+use ring_messages::Copied;
 use std::alloc::Global;
 use std::collections::VecDeque;
 use std::marker::Model;
 use std::mem::replace;
 use uid_names::NoMemory;
 
-/// A copy of the frame of this number falls behind that frame.
+/// A copy of the frame of this number falls behind that frame, which is a later one or itself.
 #[derive(Drop, Debug)]
 pub struct Later<T> {
     pub index: u64,
@@ -69,50 +71,12 @@ impl<T: Drop> Link<T> {
         let _ = self.queue.pop_front();
     }
 
-    /// A frame is sent that is delivered in its place.
-    #[inline(always)]
-    pub fn pass(&mut self, alloc: Global, frame: T) -> Result<(), NoMemory>
-        requires few { self.old.frames < 2 ^ 63 }
-        ensures { OnOk result (self.new ≡ frame_sent fates.Pass frame self.old) }
+    /// Takes the oldest that waits, and hands it out. Takes no memory.
+    pub fn pop(&mut self) -> Option<Entry<T>>
+        ensures oldest { result ≡ slice_get self.old.queue 0 }
+        ensures taken { self.new ≡ record self.old { queue = drop 1 self.old.queue } }
     {
-        self.frames += 1;
-        self.put(Waiting::Copy(self.frames), frame)?;
-        self.fall(alloc)
-    }
-
-    /// A frame is sent that is never delivered.
-    // Not inlined, as the next two: such frames are few, and where frames pass nothing is made ready for them.
-    #[inline(never)]
-    pub fn lose(&mut self, alloc: Global) -> Result<(), NoMemory>
-        requires few { self.old.frames < 2 ^ 63 }
-        ensures { (frame : T) → OnOk result (self.new ≡ frame_sent fates.Lose frame self.old) }
-    {
-        self.frames += 1;
-        self.fall(alloc)
-    }
-
-    /// A frame is sent that is delivered in its place, and again behind so many later frames.
-    #[inline(never)]
-    pub fn twice(&mut self, alloc: Global, frame: T, again: T, after: u32) -> Result<(), NoMemory>
-        requires few { self.old.frames < 2 ^ 63 }
-        requires same { again ≡ frame }
-        ensures { OnOk result (self.new ≡ frame_sent (fates.Twice after) frame self.old) }
-    {
-        self.frames += 1;
-        self.put(Waiting::Copy(self.frames), frame)?;
-        self.fall(alloc)?;
-        self.put_later(again, after)
-    }
-
-    /// A frame is sent that is delivered behind so many later frames.
-    #[inline(never)]
-    pub fn late(&mut self, alloc: Global, frame: T, after: u32) -> Result<(), NoMemory>
-        requires few { self.old.frames < 2 ^ 63 }
-        ensures { OnOk result (self.new ≡ frame_sent (fates.Late after) frame self.old) }
-    {
-        self.frames += 1;
-        self.fall(alloc)?;
-        self.put_later(frame, after)
+        self.queue.pop_front()
     }
 
     /// The mark of a phase is sent.
@@ -157,7 +121,7 @@ impl<T: Drop> Link<T> {
         self.fall_some(alloc)
     }
 
-    /// The same of one copy and more. Not inlined: copies that fall are few.
+    /// Those of one copy and more that fall behind the last frame wait from now on. Not inlined: copies that fall are few.
     #[inline(never)]
     fn fall_some(&mut self, alloc: Global) -> Result<(), NoMemory>
         ensures { OnOk result (self.new ≡ record self.old { queue = self.old.queue ++ falling self.old.frames self.old.later; later = staying self.old.frames self.old.later }) }
@@ -171,5 +135,67 @@ impl<T: Drop> Link<T> {
             }
         }
         Ok(())
+    }
+}
+
+impl<T: Copied> Link<T> {
+    /// A frame of this fate is sent: those of its copies wait from now on that fall in its place, and behind it.
+    #[inline(always)]
+    pub fn send(&mut self, alloc: Global, fate: Fate, frame: T) -> Result<(), NoMemory>
+        requires few { self.old.frames < 2 ^ 63 }
+        ensures { OnOk result (self.new ≡ frame_sent fate frame self.old) }
+    {
+        match fate {
+            Fate::Pass => self.pass(alloc, frame),
+            Fate::Lose => self.lose(alloc),
+            Fate::Late(after) => self.late(alloc, frame, after),
+            Fate::Twice(after) => self.twice(alloc, frame, after),
+        }
+    }
+
+    /// A frame is sent that is delivered in its place.
+    #[inline(always)]
+    fn pass(&mut self, alloc: Global, frame: T) -> Result<(), NoMemory>
+        requires few { self.old.frames < 2 ^ 63 }
+        ensures { OnOk result (self.new ≡ frame_sent fates.Pass frame self.old) }
+    {
+        self.frames += 1;
+        self.put(Waiting::Copy(self.frames), frame)?;
+        self.fall(alloc)
+    }
+
+    /// A frame is sent that is never delivered.
+    // Not inlined, as the next two: such frames are few, and where frames pass nothing is made ready for them.
+    #[inline(never)]
+    fn lose(&mut self, alloc: Global) -> Result<(), NoMemory>
+        requires few { self.old.frames < 2 ^ 63 }
+        ensures { (frame : T) → OnOk result (self.new ≡ frame_sent fates.Lose frame self.old) }
+    {
+        self.frames += 1;
+        self.fall(alloc)
+    }
+
+    /// A frame is sent that is delivered in its place, and again behind so many later frames.
+    #[inline(never)]
+    fn twice(&mut self, alloc: Global, frame: T, after: u32) -> Result<(), NoMemory>
+        requires few { self.old.frames < 2 ^ 63 }
+        ensures { OnOk result (self.new ≡ frame_sent (fates.Twice after) frame self.old) }
+    {
+        let again = frame.copy(alloc)?;
+        self.frames += 1;
+        self.put(Waiting::Copy(self.frames), frame)?;
+        self.put_later(again, after)?;
+        self.fall(alloc)
+    }
+
+    /// A frame is sent that is delivered behind so many later frames.
+    #[inline(never)]
+    fn late(&mut self, alloc: Global, frame: T, after: u32) -> Result<(), NoMemory>
+        requires few { self.old.frames < 2 ^ 63 }
+        ensures { OnOk result (self.new ≡ frame_sent (fates.Late after) frame self.old) }
+    {
+        self.frames += 1;
+        self.put_later(frame, after)?;
+        self.fall(alloc)
     }
 }

@@ -5,6 +5,7 @@ use Rattle.std.specs.List.{flat_map, AllByRecursion}
 use Rattle.std.proofs.lemmas.Bool.Decides.{nat_tests}
 use Rattle.std.proofs.lemmas.List.{append-nil}
 use Rattle.std.proofs.lemmas.List.Elements.{All-from_recursion, recursion_from_All}
+use Rattle.std.proofs.lemmas.Bool.{and_parts}
 use Rattle.uid_names.specs.Names.{ProcName, ObjectName, number_of}
 use Rattle.uid_names.specs.declared.lock_row.LockRow.{LockRow}
 use Rattle.uid_names.specs.declared.mode.Mode.{Mode}
@@ -19,12 +20,13 @@ use Rattle.ring_messages.specs.Ranges.{IsBody}
 use Rattle.ring_messages.specs.Spelling.{be64, flag, row_bytes, after_bytes, body_bytes}
 use Rattle.ring_messages.specs.Spelled.{IsRow, IsAfter, IsTypedBody}
 use Rattle.uid_names.specs.Steps.{◌>>=◌}
+use Rattle.uid_names.proofs.Somes.{bind-some}
 use Rattle.ring_messages.specs.ReaderSteps.{◌then◌, whole, end_at}
 use Rattle.ring_messages.specs.ReaderFields.{byte_at, be64_at, flag_at, uid_of, proc_of, after_of}
 use Rattle.ring_messages.specs.ReaderRows.{rows_at, is_rising}
 use Rattle.ring_messages.specs.ReaderBodies.{listed_at, body_at}
-use Rattle.ring_messages.proofs.Rising.{and-true, rising-in_order, in_order-rising}
-use Rattle.ring_messages.proofs.Fields.{IsBytes, IsBytes-rest, bind_some, if_some, some_is, IsField, field-then, field-byte, field-be64, whole-again, whole-takes, end-nil, nil-end}
+use Rattle.ring_messages.proofs.Rising.{rising-in_order, in_order-rising}
+use Rattle.ring_messages.proofs.Fields.{IsBytes, IsBytes-rest, if_some, some_is, IsField, field-then, field-byte, field-be64, whole-again, whole-takes, end-nil, nil-end}
 use Rattle.ring_messages.proofs.Values.{field-page, field-length, field-room, field-count, field-uid, field-own, field-proc, field-mode, field-object, field-flag, field-bytes, rows-again, rows-take, uid-means, uid-meant, proc_of-again, proc_of-takes}
 
 -- ---- the row behind which rows begin
@@ -53,15 +55,15 @@ pub after-takes : (b : Bool) (n node number : ℕ) (after : Option (ObjectName �
 unfolding after_of be64
 after-takes false n node number after small e =
     let g = if_some ((n == 0) && ((node == 0) && (number == 0))) None after e in
-    let a = and-true (n == 0) ((node == 0) && (number == 0)) g.0 in
-    let b = and-true (node == 0) (number == 0) a.1 in
+    let a = and_parts (n == 0) ((node == 0) && (number == 0)) g.0 in
+    let b = and_parts (node == 0) (number == 0) a.1 in
     let n-is : n ≡ 0 = grind (arith, nat_tests, a.0) in
     let node-is : node ≡ 0 = grind (arith, nat_tests, b.0) in
     let number-is : number ≡ 0 = grind (arith, nat_tests, b.1) in
     subst (λ (x : Option (ObjectName × ProcName)). ((flag false ∷ []) ++ (be64 n ++ ((node ∷ []) ++ (number ∷ []))) ≡ after_bytes x) × IsAfter x) g.1 (rw (n-is, node-is, number-is) refl, tt)
 after-takes true n node number after small e =
-    let u = bind_some (uid_of n) (λ u. proc_of node number >>= λ p. Some (Some (u, p))) after e in
-    let p = bind_some (proc_of node number) (λ p. Some (Some (u.0, p))) after u.2 in
+    let u = bind-some (uid_of n) (λ u. proc_of node number >>= λ p. Some (Some (u, p))) after e in
+    let p = bind-some (proc_of node number) (λ p. Some (Some (u.0, p))) after u.2 in
     let um = uid-meant n u.0 small u.1 in
     let pm = proc_of-takes node number p.0 p.1 in
     let parts : (flag true ∷ []) ++ (be64 n ++ ((node ∷ []) ++ (number ∷ []))) ≡ after_bytes (Some (u.0, p.0)) = rw (← um.0, ← pm.0, ← pm.1) refl in
@@ -86,17 +88,17 @@ pub record IsRead (k : FrameKind) (to : ℕ) (bytes : List ℕ) (b : Body) : Typ
 pub listed-takes : (to : ℕ) (bytes : List ℕ) (b : Body) → IsBytes bytes → listed_at bytes ≡ Some b → IsRead kinds.Listed to bytes b
 unfolding listed_at
 listed-takes to bytes b small e =
-    let count = bind_some (byte_at bytes) (λ count. flag_at count.1 >>= λ more. whole (rows_at count.0) (λ (rows : List LockRow). rows) more.1 >>= λ rows. if nat_le count.0 LISTED_ROWS && is_rising rows then Some (Listed rows more.0) else None) b e in
-    let more = bind_some (flag_at count.0.1) (λ more. whole (rows_at count.0.0) (λ (rows : List LockRow). rows) more.1 >>= λ rows. if nat_le count.0.0 LISTED_ROWS && is_rising rows then Some (Listed rows more.0) else None) b count.2 in
-    let rows = bind_some (whole (rows_at count.0.0) (λ (rows : List LockRow). rows) more.0.1) (λ rows. if nat_le count.0.0 LISTED_ROWS && is_rising rows then Some (Listed rows more.0.0) else None) b more.2 in
+    let count = bind-some (byte_at bytes) (λ count. flag_at count.1 >>= λ more. whole (rows_at count.0) (λ (rows : List LockRow). rows) more.1 >>= λ rows. if nat_le count.0 LISTED_ROWS && is_rising rows then Some (Listed rows more.0) else None) b e in
+    let more = bind-some (flag_at count.0.1) (λ more. whole (rows_at count.0.0) (λ (rows : List LockRow). rows) more.1 >>= λ rows. if nat_le count.0.0 LISTED_ROWS && is_rising rows then Some (Listed rows more.0) else None) b count.2 in
+    let rows = bind-some (whole (rows_at count.0.0) (λ (rows : List LockRow). rows) more.0.1) (λ rows. if nat_le count.0.0 LISTED_ROWS && is_rising rows then Some (Listed rows more.0.0) else None) b more.2 in
     let g = if_some (nat_le count.0.0 LISTED_ROWS && is_rising rows.0) (Listed rows.0 more.0.0) b rows.2 in
-    let tests = and-true (nat_le count.0.0 LISTED_ROWS) (is_rising rows.0) g.0 in
+    let tests = and_parts (nat_le count.0.0 LISTED_ROWS) (is_rising rows.0) g.0 in
     let first = field-byte.takes bytes count.0 small count.1 in
     let small1 = IsBytes-rest (count.0.0 ∷ []) count.0.1 (subst IsBytes first.0 small) in
     let second = field-flag.takes count.0.1 more.0 small1 more.1 in
     let small2 = IsBytes-rest (flag more.0.0 ∷ []) more.0.1 (subst IsBytes second.0 small1) in
-    let all = bind_some (rows_at count.0.0 more.0.1) (λ a. end_at a.1 >>= λ _. Some a.0) rows.0 rows.1 in
-    let behind = bind_some (end_at all.0.1) (λ _. Some all.0.0) rows.0 all.2 in
+    let all = bind-some (rows_at count.0.0 more.0.1) (λ a. end_at a.1 >>= λ _. Some a.0) rows.0 rows.1 in
+    let behind = bind-some (end_at all.0.1) (λ _. Some all.0.0) rows.0 all.2 in
     let third = rows-take count.0.0 more.0.1 all.0 small2 all.1 in
     let same : all.0.0 ≡ rows.0 = some_is all.0.0 rows.0 behind.2 in
     let nothing = end-nil all.0.1 behind.0 behind.1 in
@@ -116,7 +118,7 @@ listed-takes to bytes b small e =
 
 empty-takes : (k : FrameKind) (to : ℕ) (bytes : List ℕ) (x b : Body) → (k ≡ kind_of x) → body_bytes x ≡ [] → IsBody to x → IsTypedBody x → (end_at bytes >>= λ _. Some x) ≡ Some b → IsRead k to bytes b
 empty-takes k to bytes x b kind empty ranges typed e =
-    let u = bind_some (end_at bytes) (λ _. Some x) b e in
+    let u = bind-some (end_at bytes) (λ _. Some x) b e in
     subst (IsRead k to bytes) (some_is x b u.2) (record { kind = sym kind; text = end-nil bytes u.0 u.1 ∙ sym empty; ranges = ranges; typed = typed })
 
 -- what was read is the body that was written
@@ -144,9 +146,9 @@ body-takes kinds.Make to bytes b small e =
     let w = whole-takes (field-then field-object field-room) (λ (x : ObjKind × ℕ). Make x.0 x.1) bytes b small e in
     subst (IsRead kinds.Make to bytes) w.1 (record { kind = refl; text = w.2; ranges = w.3.1.1; typed = tt })
 body-takes kinds.List to bytes b small e =
-    let k = bind_some (whole (flag_at then be64_at then byte_at then byte_at) (λ (x : Key). x) bytes) after_key b e in
+    let k = bind-some (whole (flag_at then be64_at then byte_at then byte_at) (λ (x : Key). x) bytes) after_key b e in
     let w = whole-takes field-key (λ (x : Key). x) bytes k.0 small k.1 in
-    let a = bind_some (after_of k.0.0 k.0.1.0 k.0.1.1.0 k.0.1.1.1) (λ after. Some (ListLocks after)) b k.2 in
+    let a = bind-some (after_of k.0.0 k.0.1.0 k.0.1.1.0 k.0.1.1.1) (λ after. Some (ListLocks after)) b k.2 in
     let n-small : k.0.1.0 < 2 ^ 64 = subst (λ (x : Key). x.1.0 < 2 ^ 64) w.1 w.3.1.0 in
     let t = after-takes k.0.0 k.0.1.0 k.0.1.1.0 k.0.1.1.1 a.0 n-small a.1 in
     let text : bytes ≡ after_bytes a.0 = w.2 ∙ ap (λ (x : Key). (flag x.0 ∷ []) ++ (be64 x.1.0 ++ ((x.1.1.0 ∷ []) ++ (x.1.1.1 ∷ [])))) w.1 ∙ t.0 in

@@ -11,6 +11,7 @@ use Rattle.byteorder.specs.Endian.{big_number, big_bytes}
 use Rattle.byteorder.specs.Numbers.{big_from-take, big_number-reads_back, big_from-lt}
 use Rattle.ring_messages.specs.Spelling.{be32, be64}
 use Rattle.uid_names.specs.Steps.{◌>>=◌}
+use Rattle.uid_names.proofs.Somes.{bind-some}
 use Rattle.ring_messages.specs.ReaderSteps.{◌then◌, passing, meaning, whole, end_at}
 use Rattle.ring_messages.specs.ReaderFields.{byte_at, be32_at, be64_at}
 
@@ -30,11 +31,6 @@ IsBytes-take n bytes h i =
       | inl lt ↦ rw (get_or-take n bytes i 0 lt) (h i)
       | inr le ↦ rw (get_or_past (take n bytes) i 0 (omega (arith, length-take n bytes))) (omega arith)
     ]
-
--- the value of a step that gave one
-pub bind_some : {A B : Type 0} (r : Option A) (f : A → Option B) (y : B) → (r >>= f) ≡ Some y → (x : A) × (r ≡ Some x) × (f x ≡ Some y)
-bind_some (Some x) f y e = (x, refl, e)
-bind_some None f y e = absurd cc
 
 pub if_some : {A : Type 0} (b : Bool) (x y : A) → (if b then Some x else None) ≡ Some y → (b ≡ true) × (x ≡ y)
 if_some true x y e = (refl, cc)
@@ -61,8 +57,8 @@ pub field-then : {A B : Type 0} {s : A → List ℕ} {P : A → Type 0} {f : Lis
 field-then {A} {B} {s} {P} {f} {t} {Q} {g} one two = record {
   again = λ x rest fits. ap (f then g) (append_assoc (s x.0) (t x.1) rest) ∙ rw (one.again x.0 (t x.1 ++ rest) fits.0) (rw (two.again x.1 rest fits.1) refl);
   takes = λ bytes x small e.
-      let a = bind_some (f bytes) (λ a. g a.1 >>= λ b. Some ((a.0, b.0), b.1)) x e in
-      let b = bind_some (g a.0.1) (λ b. Some ((a.0.0, b.0), b.1)) x a.2 in
+      let a = bind-some (f bytes) (λ a. g a.1 >>= λ b. Some ((a.0, b.0), b.1)) x e in
+      let b = bind-some (g a.0.1) (λ b. Some ((a.0.0, b.0), b.1)) x a.2 in
       let first = one.takes bytes a.0 small a.1 in
       let rest : IsBytes a.0.1 = IsBytes-rest (s a.0.0) a.0.1 (subst IsBytes first.0 small) in
       let second = two.takes a.0.1 b.0 rest b.1 in
@@ -78,7 +74,7 @@ pub field-passing : {A : Type 0} {s : A → List ℕ} {P : A → Type 0} {f : Li
 field-passing {A} {s} {P} {f} test T passes passed one = record {
   again = λ a rest fits. rw (one.again a rest fits.0) (rw (passes a fits.1) refl);
   takes = λ bytes x small e.
-      let a = bind_some (f bytes) (passing test) x e in
+      let a = bind-some (f bytes) (passing test) x e in
       let c = if_some (test a.0.0) a.0 x a.2 in
       let first = one.takes bytes a.0 small a.1 in
       subst (λ (y : A × List ℕ). (bytes ≡ s y.0 ++ y.1) × (P y.0 × T y.0)) c.1 (first.0, (first.1, passed a.0.0 c.0));
@@ -91,8 +87,8 @@ pub field-meaning : {A B : Type 0} {s : A → List ℕ} {P : A → Type 0} {f : 
 field-meaning {A} {B} {s} {P} {f} read back Q means meant one = record {
   again = λ b rest fits. let m = means b fits in rw (one.again (back b) rest m.0) (rw m.1 refl);
   takes = λ bytes x small e.
-      let a = bind_some (f bytes) (meaning read) x e in
-      let b = bind_some (read a.0.0) (λ b. Some (b, a.0.1)) x a.2 in
+      let a = bind-some (f bytes) (meaning read) x e in
+      let b = bind-some (read a.0.0) (λ b. Some (b, a.0.1)) x a.2 in
       let first = one.takes bytes a.0 small a.1 in
       let m = meant a.0.0 b.0 first.1 b.1 in
       let made : B × List ℕ = (b.0, a.0.1) in
@@ -114,8 +110,8 @@ whole-again {A} {B} {s} {P} {f} one make a fits =
 
 pub whole-takes : {A B : Type 0} {s : A → List ℕ} {P : A → Type 0} {f : List ℕ → Option (A × List ℕ)} → IsField s P f → (make : A → B) (bytes : List ℕ) (b : B) → IsBytes bytes → whole f make bytes ≡ Some b → (a : A) × (make a ≡ b) × (bytes ≡ s a) × P a
 whole-takes {A} {B} {s} {P} {f} one make bytes b small e =
-    let a = bind_some (f bytes) (λ a. end_at a.1 >>= λ _. Some (make a.0)) b e in
-    let u = bind_some (end_at a.0.1) (λ _. Some (make a.0.0)) b a.2 in
+    let a = bind-some (f bytes) (λ a. end_at a.1 >>= λ _. Some (make a.0)) b e in
+    let u = bind-some (end_at a.0.1) (λ _. Some (make a.0.0)) b a.2 in
     let first = one.takes bytes a.0 small a.1 in
     (a.0.0, some_is (make a.0.0) b u.2, first.0 ∙ ap (λ (r : List ℕ). s a.0.0 ++ r) (end-nil a.0.1 u.0 u.1) ∙ append-nil (s a.0.0), first.1)
 

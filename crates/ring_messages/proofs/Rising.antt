@@ -1,5 +1,5 @@
 -- Rows that rise from one to the next rise from each to all later ones.
-use Rattle.std.proofs.Common.{◌≡◌, ℕ, zero, suc, ◌+◌, ◌-◌, ◌<◌, ◌≤◌, Bool, true, false, List, [], ◌∷◌, length, get_or, drop, refl, ◌∙◌, arith}
+use Rattle.std.proofs.Common.{◌≡◌, ℕ, zero, suc, ◌+◌, ◌-◌, ◌<◌, ◌≤◌, true, false, List, [], ◌∷◌, length, get_or, drop, refl, ◌∙◌, arith}
 use Rattle.std.specs.Prelude.{◌&&◌, All, IsTrue}
 use Rattle.std.proofs.lemmas.List.Elements.{All-cons, All-nil, All-head}
 use Rattle.std.proofs.lemmas.List.Kept.{AllPairs-cons}
@@ -7,13 +7,10 @@ use Rattle.uid_names.specs.InOrder.{AreInOrder}
 use Rattle.uid_names.proofs.InOrder.{AllPairs-head, AllPairs-tail, AllPairs-nil}
 use Rattle.uid_names.proofs.Orders.{row_lt-trans}
 use Rattle.std.proofs.lemmas.List.{length-drop}
+use Rattle.std.proofs.lemmas.Bool.{and_parts}
 use Rattle.uid_names.specs.declared.lock_row.LockRow.{LockRow}
 use Rattle.uid_names.specs.Rows.{row_lt}
 use Rattle.ring_messages.specs.ReaderRows.{is_rising, is_rising_from}
-
-pub and-true : (a b : Bool) → (a && b) ≡ true → (a ≡ true) × (b ≡ true)
-and-true true b e = (refl, e)
-and-true false b e = absurd cc
 
 -- the first row of some, and the rows from the next one on
 rising-drop : (rows : List LockRow) (j : ℕ) (a b : LockRow) → suc j < length rows → a ≡ get_or rows j a → b ≡ get_or rows (suc j) b → is_rising (drop j rows) ≡ (row_lt a b && is_rising (drop (suc j) rows))
@@ -50,7 +47,7 @@ rise_all rows i low all so_far = so_far ∙ few-rise (drop (i - 1) rows) (omega 
 rising_from-all : (first : LockRow) (rows : List LockRow) → is_rising_from first rows ≡ true → All (λ row. row_lt first row ≡ true) rows × AreInOrder row_lt rows
 rising_from-all first [] e = (All-nil (λ row. row_lt first row ≡ true), AllPairs-nil (λ a b. IsTrue (row_lt a b)))
 rising_from-all first (row ∷ rows) e =
-    let both = and-true (row_lt first row) (is_rising_from row rows) e in
+    let both = and_parts (row_lt first row) (is_rising_from row rows) e in
     let later = rising_from-all row rows both.1 in (
       All-cons (λ r. row_lt first r ≡ true) row rows both.0 (λ k d below. row_lt-trans first row (get_or rows k d) both.0 (later.0 k d below)),
       AllPairs-cons (λ a b. IsTrue (row_lt a b)) row rows later.0 later.1,

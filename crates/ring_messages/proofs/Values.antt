@@ -2,15 +2,13 @@
 use Rattle.std.proofs.Common.{◌≡◌, ℕ, zero, suc, ◌/◌, ◌%◌, ◌^◌, ◌<◌, ◌≤◌, Bool, true, false, List, [], ◌∷◌, ◌++◌, length, take, drop, Some, None, refl, sym, ap, subst, ◌∙◌, append_assoc, arith}
 use Rattle.std.specs.Prelude.{All, nat_lt, nat_le, ◌==◌, ◌&&◌, if◌then◌else◌}
 use Rattle.std.specs.List.{flat_map, AllByRecursion}
-use Rattle.std.proofs.lemmas.Bool.{ltb-false, le-ltb}
+use Rattle.std.proofs.lemmas.Bool.{ltb-false, le-ltb, and_parts}
 use Rattle.std.proofs.lemmas.Bool.Decides.{nat_tests}
 use Rattle.std.proofs.lemmas.List.{take_at, drop_at, take-append-drop, length-append, length-take, get_or_default}
 use Rattle.std.proofs.lemmas.List.Concat.{flat_map-cons}
 use Rattle.uid_names.specs.Names.{ProcName, ObjectName, IsName, number_of, IsProcName}
 use Rattle.uid_names.specs.Modes.{mode_code, object_code}
 use Rattle.uid_names.specs.declared.lock_row.LockRow.{LockRow}
-use Rattle.uid_names.specs.declared.mode.Mode.{Mode}
-use Rattle.uid_names.specs.declared.mode.ObjKind.{ObjKind}
 use Rattle.ring_messages.specs.Spelling.{be32, be64, uid_bytes, proc_bytes, flag, row_bytes}
 use Rattle.uid_names.specs.declared.limits.TheConstants.{PAGE_BYTES, WRITTEN_ROOM}
 use Rattle.ring_messages.specs.declared.limits.TheConstants.{WRITTEN_LENGTH}
@@ -22,8 +20,8 @@ use Rattle.ring_messages.specs.ReaderSteps.{◌then◌}
 use Rattle.ring_messages.specs.ReaderFields.{bytes_at, page_at, length_at, room_at, count_at, name_of, is_name, uid_of, own_of, proc_of, flag_of, uid_at, own_at, proc_at, mode_at, object_at, flag_at}
 use Rattle.ring_messages.specs.ReaderRows.{row_of, row_at, rows_at}
 use Rattle.uid_names.proofs.Codes.{mode_of_code-code, mode_of_code-found, mode_code-small, object_of_code-code, object_of_code-found, object_code-small}
-use Rattle.ring_messages.proofs.Rising.{and-true}
-use Rattle.ring_messages.proofs.Fields.{IsBytes, IsBytes-take, IsBytes-rest, bind_some, if_some, unless_some, some_is, IsField, field-then, field-passing, field-meaning, field-byte, field-be32, field-be64}
+use Rattle.uid_names.proofs.Somes.{bind-some}
+use Rattle.ring_messages.proofs.Fields.{IsBytes, IsBytes-take, IsBytes-rest, if_some, unless_some, some_is, IsField, field-then, field-passing, field-meaning, field-byte, field-be32, field-be64}
 
 pub field-page : IsField be32 (λ n. (n < 2 ^ 32) × (n < WRITTEN_ROOM)) page_at
 unfolding page_at
@@ -62,8 +60,8 @@ pub uid-meant : (n : ℕ) (u : ObjectName) → n < 2 ^ 64 → uid_of n ≡ Some 
 unfolding uid_of
 uid-meant n u small e =
     let g = if_some (is_name (name_of n)) (name_of n) u e in
-    let a = and-true (nat_le 1 (n / 2 ^ 20)) (nat_le 1 (n % 2 ^ 20) && nat_le (n % 2 ^ 20) 8) g.0 in
-    let b = and-true (nat_le 1 (n % 2 ^ 20)) (nat_le (n % 2 ^ 20) 8) a.1 in
+    let a = and_parts (nat_le 1 (n / 2 ^ 20)) (nat_le 1 (n % 2 ^ 20) && nat_le (n % 2 ^ 20) 8) g.0 in
+    let b = and_parts (nat_le 1 (n % 2 ^ 20)) (nat_le (n % 2 ^ 20) 8) a.1 in
     let is : IsName (name_of n) = record { counter_low = grind (arith, nat_tests, a.0); counter_high = omega arith; home_low = grind (arith, nat_tests, b.0); home_high = grind (arith, nat_tests, b.1) } in
     subst (λ (v : ObjectName). (n ≡ number_of v) × IsName v) g.1 (sym (name-number n), is)
 
@@ -80,7 +78,7 @@ own-means home u is =
 own-meant : (home n : ℕ) (u : ObjectName) → n < 2 ^ 64 → own_of home n ≡ Some u → (n ≡ number_of u) × (IsName u × (u.home ≡ home))
 unfolding own_of
 own-meant home n u small e =
-    let v = bind_some (uid_of n) (λ v. if v.home == home then Some v else None) u e in
+    let v = bind-some (uid_of n) (λ v. if v.home == home then Some v else None) u e in
     let g = if_some (v.0.home == home) v.0 u v.2 in
     let m = uid-meant n v.0 small v.1 in
     subst (λ (w : ObjectName). (n ≡ number_of w) × (IsName w × (w.home ≡ home))) g.1 (m.0, (m.1, grind (arith, nat_tests, g.0)))
@@ -102,9 +100,9 @@ unfolding proc_of
 proc_of-takes node number p e =
     let made : ProcName = record { node = node; number = number } in
     let g = if_some ((nat_le 1 node && nat_le node 8) && (nat_le 1 number && nat_le number 4)) made p e in
-    let a = and-true (nat_le 1 node && nat_le node 8) (nat_le 1 number && nat_le number 4) g.0 in
-    let b = and-true (nat_le 1 node) (nat_le node 8) a.0 in
-    let c = and-true (nat_le 1 number) (nat_le number 4) a.1 in
+    let a = and_parts (nat_le 1 node && nat_le node 8) (nat_le 1 number && nat_le number 4) g.0 in
+    let b = and_parts (nat_le 1 node) (nat_le node 8) a.0 in
+    let c = and_parts (nat_le 1 number) (nat_le number 4) a.1 in
     let is : IsProcName made = record { node = (grind (arith, nat_tests, b.0), grind (arith, nat_tests, b.1)); number = (grind (arith, nat_tests, c.0), grind (arith, nat_tests, c.1)) } in
     subst (λ (q : ProcName). (node ≡ q.node) × (number ≡ q.number) × IsProcName q) g.1 (refl, refl, is)
 
@@ -181,9 +179,9 @@ row-means row is =
 row-meant : (x : ℕ × (ℕ × (ℕ × ℕ))) (row : LockRow) → (x.0 < 2 ^ 64) × ((x.1.0 < 256) × ((x.1.1.0 < 256) × (x.1.1.1 < 256))) → row_of x.0 x.1.0 x.1.1.0 x.1.1.1 ≡ Some row → (x ≡ (number_of row.uid, (row.proc.node, (row.proc.number, mode_code row.mode)))) × IsRow row
 unfolding row_of
 row-meant x row small e =
-    let u = bind_some (uid_of x.0) (λ u. proc_of x.1.0 x.1.1.0 >>= λ p. mode_of_code x.1.1.1 >>= λ m. Some (record { uid = u; proc = p; mode = m })) row e in
-    let p = bind_some (proc_of x.1.0 x.1.1.0) (λ p. mode_of_code x.1.1.1 >>= λ m. Some (record { uid = u.0; proc = p; mode = m })) row u.2 in
-    let m = bind_some (mode_of_code x.1.1.1) (λ m. Some (record { uid = u.0; proc = p.0; mode = m })) row p.2 in
+    let u = bind-some (uid_of x.0) (λ u. proc_of x.1.0 x.1.1.0 >>= λ p. mode_of_code x.1.1.1 >>= λ m. Some (record { uid = u; proc = p; mode = m })) row e in
+    let p = bind-some (proc_of x.1.0 x.1.1.0) (λ p. mode_of_code x.1.1.1 >>= λ m. Some (record { uid = u.0; proc = p; mode = m })) row u.2 in
+    let m = bind-some (mode_of_code x.1.1.1) (λ m. Some (record { uid = u.0; proc = p.0; mode = m })) row p.2 in
     let made : LockRow = record { uid = u.0; proc = p.0; mode = m.0 } in
     let um = uid-meant x.0 u.0 small.0 u.1 in
     let pm = proc_of-takes x.1.0 x.1.1.0 p.0 p.1 in
@@ -207,8 +205,8 @@ rows-take zero bytes x small e =
     let made : List LockRow × List ℕ = ([], bytes) in
     subst (λ (y : List LockRow × List ℕ). (bytes ≡ flat_map row_bytes y.0 ++ y.1) × (length y.0 ≡ 0) × AllByRecursion IsRow y.0) (some_is made x e) (refl, refl, tt)
 rows-take (suc n) bytes x small e =
-    let a = bind_some (row_at bytes) (λ row. rows_at n row.1 >>= λ others. Some (row.0 ∷ others.0, others.1)) x e in
-    let b = bind_some (rows_at n a.0.1) (λ others. Some (a.0.0 ∷ others.0, others.1)) x a.2 in
+    let a = bind-some (row_at bytes) (λ row. rows_at n row.1 >>= λ others. Some (row.0 ∷ others.0, others.1)) x e in
+    let b = bind-some (rows_at n a.0.1) (λ others. Some (a.0.0 ∷ others.0, others.1)) x a.2 in
     let first = field-row.takes bytes a.0 small a.1 in
     let rest-small = IsBytes-rest (row_bytes a.0.0) a.0.1 (subst IsBytes first.0 small) in
     let second = rows-take n a.0.1 b.0 rest-small b.1 in

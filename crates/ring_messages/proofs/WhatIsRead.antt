@@ -12,9 +12,10 @@ use Rattle.ring_messages.specs.Ranges.{IsBody}
 use Rattle.ring_messages.specs.Spelling.{header, framed, spelling}
 use Rattle.ring_messages.specs.Spelled.{IsHead, IsFrame, Spells}
 use Rattle.uid_names.specs.Steps.{◌>>=◌}
+use Rattle.uid_names.proofs.Somes.{bind-some}
 use Rattle.ring_messages.specs.ReaderSteps.{Fails, Gives}
 use Rattle.ring_messages.specs.ReaderBodies.{body_at, frame_at}
-use Rattle.ring_messages.proofs.Fields.{IsBytes, IsBytes-drop, bind_some, some_is}
+use Rattle.ring_messages.proofs.Fields.{IsBytes, IsBytes-drop, some_is}
 use Rattle.ring_messages.proofs.Bodies.{body-takes}
 use Rattle.ring_messages.proofs.Frames.{frame-takes, frame-again}
 
@@ -51,7 +52,7 @@ module _ (h : Head) (bytes : List ℕ) (is : IsHead h) (head : take 24 bytes ≡
 
   pub answer-found : (r : Result Message FrameFault) → IsBytes bytes → Gives (λ (m : Message). m) r (frame_at h (behind bytes)) → IfOk r (λ m. Spells m bytes)
   answer-found (Ok m) small e =
-      let b = bind_some (body_at h.kind h.to (behind bytes)) (λ (b : Body). Some (framed h b)) m e in
+      let b = bind-some (body_at h.kind h.to (behind bytes)) (λ (b : Body). Some (framed h b)) m e in
       kind-found h.kind b.0 m small refl b.1 (sym (some_is (framed h b.0) m b.2))
   answer-found (Err fault) small e = tt
 

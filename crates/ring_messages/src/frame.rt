@@ -4,7 +4,8 @@ ghost use Rattle.uid_names.specs.Names.{ProcName};
 ghost use Rattle.uid_names.specs.declared.limits.TheConstants.{MAX_NODES};
 
 use crate::body::Body;
-use std::alloc::{AllocError, AllocFailed};
+use crate::copied::Copied;
+use std::alloc::{AllocError, AllocFailed, Global};
 use std::marker::Model;
 use thiserror::Error;
 use uid_names::{FrameKind, NoMemory, NodeId, ProcId};
@@ -156,5 +157,12 @@ impl Frame {
         ensures ranges { IsInRange self }
     {
         self.body
+    }
+}
+
+impl Copied for Frame {
+    fn copy(&self, alloc: Global) -> Result<Frame, NoMemory> {
+        let body = self.body.copy(alloc)?;
+        Ok(Frame::new(self.from, self.to, self.proc, self.number, self.tick, body))
     }
 }

@@ -2,16 +2,16 @@
 #![tactic(auto)]
 
 pub mod body;
+pub mod copied;
 pub mod frame;
 pub mod laws;
 pub mod limits;
 pub mod page_bytes;
 mod reading;
-#[cfg(test)]
-mod tests;
 mod writing;
 
 pub use body::Body;
+pub use copied::Copied;
 pub use frame::{Frame, FrameFault, Head};
 pub use page_bytes::PageBytes;
 pub use reading::{head, read};

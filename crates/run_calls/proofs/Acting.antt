@@ -3,9 +3,10 @@ use Rattle.std.proofs.Common.{◌≡◌, ℕ, Bool, true, false, List, [], ◌�
 use Rattle.std.specs.Prelude.{◌&&◌, ◌==◌, if◌then◌else◌}
 use Rattle.std.proofs.lemmas.Bool.{eq-eqb}
 use Rattle.uid_names.proofs.ListLemmas.{by_cases}
-use Rattle.uid_names.proofs.Orders.{same_proc_is}
+use Rattle.uid_names.proofs.Orders.{same_proc_is, same_proc-itself}
 use Rattle.uid_names.specs.Names.{ProcName, same_proc}
 use Rattle.uid_names.specs.declared.ids.Place.{Place}
+use Rattle.uid_names.proofs.Passed.{left-true, right-true, equal}
 use Rattle.dom_history.specs.declared.op.Op.{Op}
 use Rattle.dom_history.specs.declared.op.Reply.{Reply}
 use Rattle.dom_history.specs.Histories.{SomeOf, place_lt}
@@ -19,31 +20,22 @@ use Rattle.node_runs.specs.Runs.{World, Noted, Choice, world_after}
 use Rattle.node_runs.specs.RunHistories.{is_fault, change_reply, act_item, fault_item, begun_item, told_item, open_item, settled_item, decided_item, settled_op, ended_at, ended_by, told_by, all_told, doing_of, items_of, items_from, history_in}
 use Rattle.node_runs.specs.CallsKeep.{EachOf}
 use Rattle.node_runs.specs.DecidedCalls.{IsDecided}
-use Rattle.node_runs.proofs.Bools.{left-true, right-true, equal}
 use Rattle.node_runs.proofs.Receiving.{EachOf-more}
 use Rattle.node_runs.proofs.SettingUp.{setup-procs}
 use Rattle.node_runs.proofs.Decisions.{decisions-are}
+use Rattle.node_runs.proofs.EachOf.{EachOf-both, EachOf-at}
 use Rattle.run_calls.specs.DecidedReplies.{proc_at, IsDecisionOf}
 use Rattle.run_calls.specs.Placed.{AreRisingNotes, IsBegin, IsPlaced, AreEndsPlaced}
 use Rattle.run_calls.specs.Heard.{IsOpenSince, IsDoingSince}
 use Rattle.run_calls.specs.LastCalls.{HasNumber, IsOpenNumber, IsOpenOrTold}
 use Rattle.run_calls.specs.Acts.{IsBehindBegin}
-use Rattle.run_calls.proofs.Slots.{settles, same_proc-refl}
+use Rattle.run_calls.proofs.Slots.{settles}
 use Rattle.run_calls.proofs.Placing.{since-behind, ends-placed}
 use Rattle.run_calls.proofs.Rising.{notes-rise}
 use Rattle.run_calls.proofs.HearingRuns.{heard-are}
 use Rattle.run_calls.proofs.Lasting.{last-calls-are, calls-of-procs}
 use Rattle.run_calls.proofs.Hearing.{EachOf-all}
 use Rattle.run_calls.proofs.Following.{EachOf-append}
-
-EachOf-both : {A : Type 0} (P Q R : A → Type 0) (xs : List A) → ((x : A) → P x → Q x → R x) → EachOf P xs → EachOf Q xs → EachOf R xs
-EachOf-both P Q R [] both each other = tt
-EachOf-both P Q R (x ∷ xs) both each other = (both x each.0 other.0, EachOf-both P Q R xs both each.1 other.1)
-
-EachOf-at : {A : Type 0} (P : A → Type 0) (x : A) (xs : List A) → EachOf P xs → SomeOf (λ y. y ≡ x) xs → P x
-EachOf-at P x [] each some = absurd some
-EachOf-at P x (y ∷ ys) each (inl same) = subst P same each.0
-EachOf-at P x (y ∷ ys) each (inr some) = EachOf-at P x ys each.1 some
 
 EachOf-self : {A : Type 0} (xs : List A) → EachOf (λ x. SomeOf (λ y. y ≡ x) xs) xs
 EachOf-self [] = tt
@@ -104,7 +96,7 @@ none-told : (p : ProcName) (number : ℕ) (so_far : List Told) → ended_by p nu
 none-told p number [] none some = some
 none-told p number (t ∷ so_far) none (inl is) =
     let h : (same_proc t.proc p && (t.number == number)) ≡ true =
-    ap (λ b. b && (t.number == number)) (subst (λ q. same_proc t.proc q ≡ true) is.0 (same_proc-refl t.proc)) ∙ eq-eqb t.number number is.1 in
+    ap (λ b. b && (t.number == number)) (subst (λ q. same_proc t.proc q ≡ true) is.0 (same_proc-itself t.proc)) ∙ eq-eqb t.number number is.1 in
     absurd (let e : Some t ≡ None = sym (ap (λ b. if b then Some t else ended_by p number so_far) h) ∙ none in cc)
 none-told p number (t ∷ so_far) none (inr some) = by_cases (same_proc t.proc p && (t.number == number)) ⊥
     (λ h. absurd (let e : Some t ≡ None = sym (ap (λ b. if b then Some t else ended_by p number so_far) h) ∙ none in cc))
@@ -180,7 +172,7 @@ module _ (s : Setup) (setup : IsSetup s) (cs : List Choice) (w : World) (e : wor
       proc = calls-of-procs s setup cs w e timely p.node p.number number j.place.node ask decided.1
 
       name : proc_at p.node p.number ≡ p
-      name = same_proc_is (proc_at p.node p.number) p (same_proc-refl p)
+      name = same_proc_is (proc_at p.node p.number) p (same_proc-itself p)
 
       open_one : IsOpenOrTold (proc_at p.node p.number) number (proc_of (w.nodes p.node) p.number) so_far → ended_by p number so_far ≡ None → IfSome (doing_of w p) (λ o. place_lt o.began.begun j.place ≡ true)
       open_one (inl is) none = open-lt j p.node p.number number member (subst (λ q. IsDecisionOf q number j.note) (sym name) (subst (IsDecisionOf p number) same (refl, refl))) (doing_of w p)

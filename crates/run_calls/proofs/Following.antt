@@ -5,7 +5,7 @@ use Rattle.std.specs.List.{find, AllByRecursion}
 use Rattle.std.proofs.lemmas.List.Elements.{All-from_recursion}
 use Rattle.std.proofs.lemmas.Bool.Decides.{nat_tests}
 use Rattle.uid_names.proofs.ListLemmas.{by_cases}
-use Rattle.uid_names.proofs.Orders.{same_proc_is}
+use Rattle.uid_names.proofs.Orders.{same_proc_is, same_proc-itself}
 use Rattle.uid_names.specs.Names.{ProcName, same_proc}
 use Rattle.uid_names.specs.declared.ids.Place.{Place}
 use Rattle.dom_history.specs.declared.op.Entry.{Entry}
@@ -32,7 +32,6 @@ use Rattle.node_runs.proofs.Running.{run-keeps}
 use Rattle.run_calls.specs.NotedEntries.{entry_if, begun_entry, decided_entry, entries_at, noted_entries}
 use Rattle.run_calls.specs.DecidedReplies.{proc_at}
 use Rattle.run_calls.specs.Heard.{IsOfProc}
-use Rattle.run_calls.proofs.Slots.{same_proc-refl}
 use Rattle.run_calls.proofs.HearingRuns.{heard-are}
 use Rattle.run_calls.proofs.HistoryEntries.{history-entries, asked-heard}
 
@@ -131,7 +130,7 @@ module _ (s : Setup) (setup : IsSetup s) (cs : List Choice) (w : World) (e : wor
   follows-own : (p : ProcName) → IsProc p.number → FollowsAt (s.asks p) (history_in s w) p
   follows-own p proc =
       let is = asked-heard s setup cs w e timely p.node p.number proc in
-      let name : proc_at p.node p.number ≡ p = same_proc_is (proc_at p.node p.number) p (same_proc-refl p) in
+      let name : proc_at p.node p.number ≡ p = same_proc_is (proc_at p.node p.number) p (same_proc-itself p) in
       record {
         heard = (proc_of (w.nodes p.node) p.number).heard;
         phase = is.0;

@@ -3,9 +3,10 @@ use Rattle.std.proofs.Common.{◌≡◌, ◌≢◌, ℕ, suc, ◌+◌, ◌<◌, 
 use Rattle.std.specs.Prelude.{◌⊎◌, ◌&&◌, ◌==◌, if◌then◌else◌}
 use Rattle.std.specs.List.{find}
 use Rattle.uid_names.proofs.ListLemmas.{by_cases}
-use Rattle.uid_names.proofs.Orders.{same_proc_is}
+use Rattle.uid_names.proofs.Orders.{same_proc_is, same_proc-itself}
 use Rattle.uid_names.specs.Names.{ProcName, same_proc}
 use Rattle.uid_names.specs.declared.ids.Place.{Place}
+use Rattle.uid_names.proofs.Passed.{left-true, right-true, equal}
 use Rattle.dom_history.specs.declared.op.Entry.{Entry}
 use Rattle.dom_history.specs.declared.op.Op.{Op}
 use Rattle.dom_history.specs.declared.op.Reply.{Reply}
@@ -21,14 +22,13 @@ use Rattle.node_runs.specs.Runs.{Noted}
 use Rattle.node_runs.specs.RunHistories.{is_fault, told_by, ended_at, ended_by}
 use Rattle.node_runs.specs.CallsKeep.{EachOf}
 use Rattle.node_runs.specs.DecidedCalls.{IsOther, AreDecidedOnce}
-use Rattle.node_runs.proofs.Bools.{left-true, right-true, equal}
 use Rattle.node_runs.proofs.Receiving.{EachOf-more}
 use Rattle.run_calls.specs.NotedEntries.{entry_of, begun_entry, entries_at, noted_entries}
 use Rattle.run_calls.specs.Progress.{IsAnswered, IsNewAwait, IsUntold, IsEnd, told_of, Progress, opens, goes_on, again, did, told, pauses, is_done}
 use Rattle.run_calls.specs.Placed.{IsSettledBy}
 use Rattle.run_calls.specs.Since.{IsUndecided, here, later}
 use Rattle.run_calls.specs.Heard.{IsLastCall, IsOpenSince, IsDoingSince, IsHeardAt}
-use Rattle.run_calls.proofs.Slots.{IsNew, place-is, same_proc-refl}
+use Rattle.run_calls.proofs.Slots.{IsNew, place-is}
 use Rattle.run_calls.proofs.Walks.{entries-append, Inserted, others-noted, since-others, walk-fault, walk-settled, since-awaits, since-same}
 
 pub EachOf-all : {A : Type 0} (P : A → Type 0) (xs : List A) → ((x : A) → P x) → EachOf P xs
@@ -227,7 +227,7 @@ module _ (ask : Heard → Want) (p : ProcName) (so_far : List Told) (notes : Lis
         let rest = entries_of p (noted_entries so_far notes) in
         record {
           phase = is.phase;
-          reaches = subst (λ b. Reaches ask (if b then e ∷ rest else rest) new.heard is.phase) (sym (same_proc-refl p)) (subst (λ h. Reaches ask (e ∷ rest) h is.phase) (sym end.heard) (reach_answered e is.reaches asks phase));
+          reaches = subst (λ b. Reaches ask (if b then e ∷ rest else rest) new.heard is.phase) (sym (same_proc-itself p)) (subst (λ h. Reaches ask (e ∷ rest) h is.phase) (sym end.heard) (reach_answered e is.reaches asks phase));
           in_phase = inl (end.phase ∙ phase);
           told = still-told (let l = end.last in omega (arith, l));
           doing = no-doing so_far (record { place = x; note = Note.Did p old.phase op reply } ∷ notes) end.doing;

@@ -3,10 +3,12 @@ use Rattle.std.proofs.Common.{◌≡◌, ◌≢◌, ℕ, ◌+◌, ◌<◌, ◌�
 use Rattle.std.specs.Prelude.{◌&&◌, ◌==◌, not, if◌then◌else◌}
 use Rattle.std.proofs.lemmas.Bool.{cases_eq}
 use Rattle.std.proofs.lemmas.Bool.Decides.{nat_tests}
+use Rattle.std.proofs.lemmas.Option.{same_Some}
 use Rattle.uid_names.proofs.ListLemmas.{by_cases}
 use Rattle.uid_names.proofs.Orders.{same_proc_is}
 use Rattle.uid_names.specs.Names.{ProcName, same_proc}
 use Rattle.uid_names.specs.declared.ids.Place.{Place}
+use Rattle.uid_names.proofs.Passed.{left-true, right-true, equal}
 use Rattle.dom_history.specs.declared.op.Entry.{Entry}
 use Rattle.dom_history.specs.declared.op.Op.{Op}
 use Rattle.dom_history.specs.declared.op.Reply.{Reply}
@@ -21,29 +23,28 @@ use Rattle.node_runs.specs.NodeStates.{Asked, Await, BegunOp, ProcState, NodeSta
 use Rattle.node_runs.specs.Incomings.{Incoming}
 use Rattle.node_runs.specs.Notes.{Told, Note}
 use Rattle.node_runs.specs.Doings.{ticked}
-use Rattle.node_runs.specs.Dones.{asking}
+use Rattle.node_runs.specs.Dones.{asking, Did}
 use Rattle.node_runs.specs.Outcomes.{Stepped}
 use Rattle.node_runs.specs.NodesKeep.{IsTimely}
+use Rattle.node_runs.specs.SentFrames.{IsFrame, IsIncoming}
 use Rattle.node_runs.specs.Runs.{World, Noted, Choice, first_world, numbered, then_next, world_with, world_after}
 use Rattle.node_runs.specs.RunHistories.{settled_op, told_by, all_told, ended_by}
 use Rattle.node_runs.specs.CallsKeep.{HasProcs, AsksThis, IsCallAt, EachOf, IsOpenAt, AreCalls}
 use Rattle.node_runs.specs.DecidedCalls.{IsDecided, IsOther, IsFirst, AreDecidedOnce, AreDecisions}
-use Rattle.node_runs.proofs.Somes.{some-is}
-use Rattle.node_runs.proofs.Bools.{left-true, right-true, equal}
 use Rattle.node_runs.proofs.SettingUp.{given-procs, setup-gives}
 use Rattle.node_runs.proofs.Doing.{step_of-did}
 use Rattle.node_runs.proofs.Ticks.{step_of-tick}
 use Rattle.node_runs.proofs.Receiving.{EachOf-more, incoming-is}
 use Rattle.node_runs.proofs.Calls.{put-same, put-other, calls-are}
 use Rattle.node_runs.proofs.CallSteps.{IsFrameProc}
-use Rattle.node_runs.proofs.Decisions.{decisions-are}
+use Rattle.node_runs.proofs.Decisions.{decisions-are, HomeStep, did-home}
 use Rattle.node_runs.proofs.Running.{AreKept, run-keeps}
 use Rattle.node_runs.proofs.Worlds.{IsNext, place_at, next-is}
 use Rattle.run_calls.specs.NotedEntries.{entry_if, begun_entry, decided_entry, entries_at}
 use Rattle.run_calls.specs.Progress.{IsSettling, IsAnswered, Progress, opens, goes_on, again, did, told, pauses, is_done, IsApart, ProcStep, rests, comes, told_of}
 use Rattle.run_calls.specs.DecidedReplies.{proc_at, IsDecisionOf, WasDecided, AreReplies, IsReplyOf}
 use Rattle.run_calls.specs.Placed.{IsSettledBy}
-use Rattle.run_calls.specs.Heard.{IsHeardAt, IsToldOf, IsOfProc, AreHeard}
+use Rattle.run_calls.specs.Heard.{IsHeardAt, IsToldByDecision, IsOfProc, AreHeard}
 use Rattle.run_calls.proofs.Slots.{IsNew}
 use Rattle.run_calls.proofs.Walks.{settled-decides, first-other, others-not, SomeOf-more}
 use Rattle.run_calls.proofs.Replies.{replies-are, answered-decided}
@@ -89,7 +90,7 @@ SomeOf-both P Q R (x ∷ xs) both (inl is) each = inl (both x is each.0)
 SomeOf-both P Q R (x ∷ xs) both (inr some) each = inr (SomeOf-both P Q R xs both some each.1)
 
 -- a new decision is of no call of which a process was told an answer
-decided-none : (x : Place) (p : ProcName) (number : ℕ) (o : Option Op) (notes : List Noted) (so_far : List Told) → EachOf (IsToldOf notes) so_far → EachOf (λ (j : Noted). IsOther p number j.note) notes → decided_entry x o (ended_by p number so_far) ≡ []
+decided-none : (x : Place) (p : ProcName) (number : ℕ) (o : Option Op) (notes : List Noted) (so_far : List Told) → EachOf (IsToldByDecision notes) so_far → EachOf (λ (j : Noted). IsOther p number j.note) notes → decided_entry x o (ended_by p number so_far) ≡ []
 decided-none x p number None notes so_far each others = refl
 decided-none x p number (Some op) notes [] each others = refl
 decided-none x p number (Some op) notes (t ∷ so_far) each others =
@@ -116,18 +117,42 @@ pub record IsKeptNext (s : Setup) (old : World) (c : Choice) (new : World) : Typ
   pub once : AreDecidedOnce new.trace
   pub replies : AreReplies old
 
+-- what an event of a run is made of: what its node is given, the node as it begins, what was done, the world after it and its note
+pub record Event : Type 0 where
+  pub g : Given
+  pub n : NodeState
+  pub step : Stepped
+  pub after : World
+  pub mark : Noted
+
+abbrev pub event : (s : Setup) (old : World) (c : Choice) (new : World) → IsKeptNext s old c new → Event
+event s old c new next =
+    record {
+      g = given s c.node;
+      n = ticked (old.nodes c.node) next.is.incoming;
+      step = next.is.step;
+      after = world_with old (place_at c next.is.step) c.what next.is.step;
+      mark = record { place = place_at c next.is.step; note = next.is.step.note };
+    }
+
+-- what is known of each: what it receives is such as nodes send, what it did, and what that made of its home
+pub event-incoming : (s : Setup) → (old : World) (c : Choice) (new : World) (next : IsKeptNext s old c new) → IsIncoming next.is.incoming
+event-incoming s old c new next =
+    incoming-is IsIncoming tt (λ number tick. tt) (λ tick. tt) IsFrame (λ x is. is) old c.node (λ from. next.kept.frames from c.node) c.what next.is.incoming next.is.comes
+
+pub event-did : (s : Setup) → (old : World) (c : Choice) (new : World) (next : IsKeptNext s old c new)
+    → Did (given s c.node) (ticked (old.nodes c.node) next.is.incoming) c.what next.is.incoming next.is.step
+event-did s old c new next = step_of-did (given s c.node) (old.nodes c.node) c.what next.is.incoming c.dropped next.is.step next.is.steps
+
+pub event-home : (s : Setup) → (old : World) (c : Choice) (new : World) (next : IsKeptNext s old c new)
+    → HomeStep (given s c.node) (ticked (old.nodes c.node) next.is.incoming) c.what next.is.incoming next.is.step
+event-home s old c new next = did-home (given s c.node) (ticked (old.nodes c.node) next.is.incoming) c.what next.is.incoming next.is.step (event-did s old c new next)
+
 module _ (s : Setup) (setup : IsSetup s) (old : World) (c : Choice) (new : World) (next : IsKeptNext s old c new) (heard : AreHeard s old) where
-  abbrev g : Given
-  g = given s c.node
+  open event s old c new next use {g, step, after}
 
   abbrev pub n : NodeState
   n = ticked (old.nodes c.node) next.is.incoming
-
-  abbrev step : Stepped
-  step = next.is.step
-
-  abbrev after : World
-  after = world_with old (place_at c step) c.what step
 
   same-tick : step.node.tick ≡ n.tick
   same-tick = step_of-tick g (old.nodes c.node) c.what next.is.incoming c.dropped step next.is.steps
@@ -141,7 +166,7 @@ module _ (s : Setup) (setup : IsSetup s) (old : World) (c : Choice) (new : World
       did-progress g n (next.calls.four c.node) (given-procs g (setup-gives s setup c.node next.is.node).programs) node.agrees (λ p proc. (node.followed p proc).wanted) c.what next.is.incoming step
       (incoming-is IsFrameProc tt (λ number tick. tt) (λ tick. tt) (λ m. IsProc m.proc) (λ m proc. proc) old c.node
       (λ from. EachOf-more _ (λ m. IsProc m.proc) (old.frames from c.node) (λ m is. is.proc) (next.calls.frames from c.node)) c.what next.is.incoming next.is.comes)
-      (step_of-did g (old.nodes c.node) c.what next.is.incoming c.dropped step next.is.steps)
+      (event-did s old c new next)
 
   -- the place of the event is none of before
   place-late : (x : Place) (a : ℕ) → x.node ≡ a → x.tick ≤ (old.nodes a).tick → place_at c step ≢ x
@@ -197,8 +222,8 @@ module _ (s : Setup) (setup : IsSetup s) (old : World) (c : Choice) (new : World
     | inr is ↦ subst (λ (x : NodeState). HeardAt a q so after.trace (after.nodes a).tick (proc_of x q)) (sym (put-other old.nodes c.node a step.node is)) (away is)
   ]
 
-  decided-more : EachOf (IsToldOf after.trace) so_far
-  decided-more = EachOf-more (IsToldOf old.trace) (IsToldOf after.trace) so_far (λ t was. elim was [ inl fault ↦ inl fault | inr decided ↦ inr (inr decided) ]) heard.decided
+  decided-more : EachOf (IsToldByDecision after.trace) so_far
+  decided-more = EachOf-more (IsToldByDecision old.trace) (IsToldByDecision after.trace) so_far (λ t was. elim was [ inl fault ↦ inl fault | inr decided ↦ inr (inr decided) ]) heard.decided
 
   all-so : told_by step.note ≡ [] → all_told after.trace ≡ so_far
   all-so none = ap (λ xs. xs ++ so_far) none
@@ -219,7 +244,7 @@ module _ (s : Setup) (setup : IsSetup s) (old : World) (c : Choice) (new : World
       record {
         places = places-after;
         named = (apart-named step.note apart, heard.named);
-        decided = subst (EachOf (IsToldOf after.trace)) (sym (all-so none.0)) decided-more;
+        decided = subst (EachOf (IsToldByDecision after.trace)) (sym (all-so none.0)) decided-more;
         procs = λ a q proc. subst (λ so. HeardAt a q so after.trace (after.nodes a).tick (proc_of (after.nodes a) q)) (sym (all-so none.0))
             (let same = carried a q so_far (proc_of (old.nodes a) q) (heard.procs a q proc) (ap (entries_of (proc_at a q)) none.1) in
             at-node so_far a q
@@ -264,13 +289,13 @@ module _ (s : Setup) (setup : IsSetup s) (old : World) (c : Choice) (new : World
         (λ j is. not-yet old c.node p (proc_of n p).last (next.calls.last c.node p proc) j.place j.note is) next.decisions.each)
         next.decisions.once (λ o k doing answer. answered-call o k doing answer) step.note progress))
 
-    finish : (so : List Told) → IsOfProc step.note → all_told after.trace ≡ so → EachOf (IsToldOf after.trace) so
+    finish : (so : List Told) → IsOfProc step.note → all_told after.trace ≡ so → EachOf (IsToldByDecision after.trace) so
         → ((a q : ℕ) → IsProc q → (a ≡ c.node → q ≡ p → ⊥) → HeardAt a q so old.trace (old.nodes a).tick (proc_of (old.nodes a) q))
         → ((a q : ℕ) → (a ≡ c.node → q ≡ p → ⊥) → entries_of (proc_at a q) (entries_at so (place_at c step) step.note) ≡ []) → Result
     finish so name same decided base none = record {
       places = places-after;
       named = (name, heard.named);
-      decided = subst (EachOf (IsToldOf after.trace)) (sym same) decided;
+      decided = subst (EachOf (IsToldByDecision after.trace)) (sym same) decided;
       procs = λ a q other. subst (λ xs. HeardAt a q xs after.trace (after.nodes a).tick (proc_of (after.nodes a) q)) (sym same)
           (at-node so a q
           (λ here. elim (cases_eq q p) [
@@ -299,7 +324,7 @@ module _ (s : Setup) (setup : IsSetup s) (old : World) (c : Choice) (new : World
         let e : Entry = record { place = place_at c step; proc = proc_at c.node p; phase = phase; op = op; reply = reply } in
         ap (λ (k : Note). entries_of (proc_at a q) (entries_at so_far (place_at c step) k)) same ∙ ap (λ b. if b then e ∷ [] else []) (apart-proc a q p differs))
 
-    ended-noted : (t : Told) → t.proc ≡ proc_at c.node p → IsNew t so_far → IsToldOf after.trace t → step.note ≡ Note.Ended t → Result
+    ended-noted : (t : Told) → t.proc ≡ proc_at c.node p → IsNew t so_far → IsToldByDecision after.trace t → step.note ≡ Note.Ended t → Result
     ended-noted t mine is_new decided same = finish (t ∷ so_far) (subst IsOfProc (sym same) (subst (λ (x : ProcName). IsProc x.number) (sym mine) proc)) (ap (λ (k : Note). told_by k ++ so_far) same) (decided, decided-more)
         (λ a q other differs. others-told ((given s a).asks q) (proc_at a q) so_far old.trace (old.nodes a).tick (proc_of (old.nodes a) q) (heard.procs a q other) t is_new
         (subst (λ x. same_proc x (proc_at a q) ≡ false) (sym mine) (apart-proc a q p differs)) (λ e. apart-name a q p differs (sym mine ∙ e)))
@@ -328,7 +353,7 @@ module _ (s : Setup) (setup : IsSetup s) (old : World) (c : Choice) (new : World
   step-heard = subst (AreHeard s) (sym next.is.world) (elim proc-step [ rests all apart ↦ when-rests all apart | comes p proc others progress ↦ when-comes p proc others progress ])
 
 -- ticks never fall
-timely-before : (s : Setup) (old : World) (c : Choice) (new : World) (is : IsNext s old c new) → IsTimely new → IsTimely old
+pub timely-before : (s : Setup) (old : World) (c : Choice) (new : World) (is : IsNext s old c new) → IsTimely new → IsTimely old
 timely-before s old c new is timely a = elim (cases_eq a c.node) [
   | inl same ↦
       (let e = ap (λ (w : World). (w.nodes a).tick) is.world ∙ ap (λ (x : NodeState). x.tick) (put-same old.nodes c.node a is.step.node same) in
@@ -361,7 +386,7 @@ module _ (s : Setup) (setup : IsSetup s) (procs : HasProcs s) where
         }) (before old refl was)
 
     pub every-kept-run : (cs : List Choice) (w : World) → world_after s cs ≡ Some w → IsTimely w → P w
-    every-kept-run [] w e timely = subst P (some-is (first_world s) w e) first
+    every-kept-run [] w e timely = subst P (same_Some (first_world s) w e) first
     every-kept-run (c ∷ cs) w e timely = then-one cs c w (world_after s cs) refl (λ old before was. every-kept-run cs old before was) e e timely
 
   -- in every run

@@ -6,9 +6,10 @@ use Rattle.uid_names.specs.declared.ids.Place.{Place}
 use Rattle.dom_history.specs.declared.op.Entry.{Entry}
 use Rattle.dom_history.specs.declared.op.Op.{Op}
 use Rattle.dom_history.specs.declared.op.Reply.{Reply}
-use Rattle.dom_history.specs.Histories.{Item, Answered, Acted, entries}
+use Rattle.dom_history.specs.Histories.{entries}
 use Rattle.dom_history.specs.Follows.{Heard, Reaches, starts, answered, passed, entries_of}
 use Rattle.dom_history.specs.declared.op.Want.{Want}
+use Rattle.dom_history.proofs.Items.{entries-append}
 use Rattle.ring_messages.specs.Bodies.{Answer}
 use Rattle.node_runs.specs.Setups.{Setup, IsSetup}
 use Rattle.node_runs.specs.NodeStates.{OpenOp, proc_of}
@@ -20,11 +21,6 @@ use Rattle.node_runs.proofs.SettingUp.{setup-procs}
 use Rattle.run_calls.specs.NotedEntries.{entry_if, begun_entry, decided_entry, entries_at, noted_entries}
 use Rattle.run_calls.specs.Entries.{replies_in, AreRepliesHeard, AreAskedHeard}
 use Rattle.run_calls.proofs.HearingRuns.{heard-are}
-
-pub items-append : (xs ys : List Item) → entries (xs ++ ys) ≡ entries xs ++ entries ys
-items-append [] ys = refl
-items-append (Answered e ∷ xs) ys = ap (λ es. e ∷ es) (items-append xs ys)
-items-append (Acted a ∷ xs) ys = items-append xs ys
 
 act-none : (x begun : Place) (p : ProcName) (op : Op) (o : Option Reply) → entries (act_item x begun p op o) ≡ []
 act-none x begun p op None = refl
@@ -61,7 +57,7 @@ note-entries w so_far x (Note.Decided p number ask answer) = decided-entries x p
 pub history-entries : (w : World) (so_far : List Told) (notes : List Noted) → entries (items_from w so_far notes) ≡ noted_entries so_far notes
 history-entries w so_far [] = refl
 history-entries w so_far (m ∷ older) =
-    items-append (items_of w so_far m.place m.note) (items_from w so_far older)
+    entries-append (items_of w so_far m.place m.note) (items_from w so_far older)
     ∙ ap (λ es. es ++ entries (items_from w so_far older)) (note-entries w so_far m.place m.note)
     ∙ ap (λ es. entries_at so_far m.place m.note ++ es) (history-entries w so_far older)
 

@@ -4,6 +4,7 @@ use Rattle.std.specs.Prelude.{◌⊎◌, ◌==◌, if◌then◌else◌}
 use Rattle.std.proofs.lemmas.Bool.{cases_eq}
 use Rattle.uid_names.proofs.ListLemmas.{by_cases}
 use Rattle.uid_names.specs.Names.{ProcName}
+use Rattle.uid_names.proofs.Passed.{equal}
 use Rattle.dom_history.specs.declared.op.Want.{Want}
 use Rattle.dom_history.specs.Follows.{Heard}
 use Rattle.dom_history.specs.Histories.{SomeOf}
@@ -16,21 +17,18 @@ use Rattle.node_runs.specs.Incomings.{Incoming}
 use Rattle.node_runs.specs.Notes.{Told, Note}
 use Rattle.node_runs.specs.Dones.{asking}
 use Rattle.node_runs.specs.NodesKeep.{IsTimely}
-use Rattle.node_runs.specs.Runs.{World, Choice, numbered, calls_after, world_with, world_after}
+use Rattle.node_runs.specs.Runs.{World, Choice, numbered, calls_after, world_after}
 use Rattle.node_runs.specs.RunHistories.{told_by, all_told}
 use Rattle.node_runs.specs.CallsKeep.{AsksThis, IsCallAt, IsOpenAt, IsOnLink}
-use Rattle.node_runs.proofs.Bools.{equal}
 use Rattle.node_runs.proofs.SettingUp.{setup-procs}
-use Rattle.node_runs.proofs.Doing.{step_of-did}
 use Rattle.node_runs.proofs.Receiving.{EachOf-more, incoming-is}
-use Rattle.node_runs.proofs.Worlds.{place_at}
 use Rattle.node_runs.proofs.Calls.{put-same, put-other}
 use Rattle.node_runs.proofs.CallSteps.{IsFrameProc, CallStep, silent, asked, again as sent_again, did-calls}
 use Rattle.run_calls.specs.Progress.{IsSettling, IsPart, IsPartDoing, Progress, opens, goes_on, again, did, told, pauses, is_done, ProcStep, rests, comes}
 use Rattle.run_calls.specs.DecidedReplies.{proc_at}
 use Rattle.run_calls.specs.Heard.{AreHeard}
 use Rattle.run_calls.specs.LastCalls.{HasNumber, IsOpenNumber, IsOpenOrTold, AreLastCalls}
-use Rattle.run_calls.proofs.HearingRuns.{IsKeptNext, n as acting, same-ask, proc-step, heard-are, every-kept-run}
+use Rattle.run_calls.proofs.HearingRuns.{IsKeptNext, n as acting, same-ask, proc-step, heard-are, every-kept-run, event, event-did}
 
 SomeOf-behind : {A : Type 0} (P : A → Type 0) (xs ys : List A) → SomeOf P ys → SomeOf P (xs ++ ys)
 SomeOf-behind P [] ys some = some
@@ -87,16 +85,15 @@ abbrev AreOwnCalls : World → Type 0
 AreOwnCalls w = (n p number home : ℕ) (ask : Ask) → IsCallAt (w.calls n p) number home ask → IsProc p
 
 module _ (s : Setup) (setup : IsSetup s) (old : World) (c : Choice) (new : World) (next : IsKeptNext s old c new) (heard : AreHeard s old) (last_calls : AreLastCalls old) where
+  open event s old c new next use {after}
+
   abbrev m : NodeState
   m = acting s setup old c new next heard
-
-  abbrev after : World
-  after = world_with old (place_at c next.is.step) c.what next.is.step
 
   known : (number home : ℕ) (ask : Ask) (a q : ℕ) → IsCallAt (calls_after old c.node next.is.step.call a q) number home ask → IsNewCall old c.node (proc_of next.is.step.node) a q number home ask
   known number home ask a q call = by (did-calls (given s c.node) m (next.calls.four c.node) (setup-procs s setup c.node) c.what next.is.incoming next.is.step
       (incoming-is IsFrameProc tt (λ i tick. tt) (λ tick. tt) (λ x. IsProc x.proc) (λ x is. is) old c.node (λ from. EachOf-more (IsOnLink old.calls from c.node) (λ (x : Message). IsProc x.proc) (old.frames from c.node) (λ x is. is.proc) (next.calls.frames from c.node)) c.what next.is.incoming next.is.comes)
-      (step_of-did (given s c.node) (old.nodes c.node) c.what next.is.incoming c.dropped next.is.step next.is.steps))
+      (event-did s old c new next))
     where
       by : CallStep (given s c.node) m next.is.step → IsNewCall old c.node (proc_of next.is.step.node) a q number home ask
       by (silent none reply stay four) = inl (subst (λ o. IsCallAt (calls_after old c.node o a q) number home ask) none call)

@@ -11,3 +11,13 @@ pub mod Following
 pub mod Placing
 pub mod Lasting
 mod Acting
+pub mod Fitting
+pub mod ToldRising
+pub mod SingleActs
+pub mod PhaseSteps
+pub mod Marking
+pub mod InPhases
+pub mod Phased
+pub mod Ending
+pub mod DecisionOrder
+pub mod PacedSample

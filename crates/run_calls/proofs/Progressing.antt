@@ -1,7 +1,8 @@
 -- How the processes of a node come on at each kind of event.
-use Rattle.std.proofs.Common.{◌≡◌, ℕ, Bool, true, false, List, ◌∷◌, length, Some, None, ◌⊎◌, inl, inr, refl, sym, ap, subst, ◌∙◌}
+use Rattle.std.proofs.Common.{◌≡◌, ℕ, true, List, ◌∷◌, length, Some, None, ◌⊎◌, inl, inr, refl, sym, ap, subst, ◌∙◌}
 use Rattle.std.specs.Prelude.{◌&&◌}
 use Rattle.uid_names.specs.Names.{ObjectName}
+use Rattle.uid_names.proofs.Passed.{equal}
 use Rattle.dom_history.specs.declared.op.Op.{Op}
 use Rattle.dom_history.specs.declared.op.Reply.{Reply}
 use Rattle.dom_history.specs.declared.op.Want.TheVariants.{Do}
@@ -22,14 +23,14 @@ use Rattle.node_runs.specs.Operations.{Said, answered}
 use Rattle.node_runs.specs.Incomings.{Incoming, has_program}
 use Rattle.node_runs.specs.Notes.{Note}
 use Rattle.node_runs.specs.Outcomes.{Stepped, Stage, next_call, turned, dropping, moved}
-use Rattle.node_runs.specs.Doings.{begun_at, stage_of, served_note, in_next_phase, others_marked}
+use Rattle.node_runs.specs.Doings.{begun_at, stage_of, served_note, others_marked}
 use Rattle.node_runs.specs.Dones.{Did, asking, paused, finished, began, resumed, served, passed_over, heard, ignored, resent, gave_up, got_ready, marked}
 use Rattle.node_runs.specs.Rooms.{MayMove}
 use Rattle.node_runs.specs.Agreements.{Agrees}
 use Rattle.node_runs.specs.Following.{IsWanted}
 use Rattle.node_runs.specs.RunHistories.{is_fault}
-use Rattle.node_runs.proofs.Bools.{equal}
 use Rattle.node_runs.proofs.CallSteps.{IsFrameProc}
+use Rattle.node_runs.proofs.Ticks.{next-procs}
 use Rattle.run_calls.specs.Progress.{IsSettling, IsAnswered, IsPart, IsPartDoing, Progress, opens, goes_on, again, did, told, pauses, is_done, IsApart, ProcStep, rests, comes}
 use Rattle.run_calls.proofs.Settling.{IsFaultTurn, SettlesOr, MaySettle, said-settles, failed-fault}
 
@@ -84,10 +85,6 @@ module _ (g : Given) (n : NodeState) (four : length n.procs ≡ 4) (incoming : I
   served-apart Fresh m ask answer = tt
   served-apart Again m ask answer = tt
   served-apart Old m ask answer = tt
-
-next-procs : (b : Bool) (x : NodeState) → (in_next_phase b x).procs ≡ x.procs
-next-procs true x = refl
-next-procs false x = refl
 
 -- an answer that is heard
 heard-step : (g : Given) (n : NodeState) (four : length n.procs ≡ 4) (m : Message) (proc : IsProc m.proc) (o : BegunOp) (c : Asked) → ask_of m.body ≡ None → (proc_of n m.proc).doing ≡ asking o c → m.number ≡ c.waiting.number → g.asks m.proc (proc_of n m.proc).heard ≡ Do o.op

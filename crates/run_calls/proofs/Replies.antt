@@ -3,6 +3,7 @@ use Rattle.std.proofs.Common.{◌≡◌, ℕ, true, List, [], ◌∷◌, Option,
 use Rattle.std.specs.Prelude.{IfSome, if◌then◌else◌, ◌==◌, nat_lt, ◌&&◌, unwrap_or}
 use Rattle.std.proofs.lemmas.Bool.{cases_eq}
 use Rattle.std.proofs.lemmas.Bool.Decides.{nat_tests}
+use Rattle.std.proofs.lemmas.Option.{same_Some}
 use Rattle.uid_names.proofs.ListLemmas.{by_cases}
 use Rattle.uid_names.specs.Names.{ProcName, ObjectName, same_proc}
 use Rattle.uid_names.proofs.Orders.{same_proc_is}
@@ -11,8 +12,8 @@ use Rattle.call_once.specs.declared.served.Looked.{Looked}
 use Rattle.call_once.specs.declared.served.Looked.TheVariants.{Fresh, Again, Old}
 use Rattle.call_once.specs.Calls.{Call, call_of, body_in, number_in, last_of, looked, with_call}
 use Rattle.call_once.proofs.KeptCalls.{call_of-with_call}
-use Rattle.ring_messages.specs.Bodies.{Ask, Answer, ask_of, body_of_ask, is_request}
-use Rattle.ring_messages.proofs.Asking.{asked-body, asked-seen}
+use Rattle.ring_messages.specs.Bodies.{Ask, Answer, ask_of, is_request}
+use Rattle.ring_messages.proofs.Asking.{asked-body, asked-seen, asks-request}
 use Rattle.ring_messages.specs.Frames.{Message, caller_of}
 use Rattle.page_server.specs.Decisions.{decide}
 use Rattle.page_server.specs.Serving.{serve_as, serve_of, reply_to}
@@ -27,7 +28,6 @@ use Rattle.node_runs.specs.Doings.{ticked, begun_at, stage_of, noticed_call, ser
 use Rattle.node_runs.specs.Dones.{Did, paused, finished, began, resumed, served, passed_over, heard, ignored, resent, gave_up, got_ready, marked}
 use Rattle.node_runs.specs.Runs.{World, Choice, frames_after, world_with, world_after, Noted}
 use Rattle.node_runs.specs.CallsKeep.{EachOf}
-use Rattle.node_runs.proofs.Somes.{some-is}
 use Rattle.node_runs.proofs.Doing.{step_of-did}
 use Rattle.node_runs.proofs.Sides.{next-side}
 use Rattle.node_runs.proofs.Worlds.{IsNext, place_at, every-run}
@@ -35,19 +35,8 @@ use Rattle.node_runs.proofs.Receiving.{EachOf-more}
 use Rattle.node_runs.proofs.Calls.{put-same, put-other, frames-one}
 use Rattle.run_calls.specs.DecidedReplies.{proc_at, IsDecisionOf, WasDecided, IsAnswerOf, WasAnswered, IsReplyOf, AreReplies}
 
--- a body that asks something is a request
-asks-request : (ask : Ask) → is_request (body_of_ask ask) ≡ true
-asks-request (Ask.PageIn u k) = refl
-asks-request (Ask.PageOut u k grant base bytes) = refl
-asks-request (Ask.AttrOut u n grant base) = refl
-asks-request (Ask.Lock u m) = refl
-asks-request (Ask.Unlock u) = refl
-asks-request (Ask.Remove u) = refl
-asks-request (Ask.Make kind room) = refl
-asks-request (Ask.ListLocks after) = refl
-
 -- the caller of a request
-caller-at : (m : Message) (ask : Ask) → ask_of m.body ≡ Some ask → caller_of m ≡ proc_at m.from m.proc
+pub caller-at : (m : Message) (ask : Ask) → ask_of m.body ≡ Some ask → caller_of m ≡ proc_at m.from m.proc
 caller-at m ask asks = ap (λ b. proc_at (if b then m.from else m.to) m.proc) (ap is_request (asked-body m.body ask asks) ∙ asks-request ask)
 
 -- the caller of a request is decided now, or was before
@@ -72,7 +61,7 @@ module _ (g : Given) (n : NodeState) where
     -- an answer that is kept is that of a call
     from_kept : (o : Option (Call Answer)) → call_of (caller_of m) n.side.served ≡ o → body_in o ≡ Some answer → m.number ≡ last_of (caller_of m) n.side.served → s.node.side ≡ n.side → Answering n s m answer
     from_kept None found body number same = absurd (cc)
-    from_kept (Some call) found body number same = kept_again same call found (sym (number ∙ ap number_in found)) (some-is call.body answer body)
+    from_kept (Some call) found body number same = kept_again same call found (sym (number ∙ ap number_in found)) (same_Some call.body answer body)
 
     served-by : (how : Looked) → how ≡ looked m.number (last_of (caller_of m) n.side.served) → s.note ≡ served_note how (caller_of m) m.number ask answer → Answering n s m answer
     served-by Fresh same note =

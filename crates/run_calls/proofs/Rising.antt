@@ -1,14 +1,14 @@
 -- The items of a run's history rise: each stands at the place of its note, and no place has two.
-use Rattle.std.proofs.Common.{◌≡◌, Bool, true, false, List, [], ◌∷◌, ◌++◌, Option, Some, None, refl, sym, ap, subst, ◌∙◌, arith}
+use Rattle.std.proofs.Common.{◌≡◌, Bool, true, false, List, [], ◌∷◌, ◌++◌, Option, Some, None, refl, sym, ap, subst, ◌∙◌}
 use Rattle.std.specs.Prelude.{All, IsTrue}
 use Rattle.std.specs.List.{AllByRecursion}
 use Rattle.std.proofs.lemmas.List.Elements.{All-from_recursion}
-use Rattle.std.proofs.lemmas.Bool.Decides.{nat_tests}
 use Rattle.uid_names.specs.Names.{ProcName}
 use Rattle.uid_names.specs.declared.ids.Place.{Place}
 use Rattle.dom_history.specs.declared.op.Op.{Op}
 use Rattle.dom_history.specs.declared.op.Reply.{Reply}
 use Rattle.dom_history.specs.Histories.{Item, place_of, place_lt, IsRising}
+use Rattle.dom_history.proofs.Places.{place_lt-trans}
 use Rattle.ring_messages.specs.Bodies.{Answer}
 use Rattle.node_runs.specs.Setups.{Setup}
 use Rattle.node_runs.specs.NodeStates.{OpenOp}
@@ -29,12 +29,9 @@ pub record AreAtEvents (w : World) : Type 0 where
   pub top : (x : Place) → is_above x w.done ≡ is_above_notes x w.trace
   pub rising : AreRisingNotes w.trace
 
-lt-trans : (x y z : Place) → place_lt x y ≡ true → place_lt y z ≡ true → place_lt x z ≡ true
-lt-trans x y z e f = grind (arith, nat_tests, e, f)
-
 above-all : (x : Place) (notes : List Noted) → AreRisingNotes notes → is_above_notes x notes ≡ true → EachOf (λ (j : Noted). place_lt j.place x ≡ true) notes
 above-all x [] rising above = tt
-above-all x (m ∷ older) rising above = (above, EachOf-more (λ (j : Noted). place_lt j.place m.place ≡ true) (λ (j : Noted). place_lt j.place x ≡ true) older (λ j is. lt-trans j.place m.place x is above) rising.0)
+above-all x (m ∷ older) rising above = (above, EachOf-more (λ (j : Noted). place_lt j.place m.place ≡ true) (λ (j : Noted). place_lt j.place x ≡ true) older (λ j is. place_lt-trans j.place m.place x is above) rising.0)
 
 notes-later : (s : Setup) (old : World) (c : Choice) (new : World) → IsNext s old c new → AreAtEvents old → AreAtEvents new
 notes-later s old c new is at = subst AreAtEvents (sym is.world) (record {

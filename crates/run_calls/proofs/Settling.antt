@@ -1,9 +1,11 @@
 -- Which call settles an operation: an answer to a page or a length that was sent never ends one, and a call that is given
 -- up ends it by a link fault.
 use Rattle.std.proofs.Common.{◌≡◌, ℕ, Bool, true, false, Option, Some, None, refl, sym, subst}
+use Rattle.std.proofs.lemmas.Option.{same_Some}
 use Rattle.uid_names.specs.Names.{ObjectName}
 use Rattle.uid_names.specs.declared.mode.Mode.{Mode}
 use Rattle.uid_names.specs.Steps.{◌>>=◌}
+use Rattle.uid_names.proofs.Somes.{bind-some, map-some}
 use Rattle.dom_history.specs.declared.op.Op.{Op}
 use Rattle.dom_history.specs.declared.op.Op.TheVariants as ops
 use Rattle.page_cache.specs.Numbers.{dirty_page}
@@ -25,7 +27,6 @@ use Rattle.lock_validate.specs.Faults.{call_failed_of}
 use Rattle.node_runs.specs.Operations.{Said, said_to_new, said_to_list, said_to_lock, said_to_call, said_by, said_of, access_failed, call_failed, failed}
 use Rattle.node_runs.specs.Agreements.{IsCalling}
 use Rattle.node_runs.specs.RunHistories.{is_fault}
-use Rattle.node_runs.proofs.Somes.{some-is, map-some, bind-some}
 use Rattle.run_calls.specs.Progress.{IsSettling}
 
 -- the operation goes on
@@ -146,27 +147,27 @@ length-part moving u length delete (Ask.ListLocks after) is = λ settles. absurd
 
 module _ (d : DeskState) (p : ℕ) (ask : Ask) where
   page-goes : (u : ObjectName) (k : ℕ) (delete : Bool) (answer : Answer) (said : LockAnswer) → lock_answer (LockCall.PageOut u k delete) answer ≡ Some said → GoesOn (answer_came_of d p said).turn
-  page-goes u k delete (Answer.Stored stamp) said e = subst (λ a. GoesOn (answer_came_of d p a).turn) (some-is (LockAnswer.PageSettled u delete true stamp) said e) (release_of-goes (with_raised (with_page_done (with_call d p None) p true) u stamp) p u delete)
-  page-goes u k delete (Answer.Stale stamp) said e = subst (λ a. GoesOn (answer_came_of d p a).turn) (some-is (LockAnswer.PageSettled u delete false stamp) said e) (release_of-goes (with_raised (with_page_done (with_call d p None) p false) u stamp) p u delete)
+  page-goes u k delete (Answer.Stored stamp) said e = subst (λ a. GoesOn (answer_came_of d p a).turn) (same_Some (LockAnswer.PageSettled u delete true stamp) said e) (release_of-goes (with_raised (with_page_done (with_call d p None) p true) u stamp) p u delete)
+  page-goes u k delete (Answer.Stale stamp) said e = subst (λ a. GoesOn (answer_came_of d p a).turn) (same_Some (LockAnswer.PageSettled u delete false stamp) said e) (release_of-goes (with_raised (with_page_done (with_call d p None) p false) u stamp) p u delete)
   page-goes u k delete answer said e = absurd (cc)
 
   length-goes : (u : ObjectName) (n : ℕ) (delete : Bool) (answer : Answer) (said : LockAnswer) → lock_answer (LockCall.AttrOut u n delete) answer ≡ Some said → GoesOn (answer_came_of d p said).turn
-  length-goes u n delete (Answer.Stored stamp) said e = subst (λ a. GoesOn (answer_came_of d p a).turn) (some-is (LockAnswer.LengthSettled u n delete true stamp) said e) (release_of-goes (with_raised (with_length_done (with_call d p None) u n true) u stamp) p u delete)
-  length-goes u n delete (Answer.Stale stamp) said e = subst (λ a. GoesOn (answer_came_of d p a).turn) (some-is (LockAnswer.LengthSettled u n delete false stamp) said e) (release_of-goes (with_raised (with_length_done (with_call d p None) u n false) u stamp) p u delete)
+  length-goes u n delete (Answer.Stored stamp) said e = subst (λ a. GoesOn (answer_came_of d p a).turn) (same_Some (LockAnswer.LengthSettled u n delete true stamp) said e) (release_of-goes (with_raised (with_length_done (with_call d p None) u n true) u stamp) p u delete)
+  length-goes u n delete (Answer.Stale stamp) said e = subst (λ a. GoesOn (answer_came_of d p a).turn) (same_Some (LockAnswer.LengthSettled u n delete false stamp) said e) (release_of-goes (with_raised (with_length_done (with_call d p None) u n false) u stamp) p u delete)
   length-goes u n delete answer said e = absurd (cc)
 
   lock-ends : (u : ObjectName) (m : Mode) (answer : Answer) (said : LockAnswer) → lock_answer (LockCall.Lock u m) answer ≡ Some said → EndsIt (answer_came_of d p said).turn
-  lock-ends u m (Answer.Granted grant stamp kind room n) said e = subst (λ a. EndsIt (answer_came_of d p a).turn) (some-is (LockAnswer.Granted u m grant stamp room n) said e) tt
-  lock-ends u m (Answer.Conflict q held) said e = subst (λ a. EndsIt (answer_came_of d p a).turn) (some-is (LockAnswer.Refused q held) said e) tt
-  lock-ends u m Answer.NoObject said e = subst (λ a. EndsIt (answer_came_of d p a).turn) (some-is (LockAnswer.Gone u) said e) tt
+  lock-ends u m (Answer.Granted grant stamp kind room n) said e = subst (λ a. EndsIt (answer_came_of d p a).turn) (same_Some (LockAnswer.Granted u m grant stamp room n) said e) tt
+  lock-ends u m (Answer.Conflict q held) said e = subst (λ a. EndsIt (answer_came_of d p a).turn) (same_Some (LockAnswer.Refused q held) said e) tt
+  lock-ends u m Answer.NoObject said e = subst (λ a. EndsIt (answer_came_of d p a).turn) (same_Some (LockAnswer.Gone u) said e) tt
   lock-ends u m answer said e = absurd (cc)
 
   unlock-ends : (u : ObjectName) (answer : Answer) (said : LockAnswer) → lock_answer (LockCall.Unlock u) answer ≡ Some said → EndsIt (answer_came_of d p said).turn
-  unlock-ends u Answer.Done said e = subst (λ a. EndsIt (answer_came_of d p a).turn) (some-is (LockAnswer.Released u) said e) tt
+  unlock-ends u Answer.Done said e = subst (λ a. EndsIt (answer_came_of d p a).turn) (same_Some (LockAnswer.Released u) said e) tt
   unlock-ends u answer said e = absurd (cc)
 
   remove-ends : (u : ObjectName) (answer : Answer) (said : LockAnswer) → lock_answer (LockCall.Remove u) answer ≡ Some said → EndsIt (answer_came_of d p said).turn
-  remove-ends u Answer.Done said e = subst (λ a. EndsIt (answer_came_of d p a).turn) (some-is (LockAnswer.Removed u) said e) tt
+  remove-ends u Answer.Done said e = subst (λ a. EndsIt (answer_came_of d p a).turn) (same_Some (LockAnswer.Removed u) said e) tt
   remove-ends u answer said e = absurd (cc)
 
   said-lock : (moving : Option Transit) (call : LockCall) (answer : Answer) (said : LockAnswer) → lock_answer call answer ≡ Some said → IsRequestOf moving (open_call call) ask → SettlesOr ask (answer_came_of d p said).turn
@@ -195,12 +196,12 @@ module _ (d : DeskState) (p : ℕ) (ask : Ask) where
   to-desk moving answer (Some call) said e is = to-call moving answer call said e is
 
   to-new : (answer : Answer) (said : Said) → said_to_new answer ≡ Some said → IsSettling ask → MaySettle d p ask said
-  to-new (Answer.Made u) said e is = subst (MaySettle d p ask) (some-is (Said.Replies _) said e) is
-  to-new Answer.NoSpace said e is = subst (MaySettle d p ask) (some-is (Said.Replies _) said e) is
+  to-new (Answer.Made u) said e is = subst (MaySettle d p ask) (same_Some (Said.Replies _) said e) is
+  to-new Answer.NoSpace said e is = subst (MaySettle d p ask) (same_Some (Said.Replies _) said e) is
   to-new answer said e is = absurd (cc)
 
   to-list : (answer : Answer) (said : Said) → said_to_list answer ≡ Some said → IsSettling ask → MaySettle d p ask said
-  to-list (Answer.Listed rows more) said e is = subst (MaySettle d p ask) (some-is (Said.Replies _) said e) is
+  to-list (Answer.Listed rows more) said e is = subst (MaySettle d p ask) (same_Some (Said.Replies _) said e) is
   to-list answer said e is = absurd (cc)
 
   to-op : (op : Op) (answer : Answer) (said : Said) → said_by d p op answer ≡ Some said → IsCalling d p op ask → MaySettle d p ask said
@@ -229,7 +230,7 @@ module _ (d : DeskState) (p : ℕ) where
 
   call-fault : (o : Option LockCall) (to : Moved) → call_failed d p o ≡ Some to → IsFaultTurn to.turn
   call-fault None to e = let found = map-some (access_failed d p) (moving_of d p) to e in subst (λ (m : Moved). IsFaultTurn m.turn) (sym found.2) refl
-  call-fault (Some call) to e = subst (λ (m : Moved). IsFaultTurn m.turn) (some-is (call_failed_of d p call) to e) (lock-fault call)
+  call-fault (Some call) to e = subst (λ (m : Moved). IsFaultTurn m.turn) (same_Some (call_failed_of d p call) to e) (lock-fault call)
 
   desk-fault : (o : Option OpenCall) (to : Moved) → (o >>= λ call. call_failed d p (lock_call call)) ≡ Some to → IsFaultTurn to.turn
   desk-fault None to e = absurd (cc)
@@ -237,8 +238,8 @@ module _ (d : DeskState) (p : ℕ) where
 
   -- a call that is given up
   pub failed-fault : (op : Op) (to : Moved) → failed d p op ≡ Some to → IsFaultTurn to.turn
-  failed-fault (ops.New home kind room) to e = subst (λ (m : Moved). IsFaultTurn m.turn) (some-is _ to e) refl
-  failed-fault (ops.List home after) to e = subst (λ (m : Moved). IsFaultTurn m.turn) (some-is _ to e) refl
+  failed-fault (ops.New home kind room) to e = subst (λ (m : Moved). IsFaultTurn m.turn) (same_Some _ to e) refl
+  failed-fault (ops.List home after) to e = subst (λ (m : Moved). IsFaultTurn m.turn) (same_Some _ to e) refl
   failed-fault (ops.Lock u m) to e = desk-fault (open_call_of d p) to e
   failed-fault (ops.Unlock u) to e = desk-fault (open_call_of d p) to e
   failed-fault (ops.Delete u) to e = desk-fault (open_call_of d p) to e

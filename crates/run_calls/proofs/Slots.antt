@@ -3,16 +3,16 @@ use Rattle.std.proofs.Common.{◌≡◌, ℕ, true, false, List, [], ◌∷◌, 
 use Rattle.std.specs.Prelude.{◌==◌, ◌&&◌, not, ◌⊎◌, if◌then◌else◌}
 use Rattle.std.proofs.lemmas.Bool.{eq-eqb}
 use Rattle.uid_names.proofs.ListLemmas.{by_cases}
-use Rattle.uid_names.proofs.Orders.{same_proc_is}
+use Rattle.uid_names.proofs.Orders.{same_proc_is, same_proc-itself}
 use Rattle.uid_names.specs.Names.{ProcName, same_proc}
 use Rattle.uid_names.specs.declared.ids.Place.{Place}
+use Rattle.uid_names.proofs.Passed.{left-true, right-true, equal}
 use Rattle.dom_history.specs.declared.op.Op.{Op}
 use Rattle.dom_history.specs.Histories.{same_place}
 use Rattle.dom_history.specs.Follows.{entries_of}
 use Rattle.ring_messages.specs.Bodies.{Ask, Answer}
 use Rattle.node_runs.specs.Notes.{Told, Note}
 use Rattle.node_runs.specs.RunHistories.{is_fault, settled_op, ended_at, ended_by}
-use Rattle.node_runs.proofs.Bools.{left-true, right-true, equal}
 use Rattle.run_calls.specs.Progress.{IsSettling}
 use Rattle.run_calls.specs.NotedEntries.{entry_of, entry_if, begun_entry, decided_entry, entries_at}
 
@@ -24,9 +24,6 @@ place-is x y h =
 
 pub same_place-refl : (x : Place) → same_place x x ≡ true
 same_place-refl x = ap (λ b. b && (x.node == x.node)) (eq-eqb x.tick x.tick refl) ∙ eq-eqb x.node x.node refl
-
-pub same_proc-refl : (p : ProcName) → same_proc p p ≡ true
-same_proc-refl p = ap (λ b. b && (p.number == p.number)) (eq-eqb p.node p.node refl) ∙ eq-eqb p.number p.number refl
 
 pub settles : (home : ℕ) (ask : Ask) → (settled_op home ask ≡ None) ⊎ (IsSettling ask × ((op : Op) × (settled_op home ask ≡ Some op)))
 settles home (Ask.PageIn u k) = inl refl
@@ -123,7 +120,7 @@ module _ (t : Told) (told : List Told) (is_new : IsNew t told) where
   in-slot x (Note.Did p phase op reply) is = absurd is
   in-slot x (Note.Ended u) is = absurd is
   in-slot x (Note.Began p op) is =
-      let h : (same_proc t.proc t.proc && same_place t.begun t.begun) ≡ true = ap (λ b. b && same_place t.begun t.begun) (same_proc-refl t.proc) ∙ same_place-refl t.begun in
+      let h : (same_proc t.proc t.proc && same_place t.begun t.begun) ≡ true = ap (λ b. b && same_place t.begun t.begun) (same_proc-itself t.proc) ∙ same_place-refl t.begun in
       let new : ended_at t.proc t.begun (t ∷ told) ≡ Some t = ap (λ b. if b then Some t else ended_at t.proc t.begun told) h in
       record {
         is = is;
@@ -131,7 +128,7 @@ module _ (t : Told) (told : List Told) (is_new : IsNew t told) where
         after = ap (begun_entry x) (subst (λ q. ended_at q x (t ∷ told) ≡ Some t) (sym is.0) (subst (λ y. ended_at t.proc y (t ∷ told) ≡ Some t) (sym is.1) new)) ∙ ap (λ b. entry_if b x t) is.2;
       }
   in-slot x (Note.Decided p number ask answer) is =
-      let h : (same_proc t.proc t.proc && (t.number == t.number)) ≡ true = ap (λ b. b && (t.number == t.number)) (same_proc-refl t.proc) ∙ eq-eqb t.number t.number refl in
+      let h : (same_proc t.proc t.proc && (t.number == t.number)) ≡ true = ap (λ b. b && (t.number == t.number)) (same_proc-itself t.proc) ∙ eq-eqb t.number t.number refl in
       let new : ended_by t.proc t.number (t ∷ told) ≡ Some t = ap (λ b. if b then Some t else ended_by t.proc t.number told) h in
       let old_here : ended_by p number told ≡ None = subst (λ q. ended_by q number told ≡ None) (sym is.0) (subst (λ k. ended_by t.proc k told ≡ None) (sym is.1) is_new.by_number) in
       let new_here : ended_by p number (t ∷ told) ≡ Some t = subst (λ q. ended_by q number (t ∷ told) ≡ Some t) (sym is.0) (subst (λ k. ended_by t.proc k (t ∷ told) ≡ Some t) (sym is.1) new) in

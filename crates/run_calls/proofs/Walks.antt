@@ -4,6 +4,7 @@ use Rattle.std.specs.Prelude.{if◌then◌else◌}
 use Rattle.std.proofs.lemmas.List.Elements.{filter-append}
 use Rattle.uid_names.specs.Names.{ProcName, same_proc}
 use Rattle.uid_names.specs.declared.ids.Place.{Place}
+use Rattle.uid_names.proofs.Orders.{same_proc-itself}
 use Rattle.dom_history.specs.declared.op.Entry.{Entry}
 use Rattle.dom_history.specs.Histories.{SomeOf}
 use Rattle.dom_history.specs.Follows.{entries_of}
@@ -18,7 +19,7 @@ use Rattle.run_calls.specs.NotedEntries.{entry_of, entries_at, noted_entries}
 use Rattle.run_calls.specs.DecidedReplies.{IsDecisionOf}
 use Rattle.run_calls.specs.Placed.{IsSettledBy}
 use Rattle.run_calls.specs.Since.{IsUndecided, Since, here, later}
-use Rattle.run_calls.proofs.Slots.{IsSlot, IsNew, off-slot, in-slot, others-same, same_proc-refl}
+use Rattle.run_calls.proofs.Slots.{IsSlot, IsNew, off-slot, in-slot, others-same}
 
 pub entries-append : (p : ProcName) (xs ys : List Entry) → entries_of p (xs ++ ys) ≡ entries_of p xs ++ entries_of p ys
 entries-append p xs ys = filter-append (λ e. same_proc e.proc p) xs ys
@@ -80,7 +81,7 @@ module _ (t : Told) (told : List Told) (is_new : IsNew t told) where
 
   module _ (p : ProcName) (proc : t.proc ≡ p) (o : BegunOp) (a : Await) (begun : t.begun ≡ o.begun) (op : t.op ≡ o.op) where
     own : (x : Place) (rest : List Entry) → entries_of p (entry_of x t ∷ rest) ≡ entry_of x t ∷ entries_of p rest
-    own x rest = ap (λ b. if b then entry_of x t ∷ entries_of p rest else entries_of p rest) (subst (λ q. same_proc t.proc q ≡ true) proc (same_proc-refl t.proc))
+    own x rest = ap (λ b. if b then entry_of x t ∷ entries_of p rest else entries_of p rest) (subst (λ q. same_proc t.proc q ≡ true) proc (same_proc-itself t.proc))
 
     -- above the note at which it stands nothing is of the process
     above : (m : Noted) (older : List Noted) → entries_of p (entries_at told m.place m.note) ≡ [] → (IsSlot t m.place m.note → ⊥) → Inserted p t told older → Inserted p t told (m ∷ older)

@@ -42,8 +42,8 @@ pub record IsHeardAt (ask : Heard → Want) (p : ProcName) (so_far : List Told) 
   pub doing : IsDoingSince p so_far notes tick q.last q.doing
 
 -- what ended by an answer was decided
-abbrev pub IsToldOf : List Noted → Told → Type 0
-IsToldOf notes t = (is_fault t.reply ≡ true) ⊎ WasDecided notes t.proc t.number
+abbrev pub IsToldByDecision : List Noted → Told → Type 0
+IsToldByDecision notes t = (is_fault t.reply ≡ true) ⊎ WasDecided notes t.proc t.number
 
 -- what ended was an operation of one of the four processes
 abbrev pub IsOfProc : Note → Type 0
@@ -54,5 +54,5 @@ IsOfProc note = Unit {0}
 pub record AreHeard (s : Setup) (w : World) : Type 0 where
   pub places : EachOf (λ (j : Noted). j.place.tick ≤ (w.nodes j.place.node).tick) w.trace
   pub named : EachOf (λ (j : Noted). IsOfProc j.note) w.trace
-  pub decided : EachOf (IsToldOf w.trace) (all_told w.trace)
+  pub decided : EachOf (IsToldByDecision w.trace) (all_told w.trace)
   pub procs : (n p : ℕ) → IsProc p → IsHeardAt ((given s n).asks p) (proc_at n p) (all_told w.trace) w.trace (w.nodes n).tick (proc_of (w.nodes n) p)

@@ -7,3 +7,10 @@ pub mod Heard
 pub mod Entries
 pub mod LastCalls
 pub mod Acts
+pub mod FittingAnswers
+pub mod SingleActs
+pub mod Phases
+pub mod Paced
+pub mod DecisionOrder
+pub mod PacedSample
+pub mod LastActs

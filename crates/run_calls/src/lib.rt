@@ -1,4 +1,4 @@
-//! Laws of the calls of runs: what each program heard is what the history of its run says.
+//! Laws of the calls, the answers, the acts and the phases of runs, and of runs that have ended.
 #![tactic(auto)]
 
 pub mod laws;

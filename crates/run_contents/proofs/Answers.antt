@@ -1,5 +1,6 @@
 -- The open call that an answer is of, which its desk takes, and what the answer tells.
 use Rattle.std.proofs.Common.{◌≡◌, ℕ, Bool, true, false, List, [], ◌∷◌, Option, Some, None, inl, inr, refl, sym, ap, subst, ◌∙◌}
+use Rattle.std.proofs.lemmas.Option.{same_Some}
 use Rattle.uid_names.specs.Names.{ProcName, ObjectName}
 use Rattle.uid_names.specs.declared.ids.Place.{Place}
 use Rattle.dom_history.specs.Histories.{SomeOf}
@@ -20,31 +21,29 @@ use Rattle.desk_laws.specs.Causes.{Cause, MayCome, IsOf}
 use Rattle.desk_laws.specs.Told.{told_stamp}
 use Rattle.desk_laws.proofs.PageSaid.{page-said}
 use Rattle.node_runs.specs.Setups.{Setup, given}
-use Rattle.node_runs.specs.NodeStates.{Asked, Await, BegunOp, OpenOp, NodeState, proc_of}
+use Rattle.node_runs.specs.NodeStates.{Asked, Await, BegunOp, OpenOp, proc_of}
 use Rattle.node_runs.specs.Dones.{asking}
-use Rattle.node_runs.specs.Doings.{ticked}
 use Rattle.node_runs.specs.Outcomes.{Stage}
 use Rattle.node_runs.specs.Agreements.{IsCalling, Agrees}
 use Rattle.node_runs.specs.Notes.{Note}
 use Rattle.node_runs.specs.Runs.{World, Noted, Choice, numbered}
 use Rattle.node_runs.specs.CallsKeep.{IsCallAt, EachOf, IsOpenAt}
 use Rattle.node_runs.specs.DecidedCalls.{IsDecided}
-use Rattle.node_runs.proofs.Somes.{some-is}
 use Rattle.run_calls.specs.DecidedReplies.{proc_at, IsAnswerOf, WasAnswered}
 use Rattle.run_calls.specs.LastCalls.{HasNumber, IsOpenNumber}
-use Rattle.run_calls.proofs.HearingRuns.{IsKeptNext}
-use Rattle.run_nodes.specs.DeskSteps.{Takes, IsTaken, IsAt}
-use Rattle.run_nodes.specs.AskedHomes.{IsAtHome, IsOpenAtHome, AreOpenAtHomes}
-use Rattle.run_nodes.specs.OpenCalls.{HasSent, IsPageSent, Carries, CarriesOpen, AreCarried}
-use Rattle.run_nodes.proofs.EndedOps.{op-request}
-use Rattle.run_nodes.proofs.GoingPages.{going-uid, going-page, not-coming}
-use Rattle.run_nodes.proofs.ToldAnswers.{taken-decided}
+use Rattle.run_calls.proofs.HearingRuns.{IsKeptNext, event}
+use Rattle.run_desks.specs.DeskSteps.{Takes, IsTaken, IsAt}
+use Rattle.run_desks.specs.AskedHomes.{IsAtHome, IsOpenAtHome, AreOpenAtHomes}
+use Rattle.run_desks.specs.OpenCalls.{HasSent, IsPageSent, Carries, CarriesOpen, AreCarried}
+use Rattle.run_desks.proofs.EndedOps.{op-request}
+use Rattle.run_desks.proofs.GoingPages.{going-uid, going-page, not-coming}
+use Rattle.run_desks.proofs.ToldAnswers.{taken-decided}
 use Rattle.run_homes.proofs.HomeEffects.{same-home}
-use Rattle.run_stamps.specs.Items.{Item, Value, page_value, write_of}
-use Rattle.run_stamps.specs.Stamps.{Tells, IsToldOf, AreStamped}
+use Rattle.run_contents.specs.Items.{Item, Value, page_value, write_of}
+use Rattle.run_contents.specs.Stamps.{TellsItem, IsItemTold, AreStamped}
 use Rattle.run_contents.specs.Writes.{IsStillSent, IsUnchanged, IsAcknowledged}
 use Rattle.run_contents.proofs.ItemSteps.{Cleans}
-use Rattle.run_stamps.proofs.Given.{NoteHas}
+use Rattle.run_contents.proofs.Given.{NoteHas}
 use Rattle.run_contents.proofs.Traces.{told-of, stamps-told}
 
 -- a process's open call was answered so
@@ -70,12 +69,12 @@ answer-said pages (Some task) (Some t) x a e = by t.inward e
   where
     outward : (r : Option Resident) (x : Answer) → answer_outward task r x ≡ Some a → IsSaidBy a x
     outward None x e = absurd (cc)
-    outward (Some r) (Answer.Stored stamp) e = subst (λ b. IsSaidBy b (Answer.Stored stamp)) (some-is (PageAnswer.Taken task r stamp) a e) refl
-    outward (Some r) (Answer.Stale stamp) e = subst (λ b. IsSaidBy b (Answer.Stale stamp)) (some-is (PageAnswer.NotTaken task r stamp) a e) refl
+    outward (Some r) (Answer.Stored stamp) e = subst (λ b. IsSaidBy b (Answer.Stored stamp)) (same_Some (PageAnswer.Taken task r stamp) a e) refl
+    outward (Some r) (Answer.Stale stamp) e = subst (λ b. IsSaidBy b (Answer.Stale stamp)) (same_Some (PageAnswer.NotTaken task r stamp) a e) refl
     outward (Some r) x e = absurd (cc)
 
     inward : (x : Answer) → answer_inward task x ≡ Some a → IsSaidBy a x
-    inward (Answer.Page stamp bytes) e = subst (λ b. IsSaidBy b (Answer.Page stamp bytes)) (some-is (PageAnswer.Came task stamp bytes) a e) refl
+    inward (Answer.Page stamp bytes) e = subst (λ b. IsSaidBy b (Answer.Page stamp bytes)) (same_Some (PageAnswer.Came task stamp bytes) a e) refl
     inward x e = absurd (cc)
 
     by : (b : Bool) → answer_by pages task t b x ≡ Some a → IsSaidBy a x
@@ -109,7 +108,7 @@ page-sent d p u k (Ask.ListLocks from) goes carries = no-transit (moving_of d p)
 pub page-asked : (d : DeskState) (p : ℕ) (u : ObjectName) (k : ℕ) (ask : Ask) → moving_of d p ≡ coming u k → Carries d p ask → ask ≡ Ask.PageIn u k
 page-asked d p u k (Ask.PageIn v j) comes carries =
     let same : coming v j ≡ coming u k = sym carries ∙ comes in
-    ap (λ (t : Transit). Ask.PageIn t.uid t.page) (some-is (record { uid = v; page = j; inward = true }) (record { uid = u; page = k; inward = true }) same)
+    ap (λ (t : Transit). Ask.PageIn t.uid t.page) (same_Some (record { uid = v; page = j; inward = true }) (record { uid = u; page = k; inward = true }) same)
 page-asked d p u k (Ask.PageOut v j grant base bytes) comes carries = not-coming u k v j (sym comes ∙ carries.moves)
 page-asked d p u k (Ask.AttrOut v n grant base) comes carries = no-transit (moving_of d p) (coming u k) carries.still comes (λ e. absurd (cc))
 page-asked d p u k (Ask.Lock v m) comes carries = no-transit (moving_of d p) (coming u k) carries.0 comes (λ e. absurd (cc))
@@ -120,7 +119,7 @@ page-asked d p u k (Ask.ListLocks from) comes carries = no-transit (moving_of d 
 
 -- the answers that settle a page or a length that was sent, and a removal
 pub page-stored : (call : LockCall) (x : Answer) (u : ObjectName) (delete : Bool) (stamp : ℕ) → lock_answer call x ≡ Some (LockAnswer.PageSettled u delete true stamp) → x ≡ Answer.Stored stamp
-page-stored (LockCall.PageOut v k del) (Answer.Stored s) u delete stamp says = ap Answer.Stored (ap (settled_stamp s) (some-is (LockAnswer.PageSettled v del true s) (LockAnswer.PageSettled u delete true stamp) says))
+page-stored (LockCall.PageOut v k del) (Answer.Stored s) u delete stamp says = ap Answer.Stored (ap (settled_stamp s) (same_Some (LockAnswer.PageSettled v del true s) (LockAnswer.PageSettled u delete true stamp) says))
   where
     settled_stamp : ℕ → LockAnswer → ℕ
     settled_stamp other (LockAnswer.PageSettled a b c d) = d
@@ -141,7 +140,7 @@ length_fields other _ = other
 
 pub length-stored : (call : LockCall) (x : Answer) (u : ObjectName) (n : ℕ) (delete : Bool) (stamp : ℕ) → lock_answer call x ≡ Some (LockAnswer.LengthSettled u n delete true stamp) → (del : Bool) × (call ≡ LockCall.AttrOut u n del) × (x ≡ Answer.Stored stamp)
 length-stored (LockCall.AttrOut v l del) (Answer.Stored s) u n delete stamp says =
-    let all : ◌≡◌ {A = ObjectName × ℕ × ℕ} (v, l, s) (u, n, stamp) = ap (length_fields (v, l, s)) (some-is (LockAnswer.LengthSettled v l del true s) (LockAnswer.LengthSettled u n delete true stamp) says) in
+    let all : ◌≡◌ {A = ObjectName × ℕ × ℕ} (v, l, s) (u, n, stamp) = ap (length_fields (v, l, s)) (same_Some (LockAnswer.LengthSettled v l del true s) (LockAnswer.LengthSettled u n delete true stamp) says) in
     (del, ap (λ (z : ObjectName × ℕ × ℕ). LockCall.AttrOut z.0 z.1 del) all, ap (λ (z : ObjectName × ℕ × ℕ). Answer.Stored z.2) all)
 length-stored (LockCall.AttrOut v l del) (Answer.Stale s) u n delete stamp says = absurd (cc)
 length-stored (LockCall.PageOut v k del) (Answer.Stored s) u n delete stamp says = absurd (cc)
@@ -158,7 +157,7 @@ removed_object other (LockAnswer.Removed a) = a
 removed_object other _ = other
 
 pub remove-done : (call : LockCall) (x : Answer) (u : ObjectName) → lock_answer call x ≡ Some (LockAnswer.Removed u) → (call ≡ LockCall.Remove u) × (x ≡ Answer.Done)
-remove-done (LockCall.Remove v) Answer.Done u says = (ap LockCall.Remove (ap (removed_object v) (some-is (LockAnswer.Removed v) (LockAnswer.Removed u) says)), refl)
+remove-done (LockCall.Remove v) Answer.Done u says = (ap LockCall.Remove (ap (removed_object v) (same_Some (LockAnswer.Removed v) (LockAnswer.Removed u) says)), refl)
 remove-done (LockCall.AttrOut v l del) (Answer.Stored s) u says = absurd (cc)
 remove-done (LockCall.AttrOut v l del) (Answer.Stale s) u says = absurd (cc)
 remove-done (LockCall.PageOut v k del) (Answer.Stored s) u says = absurd (cc)
@@ -191,8 +190,7 @@ remove-asked moving u (Ask.Make kind room) request = absurd request
 remove-asked moving u (Ask.ListLocks from) request = absurd request
 
 module _ (s : Setup) (old : World) (c : Choice) (new : World) (next : IsKeptNext s old c new) (opened : AreOpenAtHomes (old.nodes c.node)) (carried : AreCarried (old.nodes c.node)) where
-  abbrev n : NodeState
-  n = ticked (old.nodes c.node) next.is.incoming
+  open event s old c new next use {n}
 
   abbrev d : DeskState
   d = (old.nodes c.node).desk
@@ -315,13 +313,13 @@ module _ (s : Setup) (old : World) (c : Choice) (new : World) (next : IsKeptNext
 
     -- a page that came, and that an object was removed
     pub came-told : AreStamped s old → (task : Task) (stamp : ℕ) (bytes : List ℕ) (may : MayCome d p (Cause.PageCame (PageAnswer.Came task stamp bytes))) → Takes next.is.incoming p (proc_of n p).doing may.answer
-        → IsToldOf old task.uid stamp (Item.Page (page_of task)) (Value.Bytes bytes)
+        → IsItemTold old task.uid stamp (Item.Page (page_of task)) (Value.Bytes bytes)
     came-told stamped task stamp bytes may taken =
         let said = page-said d p desk proc (PageAnswer.Came task stamp bytes) may in
         let a = answering may.answer taken in
         let asks : a.call.ask ≡ Ask.PageIn task.uid (page_of task) = page-asked d p task.uid (page_of task) a.call.ask said.comes a.carries in
-        subst (Tells old (Ask.PageIn task.uid (page_of task))) (answer-said d.cache.pages (task_of d p) (moving_of d p) may.answer (PageAnswer.Came task stamp bytes) may.says)
-        (subst (λ y. Tells old y may.answer) asks (answer-tells (Tells old) (stamps-told old old.trace stamped.told) may.answer a))
+        subst (TellsItem old (Ask.PageIn task.uid (page_of task))) (answer-said d.cache.pages (task_of d p) (moving_of d p) may.answer (PageAnswer.Came task stamp bytes) may.says)
+        (subst (λ y. TellsItem old y may.answer) asks (answer-tells (TellsItem old) (stamps-told old old.trace stamped.told) may.answer a))
 
     pub removed-told : (T : Ask → Answer → Type 0) → EachOf (λ (j : Noted). NoteHas T j.note) old.trace → (u : ObjectName) (may : MayCome d p (Cause.AnswerCame (LockAnswer.Removed u))) → IsOf d p (Cause.AnswerCame (LockAnswer.Removed u)) o.op
         → Takes next.is.incoming p (proc_of n p).doing may.answer → T (Ask.Remove u) Answer.Done

@@ -1,26 +1,24 @@
 -- A call that there is after an event was there, or is the one that the event opens. And the grant that a write names was given.
-use Rattle.std.proofs.Common.{◌≡◌, ℕ, ◌+◌, ◌≤◌, Bool, true, false, List, ◌∷◌, length, Option, Some, None, ◌⊎◌, inl, inr, refl, sym, ap, subst, ◌∙◌, arith}
-use Rattle.std.specs.Prelude.{◌==◌, ◌&&◌, not, if◌then◌else◌, is_some}
+use Rattle.std.proofs.Common.{◌≡◌, ℕ, ◌+◌, ◌≤◌, Bool, true, false, List, ◌∷◌, length, Option, Some, None, ◌⊎◌, inl, inr, sym, ap, subst, ◌∙◌, arith}
+use Rattle.std.specs.Prelude.{◌==◌, ◌&&◌, if◌then◌else◌}
 use Rattle.std.proofs.lemmas.Bool.{cases_eq}
 use Rattle.std.proofs.lemmas.Bool.Decides.{nat_tests}
-use Rattle.uid_names.specs.Names.{ProcName, ObjectName}
+use Rattle.lock_validate.proofs.States.{writing-entry}
+use Rattle.uid_names.specs.Names.{ObjectName}
 use Rattle.uid_names.specs.Modes.{mode_writes}
 use Rattle.uid_names.specs.declared.mode.Mode.{Mode}
 use Rattle.uid_names.proofs.ListLemmas.{by_cases}
-use Rattle.dom_history.specs.declared.deed.LockState.{LockState}
-use Rattle.dom_history.specs.declared.deed.LockState.TheVariants as states
-use Rattle.dom_history.specs.Locks.{is_held}
+use Rattle.uid_names.proofs.Passed.{left-true, right-true}
 use Rattle.dom_history.specs.Objects.{is_node}
-use Rattle.dom_history.specs.Replies.{may_write}
 use Rattle.object_store.specs.declared.attributes.Attr.{Attr}
-use Rattle.object_store.specs.HomeStates.{HomeState, attr_of}
-use Rattle.lock_manager.specs.Grants.{grant_of, conflict_of}
+use Rattle.object_store.specs.HomeStates.{HomeState}
 use Rattle.lock_manager.specs.Tables.{Table, IsTable}
 use Rattle.ring_messages.specs.Bodies.{Ask}
 use Rattle.ring_messages.specs.Frames.{caller_of}
-use Rattle.page_server.specs.Decisions.{decide, lock_by, remove_by, may_remove}
+use Rattle.page_server.specs.Decisions.{lock_by, remove_by}
+use Rattle.page_server.proofs.Given.{last-rises}
 use Rattle.fault_handler.specs.declared.entries.LockEntry.{LockEntry}
-use Rattle.fault_handler.specs.Entries.{keeps, keeps_writing, grant_in}
+use Rattle.fault_handler.specs.Entries.{keeps_writing, grant_in}
 use Rattle.fault_handler.specs.Desks.{DeskState, entry_at}
 use Rattle.fault_handler.specs.Outcomes.{Turn}
 use Rattle.fault_handler.specs.Invariant.{IsProc}
@@ -30,27 +28,22 @@ use Rattle.node_runs.specs.NodeStates.{Asked, BegunOp, NodeState, proc_of}
 use Rattle.node_runs.specs.Incomings.{Incoming}
 use Rattle.node_runs.specs.Outcomes.{Stepped, next_call}
 use Rattle.node_runs.specs.Dones.{asking}
-use Rattle.node_runs.specs.Doings.{ticked}
 use Rattle.node_runs.specs.NodesKeep.{IsTimely}
-use Rattle.node_runs.specs.SentFrames.{IsFrame, IsIncoming}
-use Rattle.node_runs.specs.Runs.{World, Choice, put, numbered, calls_after, world_with, world_after}
+use Rattle.node_runs.specs.Runs.{World, Choice, put, numbered, calls_after, world_after}
 use Rattle.node_runs.specs.CallsKeep.{IsCallAt, AsksThis}
-use Rattle.node_runs.proofs.Doing.{step_of-did}
-use Rattle.node_runs.proofs.Receiving.{incoming-is}
 use Rattle.node_runs.proofs.Calls.{put-same, put-other}
-use Rattle.node_runs.proofs.Worlds.{place_at}
-use Rattle.node_runs.proofs.Decisions.{HomeStep, apart, decides, did-home}
-use Rattle.node_runs.proofs.SettingUp.{setup-gives, setup-procs}
+use Rattle.node_runs.proofs.Decisions.{HomeStep, apart, decides}
+use Rattle.node_runs.proofs.SettingUp.{setup-procs}
 use Rattle.run_calls.specs.DecidedReplies.{proc_at}
-use Rattle.run_calls.proofs.HearingRuns.{IsKeptNext, every-kept-run}
-use Rattle.run_nodes.specs.DeskSteps.{doing_after, turn_call, NodeMove, still, moved}
-use Rattle.run_nodes.specs.OpenCalls.{writes_under, Carries, CarriesOpen, AreCarried}
-use Rattle.run_nodes.proofs.DeskSteps.{step-desk}
-use Rattle.run_nodes.proofs.OpenCalls.{runs-carry}
-use Rattle.run_locks.specs.LiveLocks.{row_at, locks_of, AreLive}
-use Rattle.run_locks.proofs.LiveRun.{live-are}
-use Rattle.run_locks.proofs.Standing.{table-now}
-use Rattle.run_stamps.specs.Items.{Write, write_of}
+use Rattle.run_calls.proofs.HearingRuns.{IsKeptNext, every-kept-run, event, event-home}
+use Rattle.run_desks.specs.DeskSteps.{doing_after, turn_call, NodeMove, still, moved}
+use Rattle.run_desks.specs.OpenCalls.{writes_under, Carries, CarriesOpen, AreCarried}
+use Rattle.run_desks.proofs.OpenCalls.{runs-carry}
+use Rattle.run_desks.proofs.EventMoves.{desk-moves}
+use Rattle.run_homes.specs.LiveLocks.{row_at, locks_of, AreLive}
+use Rattle.run_homes.proofs.LiveRun.{live-are}
+use Rattle.run_homes.proofs.Standing.{table-now}
+use Rattle.run_contents.specs.Items.{Write, write_of}
 use Rattle.run_contents.proofs.Decisions.{row-given}
 
 -- a call of a process is the one that its node makes now
@@ -118,39 +111,11 @@ pub record IsWriterRow (w : World) (a : ℕ) (u : ObjectName) (grant : ℕ) : Ty
   pub row : row_at (locks_of w) (proc_at a number) u ≡ Some (mode, grant)
   pub writes : mode_writes mode ≡ true
 
--- an entry of one that is held to write
-pub held-writing : (o : Option LockEntry) → keeps_writing o ≡ true → (e : LockEntry) × (m : Mode) × (o ≡ Some e) × (e.state ≡ states.Held m) × (mode_writes m ≡ true) × (keeps (Some e) ≡ true)
-held-writing None is = absurd (cc)
-held-writing (Some e) is = by e.state refl is
-  where
-    not-released : (b c : Bool) → (b && not c) ≡ true → not c ≡ true
-    not-released true c is = is
-    not-released false c is = absurd (cc)
-
-    left : (b c : Bool) → (b && c) ≡ true → b ≡ true
-    left true c is = refl
-    left false c is = absurd (cc)
-
-    by : (st : LockState) → e.state ≡ st → (may_write st && not e.released) ≡ true → (x : LockEntry) × (m : Mode) × (Some e ≡ Some x) × (x.state ≡ states.Held m) × (mode_writes m ≡ true) × (keeps (Some x) ≡ true)
-    by (states.Held m) same is = (e, m, refl, same, left (mode_writes m) (not e.released) is, ap (λ s. is_held s && not e.released) same ∙ not-released (mode_writes m) e.released is)
-    by states.Free same is = absurd (cc)
-    by (states.Taking m) same is = absurd (cc)
-    by (states.Releasing m) same is = absurd (cc)
-    by states.Deleting same is = absurd (cc)
-
-and-left : (b c : Bool) → (b && c) ≡ true → b ≡ true
-and-left true c is = refl
-and-left false c is = absurd (cc)
-
-and-right : (b c : Bool) → (b && c) ≡ true → c ≡ true
-and-right true c is = is
-and-right false c is = absurd (cc)
-
 pub writer-row : (w : World) → AreLive w → (a q : ℕ) → IsProc q → (u : ObjectName) (grant : ℕ) → writes_under (w.nodes a).desk.entries u grant q ≡ true → IsWriterRow w a u grant
 writer-row w live a q proc u grant writes =
     let o : Option LockEntry = entry_at (w.nodes a).desk.entries q u in
-    let x = held-writing o (and-left (keeps_writing o) (grant_in o == grant) writes) in
-    let number : x.0.grant ≡ grant = sym (ap grant_in x.2) ∙ (let e = and-right (keeps_writing o) (grant_in o == grant) writes in grind (arith, nat_tests, e)) in
+    let x = writing-entry o (left-true (keeps_writing o) (grant_in o == grant) writes) in
+    let number : x.0.grant ≡ grant = sym (ap grant_in x.2) ∙ (let e = right-true (keeps_writing o) (grant_in o == grant) writes in grind (arith, nat_tests, e)) in
     record { number = q; owner = proc; mode = x.1; row = (live a q proc).row u x.0 x.1 x.2 x.5 x.3 ∙ ap (λ i. Some (x.1, i)) number; writes = x.4 }
 
 -- the process under whose grant a write is sent
@@ -185,39 +150,24 @@ remove-last false held u home locks = omega arith
 remove-last true false u home locks = omega arith
 remove-last true true u home locks = omega arith
 
-pub last-up : (home : HomeState) (locks : Table) (q : ProcName) (ask : Ask) → locks.last ≤ (decide home locks q ask).locks.last
-last-up home locks q (Ask.Lock v m) = lock-last (attr_of home v) (conflict_of q v m locks.grants) (record { uid = v; proc = q; mode = m }) locks
-last-up home locks q (Ask.Remove v) = remove-last (is_some (attr_of home v)) (may_remove (grant_of q v locks.grants)) v home locks
-last-up home locks q (Ask.PageIn v k) = omega arith
-last-up home locks q (Ask.PageOut v k grant base bytes) = omega arith
-last-up home locks q (Ask.AttrOut v n grant base) = omega arith
-last-up home locks q (Ask.Unlock v) = omega arith
-last-up home locks q (Ask.Make kind room) = omega arith
-last-up home locks q (Ask.ListLocks from) = omega arith
-
 -- the grant of each write was given
 abbrev pub AreGiven : Setup → World → Type 0
 AreGiven s w = (n p : ℕ) → is_node s.opening n ≡ true → IsProc p → (number home : ℕ) (ask : Ask) (written : Write) → IsCallAt (w.calls n p) number home ask → write_of ask ≡ Some written → written.grant ≤ (locks_of w written.uid.home).last
 
 module _ (s : Setup) (setup : IsSetup s) (old : World) (c : Choice) (new : World) (next : IsKeptNext s old c new) where
-  abbrev n : NodeState
-  n = ticked (old.nodes c.node) next.is.incoming
-
-  abbrev after : World
-  after = world_with old (place_at c next.is.step) c.what next.is.step
+  open event s old c new next use {n, after}
 
   pub node-move : NodeMove (given s c.node) n next.is.incoming next.is.step
   node-move =
-      step-desk (given s c.node) (old.nodes c.node) c.what next.is.incoming c.dropped next.is.step (setup-gives s setup c.node next.is.node) (next.kept.nodes c.node next.is.node)
-      (incoming-is IsIncoming tt (λ number tick. tt) (λ tick. tt) IsFrame (λ x is. is) old c.node (λ from. next.kept.frames from c.node) c.what next.is.incoming next.is.comes) next.is.steps
+      desk-moves s setup old c new next
 
   pub home-step : HomeStep (given s c.node) n c.what next.is.incoming next.is.step
-  home-step = did-home (given s c.node) n c.what next.is.incoming next.is.step (step_of-did (given s c.node) (old.nodes c.node) c.what next.is.incoming c.dropped next.is.step next.is.steps)
+  home-step = event-home s old c new next
 
   last-here : HomeStep (given s c.node) n c.what next.is.incoming next.is.step → n.side.locks.last ≤ next.is.step.node.side.locks.last
   last-here (apart more same none) = let e = ap (λ (t : Table). t.last) same.1 in omega (arith, e)
   last-here (decides from index m ask answer takes frame asks more above now note decision) =
-      let e = ap (λ (t : Table). t.last) decision.locks in let f = last-up n.side.home n.side.locks (caller_of m) ask in omega (arith, e, f)
+      let e = ap (λ (t : Table). t.last) decision.locks in let f = last-rises n.side.home n.side.locks (caller_of m) ask in omega (arith, e, f)
 
   pub last-still : (a : ℕ) → (locks_of old a).last ≤ (locks_of after a).last
   last-still a = elim (cases_eq a c.node) [

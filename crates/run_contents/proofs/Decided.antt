@@ -3,10 +3,12 @@ use Rattle.std.proofs.Common.{◌≡◌, ◌≢◌, ℕ, ◌+◌, ◌≤◌, ◌
 use Rattle.std.specs.Prelude.{◌==◌, ◌&&◌, nat_le, max, is_some, IfSome}
 use Rattle.std.proofs.lemmas.Bool.{cases_eq}
 use Rattle.std.proofs.lemmas.Bool.Decides.{nat_tests}
+use Rattle.std.proofs.lemmas.Option.{same_Some}
 use Rattle.uid_names.specs.Names.{ProcName, ObjectName, same_uid}
 use Rattle.uid_names.specs.declared.ids.Place.{Place}
 use Rattle.uid_names.specs.declared.mode.Mode.{Mode}
 use Rattle.uid_names.proofs.ListLemmas.{by_cases}
+use Rattle.uid_names.proofs.Passed.{le-passes}
 use Rattle.version_stamps.specs.Stamps.{stamp_of as seen_of}
 use Rattle.dom_history.specs.Objects.{is_node}
 use Rattle.object_store.specs.Kept.{IsHome}
@@ -19,23 +21,22 @@ use Rattle.page_server.specs.Decisions.{decide, is_granted}
 use Rattle.fault_handler.specs.Desks.{DeskState, base_of}
 use Rattle.fault_handler.specs.Invariant.{IsProc}
 use Rattle.node_runs.specs.Setups.{Setup}
-use Rattle.node_runs.proofs.Somes.{some-is}
 use Rattle.node_runs.specs.Notes.{Note}
 use Rattle.node_runs.specs.Runs.{World, Noted, numbered}
 use Rattle.node_runs.specs.CallsKeep.{IsCallAt, IsOpenAt}
 use Rattle.run_calls.specs.DecidedReplies.{proc_at, WasAnswered}
 use Rattle.run_calls.proofs.HearingRuns.{same-ask}
-use Rattle.run_nodes.specs.OpenCalls.{Carries, CarriesOpen}
+use Rattle.run_desks.specs.OpenCalls.{Carries, CarriesOpen}
 use Rattle.run_homes.proofs.HomeObjects.{there_after, decide-there}
-use Rattle.run_locks.specs.LiveLocks.{row_at, locks_of, served_of}
-use Rattle.run_stamps.specs.Items.{Item, Value, same_item, desk_value, is_dirty_at, Write, write_of}
-use Rattle.run_stamps.specs.Contents.{value_if, left_by, content, told_with, since}
-use Rattle.run_stamps.specs.Stamps.{home_at, stamp_at, IsThere, IsStampOf}
+use Rattle.run_homes.specs.LiveLocks.{row_at, locks_of, served_of}
+use Rattle.run_contents.specs.Items.{Item, Value, same_item, desk_value, is_dirty_at, Write, write_of}
+use Rattle.run_contents.specs.Contents.{value_if, left_by, content, told_with, since}
+use Rattle.run_contents.specs.Stamps.{home_at, stamp_at, IsThere, IsStampOf}
 use Rattle.run_contents.specs.Writes.{HasRoom, MayStore, IsUnchanged, IsAcknowledged}
-use Rattle.run_contents.specs.Contents.{AreContents}
+use Rattle.run_contents.specs.DeskContents.{AreContents}
 use Rattle.run_contents.proofs.Decisions.{ObjectStep, stays, stores, gone, decide-object, RowStep, was_there, now_granted, decide-row, row-given, granted-before}
 use Rattle.run_contents.proofs.Traces.{item-is, item-itself, content-unwritten, content-away, since-away, since-other, content-below, content-beside, content-written, since-granted, told-before, content-late}
-use Rattle.run_stamps.proofs.ObjectChanges.{there-given}
+use Rattle.run_contents.proofs.ObjectChanges.{there-given}
 use Rattle.run_contents.proofs.Gone.{room-there}
 use Rattle.run_contents.proofs.Calls.{carries-writer, writer-row}
 use Rattle.run_contents.proofs.Lawful.{IsLawful, ack-stamp, one-writer}
@@ -50,9 +51,6 @@ low-is i n is = grind (arith, nat_tests, is)
 
 high-is : (i n : ℕ) → nat_le i n ≡ false → n < i
 high-is i n is = grind (arith, nat_tests, is)
-
-is-low : (i n : ℕ) → i ≤ n → nat_le i n ≡ true
-is-low i n low = grind (arith, nat_tests, low)
 
 -- a home decides a call, and the desks stay
 pub record IsDecidedStep (old after : World) : Type 0 where
@@ -294,7 +292,7 @@ module _ (s : Setup) (old after : World) (is : IsDecidedStep old after) (law : I
           (λ differs. beside-same x differs)
 
       same-write : (y z : Write) → write_of is.ask ≡ Some y → write_of is.ask ≡ Some z → y ≡ z
-      same-write y z one two = some-is y z (sym one ∙ two)
+      same-write y z one two = same_Some y z (sym one ∙ two)
 
       stored-same : (i j : ℕ) → is.answer ≡ Answer.Stored i → is.answer ≡ Answer.Stored j → i ≡ j
       stored-same i j one two = same i j (sym one ∙ two)
@@ -394,7 +392,7 @@ module _ (s : Setup) (old after : World) (is : IsDecidedStep old after) (law : I
     here-contents : AreContentsOf s after u
     here-contents = by_cases (nat_le u.counter home.greatest) (AreContentsOf s after u)
         (λ yes. by-step (decide-object u home table is.caller is.kept (low-is u.counter home.greatest yes) is.ask))
-        (λ fails. ungiven-contents (λ is_given. absurd (let e = is-low u.counter home.greatest is_given in let f : true ≡ false = sym e ∙ fails in cc)))
+        (λ fails. ungiven-contents (λ is_given. absurd (let e = le-passes u.counter home.greatest is_given in let f : true ≡ false = sym e ∙ fails in cc)))
 
   pub decided-contents : AreContentsOf s after u
   decided-contents = elim (cases_eq u.home h) [

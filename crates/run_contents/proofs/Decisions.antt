@@ -1,18 +1,17 @@
 -- What a decision of a home does to one object: nothing of it is written, or one item at the next stamp, or it is gone. And which
 -- rows and grants it leaves.
 use Rattle.std.proofs.Common.{◌≡◌, ℕ, ◌+◌, ◌≤◌, Bool, true, false, List, [], ◌∷◌, Option, Some, None, refl, sym, ap, subst, ◌∙◌, arith}
-use Rattle.std.specs.Prelude.{◌==◌, nat_le, ◌&&◌, ◌||◌, if◌then◌else◌, is_some, find, unwrap_or, All, IsTrue}
+use Rattle.std.specs.Prelude.{◌==◌, nat_le, ◌&&◌, ◌||◌, if◌then◌else◌, is_some, unwrap_or, IsTrue}
 use Rattle.std.specs.Option.{option_map}
 use Rattle.std.specs.List.{list_any}
 use Rattle.std.proofs.lemmas.Bool.Decides.{nat_tests}
-use Rattle.std.proofs.lemmas.List.Elements.{All-head, All-tail}
 use Rattle.uid_names.specs.Names.{ProcName, ObjectName, same_proc, same_uid}
 use Rattle.uid_names.specs.Rows.{same_row, row_lt}
 use Rattle.uid_names.specs.Modes.{mode_writes}
 use Rattle.uid_names.specs.declared.mode.Mode.{Mode}
 use Rattle.uid_names.specs.declared.mode.ObjKind.{ObjKind}
 use Rattle.uid_names.specs.declared.limits.TheConstants.{VOLUME_ROOM}
-use Rattle.uid_names.proofs.ListLemmas.{by_cases}
+use Rattle.uid_names.proofs.ListLemmas.{by_cases, All-found}
 use Rattle.uid_names.proofs.Finds.{find-passes}
 use Rattle.uid_names.proofs.InOrder.{AllPairs-head, AllPairs-tail}
 use Rattle.uid_names.proofs.Orders.{same_uid_is, same_proc_is, same_row_is, row_lt-apart}
@@ -29,10 +28,11 @@ use Rattle.lock_manager.specs.Grants.{AreGrantsRising, grant_lt, grant_of, held_
 use Rattle.lock_manager.specs.Tables.{Table, IsTable}
 use Rattle.ring_messages.specs.Bodies.{Ask, Answer}
 use Rattle.page_server.specs.Decisions.{decide, write_answer, remove_answer, make_answer, lock_answer, is_granted, may_remove}
-use Rattle.run_locks.proofs.Grants.{grant_after, decide-grant}
-use Rattle.run_locks.proofs.Standing.{any-writes}
-use Rattle.run_stamps.specs.Items.{Item, Value, same_item, Write, write_of}
-use Rattle.run_stamps.specs.Contents.{value_if, left_by}
+use Rattle.page_server.proofs.Sides.{length-there, page-there}
+use Rattle.run_homes.proofs.Grants.{grant_after, decide-grant}
+use Rattle.run_homes.proofs.Standing.{any-writes}
+use Rattle.run_contents.specs.Items.{Item, Value, same_item, Write, write_of}
+use Rattle.run_contents.specs.Contents.{value_if, left_by}
 use Rattle.run_contents.specs.Writes.{HasRoom}
 
 pub data ObjectStep (u : ObjectName) (home : HomeState) (locks : Table) (q : ProcName) (ask : Ask) (answer : Answer) (new : HomeState) : Type 0 where
@@ -71,14 +71,6 @@ module _ (u : ObjectName) (home : HomeState) where
       let apart : (u.counter == v.counter) ≡ false = grind (arith, nat_tests, h, at, differs) in
       attr-changed change v.counter pages ∙ (ap (λ b. option_map (changed_if b change) (attr_of home u)) apart ∙ unchanged change (attr_of home u)))
       (λ h. attr-away new refl h ∙ sym (attr-away home refl h))
-
-pub some-page : (o : Option Attr) (k : ℕ) → has_page o k ≡ true → is_some o ≡ true
-some-page None k is = absurd (cc)
-some-page (Some attr) k is = refl
-
-pub some-length : (o : Option Attr) (n : ℕ) → has_length o n ≡ true → is_some o ≡ true
-some-length None n is = absurd (cc)
-some-length (Some attr) n is = refl
 
 module _ (u : ObjectName) (home : HomeState) (locks : Table) (q : ProcName) where
   abbrev Step : Ask → Answer → HomeState → Type 0
@@ -143,24 +135,15 @@ module _ (u : ObjectName) (home : HomeState) (locks : Table) (q : ProcName) wher
   decide-object kept given (Ask.PageIn v k) = stays refl (λ x t. refl)
   decide-object kept given (Ask.PageOut v k grant base bytes) =
       write-step (Ask.PageOut v k grant base bytes) (record { uid = v; item = Item.Page k; value = Value.Bytes bytes; grant = grant; base = base }) refl stamped (λ attr. refl) (after_page home v.counter k bytes).pages
-      (has_page (attr_of home v) k) (is_granted locks grant v q.node) (base == stamp_of (attr_of home v)) (λ is. is) (some-page (attr_of home v) k) refl refl
+      (has_page (attr_of home v) k) (is_granted locks grant v q.node) (base == stamp_of (attr_of home v)) (λ is. is) (page-there (attr_of home v) k) refl refl
   decide-object kept given (Ask.AttrOut v n grant base) =
       write-step (Ask.AttrOut v n grant base) (record { uid = v; item = Item.Size; value = Value.Length n; grant = grant; base = base }) refl (resized n) (λ attr. refl) home.pages
-      (has_length (attr_of home v) n) (is_granted locks grant v q.node) (base == stamp_of (attr_of home v)) (λ is. is) (some-length (attr_of home v) n) refl refl
+      (has_length (attr_of home v) n) (is_granted locks grant v q.node) (base == stamp_of (attr_of home v)) (λ is. is) (length-there (attr_of home v) n) refl refl
   decide-object kept given (Ask.Lock v m) = stays refl (λ x t. refl)
   decide-object kept given (Ask.Unlock v) = stays refl (λ x t. refl)
   decide-object kept given (Ask.Remove v) = remove-step v (is_some (attr_of home v)) (may_remove (grant_of q v locks.grants)) refl
   decide-object kept given (Ask.Make kind room) = make-step kept given kind room (nat_le (rooms home.objects + room) VOLUME_ROOM) _
   decide-object kept given (Ask.ListLocks from) = stays refl (λ x t. refl)
-
--- a grant under which a node writes is a row of one of its processes
-All-found : {X : Type 0} (P : X → Type 0) (test : X → Bool) (xs : List X) (x : X) → All P xs → find test xs ≡ Some x → P x
-All-found P test [] x all found = absurd (cc)
-All-found P test (y ∷ ys) x all found = by (test y) found (All-found P test ys x (All-tail P y ys all))
-  where
-    by : (b : Bool) → (if b then Some y else find test ys) ≡ Some x → (find test ys ≡ Some x → P x) → P x
-    by true is others = let same : y ≡ x = cc in subst P same (All-head P y ys all)
-    by false is others = others is
 
 -- a row with its process
 pub record IsWriter (grants : List Grant) (number : ℕ) (u : ObjectName) (node : ℕ) : Type 0 where

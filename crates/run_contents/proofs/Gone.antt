@@ -13,30 +13,28 @@ use Rattle.ring_messages.specs.Bodies.{Ask, Answer}
 use Rattle.ring_messages.specs.Frames.{caller_of}
 use Rattle.page_server.specs.Decisions.{decide, remove_answer, may_remove}
 use Rattle.page_server.proofs.Given.{greatest-rises}
+use Rattle.page_server.proofs.Sides.{length-there, page-there}
 use Rattle.node_runs.specs.Setups.{Setup, IsSetup, given}
 use Rattle.node_runs.specs.NodeStates.{Asked, NodeState}
 use Rattle.node_runs.specs.NodesKeep.{IsTimely}
 use Rattle.node_runs.specs.Notes.{Note}
-use Rattle.node_runs.specs.Doings.{ticked}
-use Rattle.node_runs.specs.Runs.{World, Noted, Choice, numbered, world_with, world_after}
+use Rattle.node_runs.specs.Runs.{World, Noted, Choice, numbered, world_after}
 use Rattle.node_runs.specs.CallsKeep.{EachOf, AsksThis}
-use Rattle.node_runs.proofs.Doing.{step_of-did}
 use Rattle.node_runs.proofs.Receiving.{EachOf-more, numbered-each}
 use Rattle.node_runs.proofs.Calls.{put-same, put-other}
-use Rattle.node_runs.proofs.Worlds.{place_at}
-use Rattle.node_runs.proofs.Decisions.{IsNoDecision, HomeStep, apart, decides, did-home}
+use Rattle.node_runs.proofs.Decisions.{IsNoDecision, HomeStep, apart, decides}
 use Rattle.node_runs.proofs.SettingUp.{setup-procs}
-use Rattle.run_calls.proofs.HearingRuns.{IsKeptNext, every-kept-run}
-use Rattle.run_nodes.specs.AskedHomes.{IsAtHome}
-use Rattle.run_nodes.proofs.AskedHomes.{calls-at-homes}
+use Rattle.run_calls.proofs.HearingRuns.{IsKeptNext, every-kept-run, event, event-home}
+use Rattle.run_desks.specs.AskedHomes.{IsAtHome}
+use Rattle.run_desks.proofs.AskedHomes.{calls-at-homes}
 use Rattle.run_homes.proofs.HomeObjects.{there_after, decide-there}
-use Rattle.run_locks.proofs.LiveRun.{link-call}
-use Rattle.run_stamps.specs.Items.{Item, Value}
-use Rattle.run_stamps.specs.Stamps.{home_at}
+use Rattle.run_homes.proofs.LiveRun.{link-call}
+use Rattle.run_contents.specs.Items.{Item, Value}
+use Rattle.run_contents.specs.Stamps.{home_at}
 use Rattle.run_contents.specs.Writes.{HasRoom}
-use Rattle.run_contents.proofs.Decisions.{some-page, some-length, ObjectStep, stays, stores, gone, decide-object}
-use Rattle.run_stamps.proofs.Given.{NoteHas}
-use Rattle.run_stamps.proofs.ObjectChanges.{there-given}
+use Rattle.run_contents.proofs.Decisions.{ObjectStep, stays, stores, gone, decide-object}
+use Rattle.run_contents.proofs.Given.{NoteHas}
+use Rattle.run_contents.proofs.ObjectChanges.{there-given}
 
 -- its name was given, and it is not there
 pub record IsGoneFrom (home : HomeState) (u : ObjectName) : Type 0 where
@@ -52,8 +50,8 @@ AreGone w = EachOf (λ (j : Noted). NoteHas (TellsGone w) j.note) w.trace
 
 -- where there is room for an item, the object is there
 pub room-there : (home : HomeState) (u : ObjectName) (x : Item) (v : Value) → HasRoom home u x v → is_some (attr_of home u) ≡ true
-room-there home u (Item.Page k) v room = some-page (attr_of home u) k room
-room-there home u Item.Size (Value.Length n) room = some-length (attr_of home u) n room
+room-there home u (Item.Page k) v room = page-there (attr_of home u) k room
+room-there home u Item.Size (Value.Length n) room = length-there (attr_of home u) n room
 room-there home u Item.Size (Value.Bytes bytes) room = absurd room
 
 -- what is gone stays gone, and what is there was there if its name was given
@@ -85,11 +83,7 @@ removed-gone home locks q u kept done = record {
     was false held is e = absurd (cc)
 
 module _ (s : Setup) (setup : IsSetup s) (cs : List Choice) (old : World) (e : world_after s cs ≡ Some old) (timely : IsTimely old) (c : Choice) (new : World) (next : IsKeptNext s old c new) (are : AreGone old) where
-  abbrev n : NodeState
-  n = ticked (old.nodes c.node) next.is.incoming
-
-  abbrev after : World
-  after = world_with old (place_at c next.is.step) c.what next.is.step
+  open event s old c new next use {n, after}
 
   kept : IsHome n.side.home
   kept = (next.kept.nodes c.node next.is.node).side.home
@@ -183,7 +177,7 @@ module _ (s : Setup) (setup : IsSetup s) (cs : List Choice) (old : World) (e : w
 
   gone-later : AreGone new
   gone-later =
-      let step = did-home (given s c.node) n c.what next.is.incoming next.is.step (step_of-did (given s c.node) (old.nodes c.node) c.what next.is.incoming c.dropped next.is.step next.is.steps) in
+      let step = event-home s old c new next in
       subst AreGone (sym next.is.world) (newest step, EachOf-more (λ (j : Noted). NoteHas (TellsGone old) j.note) (λ (j : Noted). NoteHas (TellsGone after) j.note) old.trace (λ j was. note-still step j.note was) are)
 
 -- in every run

@@ -4,6 +4,7 @@ use Rattle.std.proofs.Common.{◌≡◌, ℕ, ◌+◌, Bool, true, false, List, 
 use Rattle.std.specs.Prelude.{nat_lt, ◌&&◌, not, if◌then◌else◌}
 use Rattle.std.specs.Option.{option_map}
 use Rattle.std.proofs.lemmas.Bool.Decides.{nat_tests}
+use Rattle.std.proofs.lemmas.Option.{same_Some}
 use Rattle.uid_names.specs.Names.{ObjectName, same_uid}
 use Rattle.uid_names.specs.declared.mode.Mode.{Mode}
 use Rattle.uid_names.proofs.ListLemmas.{by_cases}
@@ -32,15 +33,14 @@ use Rattle.fault_handler.proofs.KnownRows.{known_of-with_known, uid-grown}
 use Rattle.fault_handler.proofs.Nothing.{unkept-clean}
 use Rattle.fault_handler.proofs.TransitKeeps.{keeps_writing-keeps}
 use Rattle.fault_handler.proofs.PageLists.{is_same, same-uid, same-page, page_at-used, page_at-without_same, page_at-without_other, page_at-without_object_same, page_at-without_object_other, page_at-changed_same, page_at-changed_other}
-use Rattle.node_runs.proofs.Somes.{some-is}
 use Rattle.lock_validate.specs.Answers.{is_fresh}
 use Rattle.desk_laws.specs.Causes.{Cause}
 use Rattle.desk_laws.specs.Loading.{IsRoomAnswer}
 use Rattle.desk_laws.specs.Releasing.{IsPageSettled}
 use Rattle.desk_laws.specs.Told.{told_row}
-use Rattle.desk_laws.specs.Moves.{Change, Moves}
+use Rattle.desk_laws.specs.DeskMoves.{Change, DeskMoves}
 use Rattle.desk_laws.proofs.DeskStays.{moves-desk}
-use Rattle.run_stamps.specs.Items.{Item, Value, page_value, known_value, desk_value, is_dirty_at}
+use Rattle.run_contents.specs.Items.{Item, Value, page_value, known_value, desk_value, is_dirty_at}
 
 -- the home took the item, as it was when it was sent, and it was not changed since: the desk is that before the answer
 abbrev pub Cleans : Cause → DeskState → ℕ → ObjectName → Item → Value → Type 0
@@ -184,7 +184,7 @@ module _ (c : Cause) (start : DeskState) (p : ℕ) (u : ObjectName) where
           by_cases r.flags.sent (Step d e (Item.Page k))
           (λ sent. cleaned (page_value r)
           (subst (λ x. Cleans x start p u (Item.Page k) (page_value r)) (sym is) (ap (λ (y : Resident). y.uid) (sym same) ∙ sym a, ap (λ (y : Resident). y.page) (sym same) ∙ sym i, ap (λ (y : Resident). y.flags.sent) (sym same) ∙ sent, ap page_value same))
-          (λ other clean shown. some-is other (page_value r) (sym shown ∙ ap (option_map page_value) found)))
+          (λ other clean shown. same_Some other (page_value r) (sym shown ∙ ap (option_map page_value) found)))
           (λ unsent. page-dirty d e k (ap is_dirty found ∙ (ap (λ b. b && not (true && r.flags.sent)) dirty ∙ ap (λ b. not b) unsent))))
           (λ differs. page-same d e k (ap (λ ps. page_at ps u k) now ∙ page_at-changed_other r.uid r.page (settled true) (λ v i s. refl) d.cache.pages u k differs))
 
@@ -305,13 +305,13 @@ step-clean c start p d e u x (arrived task stamp bytes given a i was now seen) c
 step-clean c start p d e u x (learned m grant stamp room n given size fresh none was) clean = inl was
 
 module _ (c : Cause) (turn : Turn) (p : ℕ) (proc : IsProc p) (plain : IsPlain c) (u : ObjectName) (x : Item) (d : DeskState) (desk : IsDesk d) where
-  pub moves-clean : (e : DeskState) (dropped : List (ObjectName × ℕ)) → Moves c turn p d e dropped → is_dirty_at e u x ≡ false → WasClean c d p u x
-  moves-clean e dropped Moves.none clean = inl clean
-  moves-clean e dropped (Moves.next {e = f} before change) clean = elim (step-clean c d p f e u x (change-item c d p u turn plain f e x [] (moves-desk c turn p proc d f dropped desk before) change) clean) [
+  pub moves-clean : (e : DeskState) (dropped : List (ObjectName × ℕ)) → DeskMoves c turn p d e dropped → is_dirty_at e u x ≡ false → WasClean c d p u x
+  moves-clean e dropped DeskMoves.none clean = inl clean
+  moves-clean e dropped (DeskMoves.next {e = f} before change) clean = elim (step-clean c d p f e u x (change-item c d p u turn plain f e x [] (moves-desk c turn p proc d f dropped desk before) change) clean) [
     | inl was ↦ moves-clean f dropped before was
     | inr taken ↦ inr taken
   ]
-  moves-clean e dropped (Moves.dropping {e = f} before change) clean = elim (step-clean c d p f e u x (change-item c d p u turn plain f e x dropped (moves-desk c turn p proc d f [] desk before) change) clean) [
+  moves-clean e dropped (DeskMoves.dropping {e = f} before change) clean = elim (step-clean c d p f e u x (change-item c d p u turn plain f e x dropped (moves-desk c turn p proc d f [] desk before) change) clean) [
     | inl was ↦ moves-clean f [] before was
     | inr taken ↦ inr taken
   ]

@@ -9,25 +9,23 @@ use Rattle.fault_handler.specs.Invariant.{IsProc}
 use Rattle.node_runs.specs.Setups.{Setup, IsSetup, given}
 use Rattle.node_runs.specs.NodeStates.{NodeState, proc_of}
 use Rattle.node_runs.specs.Incomings.{Incoming}
-use Rattle.node_runs.specs.Outcomes.{Stepped}
-use Rattle.node_runs.specs.Doings.{ticked}
 use Rattle.node_runs.specs.Notes.{Note}
 use Rattle.node_runs.specs.SentFrames.{IsFrame, IsIncoming}
 use Rattle.node_runs.specs.NodesKeep.{IsTimely}
-use Rattle.node_runs.specs.Runs.{World, Choice, calls_after, world_with, world_after}
+use Rattle.node_runs.specs.Runs.{World, Choice, calls_after, world_after}
 use Rattle.node_runs.specs.CallsKeep.{IsCallAt}
-use Rattle.node_runs.proofs.Receiving.{incoming-is}
 use Rattle.node_runs.proofs.Calls.{put-same, put-other}
 use Rattle.node_runs.proofs.Worlds.{place_at}
 use Rattle.node_runs.proofs.Decisions.{IsNoDecision, HomeStep, apart, decides, IsDecisionOn}
 use Rattle.node_runs.proofs.SettingUp.{setup-procs}
-use Rattle.run_calls.proofs.HearingRuns.{IsKeptNext, every-kept-run}
-use Rattle.run_nodes.specs.DeskSteps.{IsSameDoing, NodeMove, still, moved}
-use Rattle.run_nodes.proofs.DeskSteps.{same-doing}
-use Rattle.run_locks.specs.LiveLocks.{served_of}
-use Rattle.run_locks.proofs.LiveRun.{end-none, caller-sends, link-call}
-use Rattle.run_stamps.proofs.Stamping.{stamped-are}
-use Rattle.run_contents.specs.Contents.{AreContents}
+use Rattle.run_calls.proofs.HearingRuns.{IsKeptNext, every-kept-run, event, event-incoming}
+use Rattle.run_calls.proofs.Replies.{caller-at}
+use Rattle.run_desks.specs.DeskSteps.{IsSameDoing, NodeMove, still, moved}
+use Rattle.run_desks.proofs.DeskSteps.{same-doing}
+use Rattle.run_homes.specs.LiveLocks.{served_of}
+use Rattle.run_homes.proofs.LiveRun.{end-none, link-call}
+use Rattle.run_contents.proofs.Stamping.{stamped-are}
+use Rattle.run_contents.specs.DeskContents.{AreContents}
 use Rattle.run_contents.proofs.Calls.{node-move, home-step}
 use Rattle.run_contents.proofs.Lawful.{IsLawful, lawful}
 use Rattle.run_contents.proofs.Quiet.{contents-of, IsDeskStill}
@@ -35,14 +33,7 @@ use Rattle.run_contents.proofs.Decided.{IsDecidedStep, decided-contents}
 use Rattle.run_contents.proofs.Steps.{quiet-move}
 
 module _ (s : Setup) (setup : IsSetup s) (old : World) (c : Choice) (new : World) (next : IsKeptNext s old c new) where
-  abbrev n : NodeState
-  n = ticked (old.nodes c.node) next.is.incoming
-
-  abbrev step : Stepped
-  step = next.is.step
-
-  abbrev after : World
-  after = world_with old (place_at c step) c.what step
+  open event s old c new next use {n, step, after}
 
   module _ (law : IsLawful s old) (law_after : IsLawful s after) (were : AreContents s old) where
     served-more : ((p : ProcName) → last_of p n.side.served ≤ last_of p step.node.side.served) → (q : ProcName) (a : ℕ) → served_of old q a ≤ served_of after q a
@@ -61,7 +52,7 @@ module _ (s : Setup) (setup : IsSetup s) (old : World) (c : Choice) (new : World
       | inr away ↦ ap (λ (x : NodeState). x.side.home) (put-other old.nodes c.node a step.node away)
     ]
 
-    locks-still : step.node.side.locks ≡ n.side.locks → (a : ℕ) → (after.nodes a).side.locks ≡ (old.nodes a).side.locks
+    pub locks-still : step.node.side.locks ≡ n.side.locks → (a : ℕ) → (after.nodes a).side.locks ≡ (old.nodes a).side.locks
     locks-still same a = elim (cases_eq a c.node) [
       | inl here ↦ ap (λ (x : NodeState). x.side.locks) (put-same old.nodes c.node a step.node here) ∙ (same ∙ ap (λ b. (old.nodes b).side.locks) (sym here))
       | inr away ↦ ap (λ (x : NodeState). x.side.locks) (put-other old.nodes c.node a step.node away)
@@ -87,12 +78,12 @@ module _ (s : Setup) (setup : IsSetup s) (old : World) (c : Choice) (new : World
     here-node = put-same old.nodes c.node c.node step.node refl
 
     frame-is : (m : Message) → next.is.incoming ≡ Incoming.Frame m → IsFrame m
-    frame-is m frame = subst IsIncoming frame (incoming-is IsIncoming tt (λ number tick. tt) (λ tick. tt) IsFrame (λ x is. is) old c.node (λ from. next.kept.frames from c.node) c.what next.is.incoming next.is.comes)
+    frame-is m frame = subst IsIncoming frame (event-incoming s old c new next)
 
     decided-step : (m : Message) (ask : Ask) (answer : Answer) → next.is.incoming ≡ Incoming.Frame m → ask_of m.body ≡ Some ask → ((p : ProcName) → last_of p n.side.served ≤ last_of p step.node.side.served) → last_of (caller_of m) n.side.served < m.number
         → step.note ≡ Note.Decided (caller_of m) m.number ask answer → IsDecisionOn n step.node (caller_of m) ask answer → ((a : ℕ) → IsDeskStill old after a) → IsDecidedStep old after
     decided-step m ask answer frame asks more above note decision desks =
-        let caller = caller-sends m ask asks in
+        let caller = caller-at m ask asks in
         let is = frame-is m frame in
         record {
           place = place_at c step;

@@ -1,14 +1,13 @@
 -- What is so of a world of a run, by the laws below; and that one node writes.
-use Rattle.std.proofs.Common.{◌≡◌, ℕ, Bool, true, false, List, Option, Some, None, refl, ap, subst, arith}
-use Rattle.std.specs.Prelude.{◌==◌, ◌||◌, unwrap_or}
+use Rattle.std.proofs.Common.{◌≡◌, ℕ, Bool, true, false, List, Some, subst, arith}
+use Rattle.std.specs.Prelude.{◌==◌, ◌||◌}
 use Rattle.std.proofs.lemmas.Bool.Decides.{nat_tests}
 use Rattle.uid_names.specs.Names.{ProcName, ObjectName, same_proc}
 use Rattle.uid_names.specs.Modes.{mode_writes, modes_clash}
 use Rattle.uid_names.specs.declared.mode.Mode.{Mode}
 use Rattle.uid_names.proofs.ListLemmas.{by_cases}
 use Rattle.dom_history.specs.Objects.{is_node}
-use Rattle.lock_manager.specs.declared.grants.Grant.{Grant}
-use Rattle.lock_manager.specs.Grants.{grant_of, held_in}
+use Rattle.lock_manager.specs.Grants.{grant_of}
 use Rattle.lock_manager.specs.Tables.{Table, IsTable}
 use Rattle.lock_manager.proofs.Conflicts.{holders-compatible}
 use Rattle.page_server.specs.Decisions.{is_granted}
@@ -23,15 +22,15 @@ use Rattle.node_runs.proofs.Calls.{calls-are}
 use Rattle.node_runs.proofs.Decisions.{decisions-are}
 use Rattle.node_runs.proofs.SettingUp.{setup-procs}
 use Rattle.run_calls.specs.DecidedReplies.{proc_at}
-use Rattle.run_nodes.specs.AskedHomes.{AreOpenAtHomes, AreCallsAtHomes}
-use Rattle.run_nodes.specs.OpenCalls.{AreCarried}
-use Rattle.run_nodes.proofs.AskedHomes.{opens-at-homes, calls-at-homes}
-use Rattle.run_nodes.proofs.OpenCalls.{runs-carry}
-use Rattle.run_locks.specs.LiveLocks.{row_at, locks_of, AreLive}
-use Rattle.run_locks.proofs.LiveRun.{live-are}
-use Rattle.run_locks.proofs.Standing.{table-now, row-there}
-use Rattle.run_stamps.specs.Items.{Item, Value, Write, write_of}
-use Rattle.run_stamps.specs.Stamps.{IsThere, IsStampOf, Tells, TellsWritten, AreStamped}
+use Rattle.run_desks.specs.AskedHomes.{AreOpenAtHomes, AreCallsAtHomes}
+use Rattle.run_desks.specs.OpenCalls.{AreCarried}
+use Rattle.run_desks.proofs.AskedHomes.{opens-at-homes, calls-at-homes}
+use Rattle.run_desks.proofs.OpenCalls.{runs-carry}
+use Rattle.run_homes.specs.LiveLocks.{row_at, locks_of, AreLive}
+use Rattle.run_homes.proofs.LiveRun.{live-are}
+use Rattle.run_homes.proofs.Standing.{table-now, row-there, held-grant}
+use Rattle.run_contents.specs.Items.{Item, Value, Write, write_of}
+use Rattle.run_contents.specs.Stamps.{IsThere, IsStampOf, TellsItem, TellsWritten, AreStamped}
 use Rattle.run_contents.specs.Writes.{IsAcknowledged}
 use Rattle.run_contents.proofs.Decisions.{IsWriter, granted-row}
 use Rattle.run_contents.proofs.Gone.{AreGone, gone-are}
@@ -68,10 +67,6 @@ lawful s setup cs w e timely stamped = record {
   stamped = stamped;
 }
 
-held-grant : (o : Option Grant) (m : Mode) (number : ℕ) → held_in o ≡ Some (m, number) → (g : Grant) × (o ≡ Some g) × (g.row.mode ≡ m)
-held-grant None m number is = absurd (cc)
-held-grant (Some g) m number is = (g, refl, ap (λ (o : Option (Mode × ℕ)). (unwrap_or o (m, number)).0) is)
-
 -- one node writes: where a process of one node has a row, no other node writes the object
 pub one-writer : (locks : ℕ → Table) (a p b : ℕ) (u : ObjectName) (m : Mode) (grant number : ℕ) → IsTable (locks u.home) → row_at locks (proc_at a p) u ≡ Some (m, grant) → is_granted (locks u.home) number u b ≡ true → a ≡ b
 one-writer locks a p b u m grant number table row granted = by_cases (a == b) (a ≡ b) (λ h. grind (arith, nat_tests, h))
@@ -93,7 +88,7 @@ one-writer locks a p b u m grant number table row granted = by_cases (a == b) (a
         by false false is free = absurd (cc)
 
 -- what the home told of an open write that it took is a stamp of its object
-tells-stored : (w : World) (ask : Ask) (written : Write) (t : ℕ) → write_of ask ≡ Some written → Tells w ask (Answer.Stored t) → IsStampOf w written.uid t
+pub tells-stored : (w : World) (ask : Ask) (written : Write) (t : ℕ) → write_of ask ≡ Some written → TellsItem w ask (Answer.Stored t) → IsStampOf w written.uid t
 tells-stored w (Ask.PageOut u k grant base bytes) written t is tells = subst (λ o. TellsWritten w o (Answer.Stored t)) is tells
 tells-stored w (Ask.AttrOut u n grant base) written t is tells = subst (λ o. TellsWritten w o (Answer.Stored t)) is tells
 tells-stored w (Ask.PageIn u k) written t is tells = absurd (cc)
@@ -107,4 +102,4 @@ pub ack-stamp : (s : Setup) (w : World) → IsLawful s w → (a p : ℕ) (u : Ob
 ack-stamp s w law a p u x v t ack =
     let call : IsCallAt (w.calls a p) ack.open_call.waiting.number ack.open_call.home ack.open_call.ask = subst (IsOpenAt (w.calls a p)) ack.doing (law.made.opened a p ack.owner) in
     tells-stored w ack.open_call.ask (record { uid = u; item = x; value = v; grant = ack.grant; base = ack.base }) t ack.writes
-    (told-of w (Tells w) (proc_at a p) ack.open_call.waiting.number ack.open_call.home ack.open_call.ask call u.home (Answer.Stored t) w.trace ack.answered law.decisions.each (stamps-told w w.trace law.stamped.told))
+    (told-of w (TellsItem w) (proc_at a p) ack.open_call.waiting.number ack.open_call.home ack.open_call.ask call u.home (Answer.Stored t) w.trace ack.answered law.decisions.each (stamps-told w w.trace law.stamped.told))

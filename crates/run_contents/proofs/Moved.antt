@@ -1,20 +1,19 @@
 -- What an event that moves a desk for one process does to what the desk has of an object.
-use Rattle.std.proofs.Common.{◌≡◌, ℕ, ◌≤◌, Bool, true, false, List, [], Option, Some, None, ◌⊎◌, inl, inr, refl, sym, ap, subst, ◌∙◌, arith}
-use Rattle.std.specs.Prelude.{◌&&◌, not, if◌then◌else◌, max, unwrap_or}
+use Rattle.std.proofs.Common.{◌≡◌, ℕ, ◌≤◌, Bool, true, false, List, [], Option, Some, ◌⊎◌, inl, inr, sym, ap, subst, ◌∙◌, arith}
+use Rattle.std.specs.Prelude.{◌&&◌, if◌then◌else◌, max, unwrap_or}
 use Rattle.std.proofs.lemmas.Bool.{cases_eq}
+use Rattle.std.proofs.lemmas.Option.{same_Some}
+use Rattle.lock_validate.proofs.States.{free-unkept}
 use Rattle.uid_names.specs.Names.{ObjectName, same_uid}
 use Rattle.uid_names.specs.declared.mode.Mode.{Mode}
 use Rattle.uid_names.proofs.ListLemmas.{by_cases}
 use Rattle.uid_names.proofs.Orders.{same_uid_is}
-use Rattle.dom_history.specs.declared.deed.LockState.{LockState}
-use Rattle.dom_history.specs.declared.deed.LockState.TheVariants as states
-use Rattle.dom_history.specs.Locks.{is_held, is_free}
-use Rattle.page_cache.specs.Caches.{Resident, page_at}
+use Rattle.uid_names.proofs.Somes.{there_is}
+use Rattle.page_cache.specs.Caches.{page_at}
 use Rattle.version_stamps.specs.Stamps.{stamp_of as seen_of, with_stamp, raised}
 use Rattle.ring_messages.specs.Bodies.{Answer}
-use Rattle.fault_handler.specs.declared.entries.LockEntry.{LockEntry}
 use Rattle.fault_handler.specs.declared.tasks.Task.{Task}
-use Rattle.fault_handler.specs.Entries.{entry_of, keeps, keeps_writing, state_in}
+use Rattle.fault_handler.specs.Entries.{entry_of, keeps, keeps_writing}
 use Rattle.fault_handler.specs.Transits.{going}
 use Rattle.fault_handler.specs.Desks.{DeskState, entry_at, moving_of, any_keeps, base_of}
 use Rattle.fault_handler.specs.Outcomes.{Turn}
@@ -23,21 +22,21 @@ use Rattle.fault_handler.specs.LockCalls.{LockCall, LockAnswer, lock_answer, ope
 use Rattle.fault_handler.specs.Ready.{CallStands, IsReadyAt}
 use Rattle.fault_handler.specs.Invariant.{IsProc, FitsWay, FitsTransit, IsDesk}
 use Rattle.fault_handler.proofs.Fours.{any-at, any-of}
-use Rattle.fault_handler.proofs.TransitKeeps.{there_is, keeps_writing-keeps}
+use Rattle.fault_handler.proofs.TransitKeeps.{keeps_writing-keeps}
 use Rattle.desk_laws.specs.Causes.{Cause, MayCome}
 use Rattle.desk_laws.specs.Left.{IsGranted, Leaves}
 use Rattle.desk_laws.specs.Told.{told_stamp}
-use Rattle.desk_laws.specs.Moves.{Moves}
+use Rattle.desk_laws.specs.DeskMoves.{DeskMoves}
 use Rattle.desk_laws.specs.Turns.{Says}
 use Rattle.desk_laws.specs.Refusals.{Refuses}
 use Rattle.desk_laws.specs.Loading.{IsTaskIn}
 use Rattle.desk_laws.specs.Releasing.{releasing_in}
 use Rattle.desk_laws.proofs.Beside.{moves-beside}
 use Rattle.desk_laws.proofs.PageSaid.{page-said}
-use Rattle.node_runs.proofs.Somes.{some-is}
-use Rattle.run_stamps.specs.Items.{Item, Value, is_dirty_at}
+use Rattle.run_contents.specs.Items.{Item, Value, is_dirty_at}
+use Rattle.run_contents.proofs.Seen.{set-stamp}
 use Rattle.run_contents.proofs.ItemSteps.{Cleans, ItemStep, IsPlain, step-clean, moves-clean}
-use Rattle.run_contents.proofs.Shown.{low_of, raised-up, raised-low, seen-set, moves-up, moves-seen, Shows, Fits, once-shows, moves-shows, IsKeptFrom, step-kept, moves-kept}
+use Rattle.run_contents.proofs.Shown.{low_of, raised-up, raised-low, moves-up, moves-seen, Shows, Fits, once-shows, moves-shows, IsKeptFrom, step-kept, moves-kept}
 use Rattle.run_contents.proofs.Raising.{CameTo}
 use Rattle.run_contents.proofs.Settling.{page-settled, length-settled}
 
@@ -50,8 +49,8 @@ settled_object other _ = other
 
 -- the call that such an answer is of
 page-call : (call : LockCall) (x : Answer) (w : ObjectName) (delete taken : Bool) (stamp : ℕ) → lock_answer call x ≡ Some (LockAnswer.PageSettled w delete taken stamp) → (k : ℕ) × (del : Bool) × (call ≡ LockCall.PageOut w k del)
-page-call (LockCall.PageOut v k del) (Answer.Stored s) w delete taken stamp says = (k, del, ap (λ y. LockCall.PageOut y k del) (ap (settled_object v) (some-is (LockAnswer.PageSettled v del true s) (LockAnswer.PageSettled w delete taken stamp) says)))
-page-call (LockCall.PageOut v k del) (Answer.Stale s) w delete taken stamp says = (k, del, ap (λ y. LockCall.PageOut y k del) (ap (settled_object v) (some-is (LockAnswer.PageSettled v del false s) (LockAnswer.PageSettled w delete taken stamp) says)))
+page-call (LockCall.PageOut v k del) (Answer.Stored s) w delete taken stamp says = (k, del, ap (λ y. LockCall.PageOut y k del) (ap (settled_object v) (same_Some (LockAnswer.PageSettled v del true s) (LockAnswer.PageSettled w delete taken stamp) says)))
+page-call (LockCall.PageOut v k del) (Answer.Stale s) w delete taken stamp says = (k, del, ap (λ y. LockCall.PageOut y k del) (ap (settled_object v) (same_Some (LockAnswer.PageSettled v del false s) (LockAnswer.PageSettled w delete taken stamp) says)))
 page-call (LockCall.Lock v m) (Answer.Granted g s kind r l) w delete taken stamp says = absurd (cc)
 page-call (LockCall.Lock v m) (Answer.Conflict q held) w delete taken stamp says = absurd (cc)
 page-call (LockCall.Lock v m) Answer.NoObject w delete taken stamp says = absurd (cc)
@@ -62,8 +61,8 @@ page-call (LockCall.Remove v) Answer.Done w delete taken stamp says = absurd (cc
 page-call call x w delete taken stamp says = absurd (cc)
 
 length-call : (call : LockCall) (x : Answer) (w : ObjectName) (n : ℕ) (delete taken : Bool) (stamp : ℕ) → lock_answer call x ≡ Some (LockAnswer.LengthSettled w n delete taken stamp) → (l : ℕ) × (del : Bool) × (call ≡ LockCall.AttrOut w l del)
-length-call (LockCall.AttrOut v l del) (Answer.Stored s) w n delete taken stamp says = (l, del, ap (λ y. LockCall.AttrOut y l del) (ap (settled_object v) (some-is (LockAnswer.LengthSettled v l del true s) (LockAnswer.LengthSettled w n delete taken stamp) says)))
-length-call (LockCall.AttrOut v l del) (Answer.Stale s) w n delete taken stamp says = (l, del, ap (λ y. LockCall.AttrOut y l del) (ap (settled_object v) (some-is (LockAnswer.LengthSettled v l del false s) (LockAnswer.LengthSettled w n delete taken stamp) says)))
+length-call (LockCall.AttrOut v l del) (Answer.Stored s) w n delete taken stamp says = (l, del, ap (λ y. LockCall.AttrOut y l del) (ap (settled_object v) (same_Some (LockAnswer.LengthSettled v l del true s) (LockAnswer.LengthSettled w n delete taken stamp) says)))
+length-call (LockCall.AttrOut v l del) (Answer.Stale s) w n delete taken stamp says = (l, del, ap (λ y. LockCall.AttrOut y l del) (ap (settled_object v) (same_Some (LockAnswer.LengthSettled v l del false s) (LockAnswer.LengthSettled w n delete taken stamp) says)))
 length-call (LockCall.Lock v m) (Answer.Granted g s kind r l) w n delete taken stamp says = absurd (cc)
 length-call (LockCall.Lock v m) (Answer.Conflict q held) w n delete taken stamp says = absurd (cc)
 length-call (LockCall.Lock v m) Answer.NoObject w n delete taken stamp says = absurd (cc)
@@ -74,7 +73,7 @@ length-call (LockCall.Remove v) Answer.Done w n delete taken stamp says = absurd
 length-call call x w n delete taken stamp says = absurd (cc)
 
 lock-call : (call : LockCall) (x : Answer) (w : ObjectName) (k : Mode) (grant stamp room n : ℕ) → lock_answer call x ≡ Some (LockAnswer.Granted w k grant stamp room n) → (m : Mode) × (call ≡ LockCall.Lock w m)
-lock-call (LockCall.Lock v m) (Answer.Granted g s kind r l) w k grant stamp room n says = (m, ap (λ y. LockCall.Lock y m) (ap (settled_object v) (some-is (LockAnswer.Granted v m g s r l) (LockAnswer.Granted w k grant stamp room n) says)))
+lock-call (LockCall.Lock v m) (Answer.Granted g s kind r l) w k grant stamp room n says = (m, ap (λ y. LockCall.Lock y m) (ap (settled_object v) (same_Some (LockAnswer.Granted v m g s r l) (LockAnswer.Granted w k grant stamp room n) says)))
 lock-call (LockCall.Lock v m) (Answer.Conflict q held) w k grant stamp room n says = absurd (cc)
 lock-call (LockCall.Lock v m) Answer.NoObject w k grant stamp room n says = absurd (cc)
 lock-call (LockCall.PageOut v i del) (Answer.Stored s) w k grant stamp room n says = absurd (cc)
@@ -88,29 +87,6 @@ lock-call call x w k grant stamp room n says = absurd (cc)
 abbrev pub granted_uid : ObjectName → Cause → ObjectName
 granted_uid other (Cause.AnswerCame a) = settled_object other a
 granted_uid other _ = other
-
--- an entry that is kept
-pub held-keeping : (o : Option LockEntry) → keeps o ≡ true → (e : LockEntry) × (m : Mode) × (o ≡ Some e) × (e.state ≡ states.Held m)
-held-keeping None is = absurd (cc)
-held-keeping (Some e) is = by e.state refl is
-  where
-    by : (st : LockState) → e.state ≡ st → (is_held st && not e.released) ≡ true → (x : LockEntry) × (m : Mode) × (Some e ≡ Some x) × (x.state ≡ states.Held m)
-    by (states.Held m) same is = (e, m, refl, same)
-    by states.Free same is = absurd (cc)
-    by (states.Taking m) same is = absurd (cc)
-    by (states.Releasing m) same is = absurd (cc)
-    by states.Deleting same is = absurd (cc)
-
-free-unkept : (o : Option LockEntry) → is_free (state_in o) ≡ true → keeps o ≡ false
-free-unkept None is = refl
-free-unkept (Some e) is = by e.state is
-  where
-    by : (st : LockState) → is_free st ≡ true → (is_held st && not e.released) ≡ false
-    by states.Free is = refl
-    by (states.Held m) is = absurd (cc)
-    by (states.Taking m) is = absurd (cc)
-    by (states.Releasing m) is = absurd (cc)
-    by states.Deleting is = absurd (cc)
 
 -- what a grant leaves
 abbrev pub IsGrantLeft : DeskState → ℕ → DeskState → Cause → Type 0
@@ -161,7 +137,7 @@ module _ (d : DeskState) (desk : IsDesk d) (p : ℕ) (proc : IsProc p) (e : Desk
   raised-then w stamp seen = let f = ap (λ ss. unwrap_or (seen_of u ss) 0) seen in let r = raised-up u w stamp d.seen in omega (arith, f, r)
 
   raised-same : (w : ObjectName) (stamp : ℕ) → e.seen ≡ with_stamp (record { uid = w; stamp = raised stamp (seen_of w d.seen) }) d.seen → ((s : ℕ) → ◌≡◌ {A = Option (ObjectName × ℕ)} (Some (w, stamp)) (Some (u, s)) → ⊥) → seen_of u e.seen ≡ seen_of u d.seen
-  raised-same w stamp seen untold = ap (seen_of u) seen ∙ (seen-set u w (raised stamp (seen_of w d.seen)) d.seen ∙ ap (λ b. if b then Some (raised stamp (seen_of w d.seen)) else seen_of u d.seen) (raised-other w stamp untold))
+  raised-same w stamp seen untold = ap (seen_of u) seen ∙ (set-stamp u w (raised stamp (seen_of w d.seen)) d.seen ∙ ap (λ b. if b then Some (raised stamp (seen_of w d.seen)) else seen_of u d.seen) (raised-other w stamp untold))
 
   way : (c : Cause) → MayCome d p c → CameTo d p c e → IsPlain c ⊎ AtOnce c
   way (Cause.AnswerCame (LockAnswer.PageSettled w delete taken stamp)) may came =
@@ -180,7 +156,7 @@ module _ (d : DeskState) (desk : IsDesk d) (p : ℕ) (proc : IsProc p) (e : Desk
   raised-of c came = omega arith
 
   told-on : (w : ObjectName) (stamp s : ℕ) → ◌≡◌ {A = Option (ObjectName × ℕ)} (Some (w, stamp)) (Some (u, s)) → any_keeps d.entries w ≡ true → any_keeps d.entries u ≡ true
-  told-on w stamp s told kept = subst (λ v. any_keeps d.entries v ≡ true) (ap (λ (z : ObjectName × ℕ). z.0) (let f : ◌≡◌ {A = ObjectName × ℕ} (w, stamp) (u, s) = some-is (w, stamp) (u, s) told in f)) kept
+  told-on w stamp s told kept = subst (λ v. any_keeps d.entries v ≡ true) (ap (λ (z : ObjectName × ℕ). z.0) (let f : ◌≡◌ {A = ObjectName × ℕ} (w, stamp) (u, s) = same_Some (w, stamp) (u, s) told in f)) kept
 
   going-kept : (w : ObjectName) (k : ℕ) → moving_of d p ≡ going w k → any_keeps d.entries w ≡ true
   going-kept w k goes = let fits : FitsWay false d.cache.pages d.entries p w k = subst (FitsTransit d.cache.pages d.entries p) goes (desk.moved.each p proc) in fits.1
@@ -204,7 +180,7 @@ module _ (d : DeskState) (desk : IsDesk d) (p : ℕ) (proc : IsProc p) (e : Desk
       let stands : CallStands d p (LockCall.AttrOut w call.0 call.1) = subst (λ y. IsReadyAt d p (Some (open_call y))) call.2 (subst (IsReadyAt d p) may.opened may.ready) in
       told-on w stamp s told (writes-kept w stands.0.writes)
   told-kept (Cause.AnswerCame (LockAnswer.Granted w k grant stamp room n)) may s told other =
-      absurd (other k grant stamp room n (ap (λ v. Cause.AnswerCame (LockAnswer.Granted v k grant stamp room n)) (ap (λ (z : ObjectName × ℕ). z.0) (let f : ◌≡◌ {A = ObjectName × ℕ} (w, stamp) (u, s) = some-is (w, stamp) (u, s) told in f))))
+      absurd (other k grant stamp room n (ap (λ v. Cause.AnswerCame (LockAnswer.Granted v k grant stamp room n)) (ap (λ (z : ObjectName × ℕ). z.0) (let f : ◌≡◌ {A = ObjectName × ℕ} (w, stamp) (u, s) = same_Some (w, stamp) (u, s) told in f))))
   told-kept (Cause.AnswerCame (LockAnswer.Refused q held)) may s told other = absurd (cc)
   told-kept (Cause.AnswerCame (LockAnswer.Gone w)) may s told other = absurd (cc)
   told-kept (Cause.AnswerCame (LockAnswer.Released w)) may s told other = absurd (cc)
@@ -235,7 +211,7 @@ module _ (d : DeskState) (desk : IsDesk d) (p : ℕ) (proc : IsProc p) (e : Desk
   granted-unkept (Cause.AccessFailed t) may k grant stamp room n is = absurd (cc)
   granted-unkept (Cause.CallFailed call) may k grant stamp room n is = absurd (cc)
 
-  module _ (c : Cause) (turn : Turn) (may : MayCome d p c) (dropped : List (ObjectName × ℕ)) (made : Moves c turn p d e dropped) (came : CameTo d p c e) (unremoved : c ≡ Cause.AnswerCame (LockAnswer.Removed u) → ⊥) where
+  module _ (c : Cause) (turn : Turn) (may : MayCome d p c) (dropped : List (ObjectName × ℕ)) (made : DeskMoves c turn p d e dropped) (came : CameTo d p c e) (unremoved : c ≡ Cause.AnswerCame (LockAnswer.Removed u) → ⊥) where
     -- what is clean was clean, or its home took it
     pub clean-then : (x : Item) → is_dirty_at e u x ≡ false → (is_dirty_at d u x ≡ false) ⊎ ((v : Value) × Cleans c d p u x v)
     clean-then x clean = elim (way c may came) [
@@ -254,7 +230,7 @@ module _ (d : DeskState) (desk : IsDesk d) (p : ℕ) (proc : IsProc p) (e : Desk
 
     -- a process of the node keeps the object
     module _ (held : ℕ → Item → Value) (most : ℕ) (kept : any_keeps d.entries u ≡ true) (fits : Fits held most u c d p (low_of c u)) (shows : (x : Item) → Shows held most u d (base_of d.seen u) x) where
-      unlearned : (f : DeskState) (before : List (ObjectName × ℕ)) → Moves c turn p d f before → (k : Mode) (grant stamp room n : ℕ) → c ≡ Cause.AnswerCame (LockAnswer.Granted u k grant stamp room n) → any_keeps f.entries u ≡ false → ⊥
+      unlearned : (f : DeskState) (before : List (ObjectName × ℕ)) → DeskMoves c turn p d f before → (k : Mode) (grant stamp room n : ℕ) → c ≡ Cause.AnswerCame (LockAnswer.Granted u k grant stamp room n) → any_keeps f.entries u ≡ false → ⊥
       unlearned f before moved_so k grant stamp room n is none =
           let q = any-of (λ r. keeps (entry_at d.entries r u)) kept in
           elim (cases_eq q.0 p) [
@@ -267,7 +243,7 @@ module _ (d : DeskState) (desk : IsDesk d) (p : ℕ) (proc : IsProc p) (e : Desk
       pub kept-shows : (x : Item) → Shows held most u e (max (base_of e.seen u) (low_of c u)) x
       kept-shows x = elim (way c may came) [
         | inl plain ↦ moves-shows held most u c turn p proc plain unremoved d desk (low_of c u) fits unlearned x (shows x) e dropped made
-        | inr once ↦ once-shows held most u c d p (low_of c u) fits e x (once.0 x) (unlearned d [] Moves.none) once.1 (shows x)
+        | inr once ↦ once-shows held most u c d p (low_of c u) fits e x (once.0 x) (unlearned d [] DeskMoves.none) once.1 (shows x)
       ]
 
     -- none does, and no grant tells of it

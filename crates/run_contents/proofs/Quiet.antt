@@ -2,6 +2,7 @@
 use Rattle.std.proofs.Common.{◌≡◌, ℕ, ◌≤◌, Bool, true, false, List, Option, Some, None, ◌⊎◌, inl, inr, refl, sym, ap, subst, ◌∙◌, arith}
 use Rattle.std.specs.Prelude.{max}
 use Rattle.std.specs.Option.{option_map}
+use Rattle.std.proofs.lemmas.Option.{same_Some}
 use Rattle.uid_names.specs.Names.{ProcName, ObjectName}
 use Rattle.uid_names.specs.declared.mode.Mode.{Mode}
 use Rattle.version_stamps.specs.Stamps.{stamp_of as seen_of}
@@ -16,24 +17,23 @@ use Rattle.fault_handler.specs.Invariant.{IsProc}
 use Rattle.node_runs.specs.Setups.{Setup}
 use Rattle.node_runs.specs.NodeStates.{Asked, Await, BegunOp, OpenOp, proc_of}
 use Rattle.node_runs.specs.Dones.{asking}
-use Rattle.run_nodes.specs.DeskSteps.{IsSameAwait, IsSameDoing}
+use Rattle.run_desks.specs.DeskSteps.{IsSameAwait, IsSameDoing}
 use Rattle.node_runs.specs.Runs.{World}
 use Rattle.node_runs.specs.CallsKeep.{IsCallAt}
-use Rattle.node_runs.proofs.Somes.{some-is}
 use Rattle.run_calls.specs.DecidedReplies.{proc_at, WasAnswered}
-use Rattle.run_nodes.specs.OpenCalls.{HasSent, Carries, CarriesOpen, AreCarried}
-use Rattle.run_locks.specs.LiveLocks.{row_at, locks_of, served_of}
-use Rattle.run_stamps.specs.Items.{Item, Value, page_value, known_value, desk_value, is_dirty_at, Write, write_of}
-use Rattle.run_stamps.specs.Contents.{content, since}
-use Rattle.run_stamps.specs.Stamps.{home_at, stamp_at, IsThere, IsStampOf}
+use Rattle.run_desks.specs.OpenCalls.{HasSent, Carries, CarriesOpen, AreCarried}
+use Rattle.run_homes.specs.LiveLocks.{row_at, locks_of, served_of}
+use Rattle.run_contents.specs.Items.{Item, Value, page_value, known_value, desk_value, is_dirty_at, Write, write_of}
+use Rattle.run_contents.specs.Contents.{content, since}
+use Rattle.run_contents.specs.Stamps.{home_at, stamp_at, IsThere, IsStampOf}
 use Rattle.run_contents.specs.Writes.{HasRoom, MayStore, IsStillSent, IsUnchanged, IsAcknowledged}
-use Rattle.run_contents.specs.Contents.{IsKeptSince, AreContents}
+use Rattle.run_contents.specs.DeskContents.{IsKeptSince, AreContents}
 use Rattle.run_contents.proofs.Calls.{AreGiven}
 
 -- what a write of a page or of the length asks
 pub page-written : (ask : Ask) (u : ObjectName) (k : ℕ) (v : Value) (grant base : ℕ) → write_of ask ≡ Some (record { uid = u; item = Item.Page k; value = v; grant = grant; base = base }) → (bytes : List ℕ) × (ask ≡ Ask.PageOut u k grant base bytes) × (v ≡ Value.Bytes bytes)
 page-written (Ask.PageOut w j g b bytes) u k v grant base is =
-    let same : ◌≡◌ {A = Write} (record { uid = w; item = Item.Page j; value = Value.Bytes bytes; grant = g; base = b }) (record { uid = u; item = Item.Page k; value = v; grant = grant; base = base }) = some-is _ _ is in
+    let same : ◌≡◌ {A = Write} (record { uid = w; item = Item.Page j; value = Value.Bytes bytes; grant = g; base = b }) (record { uid = u; item = Item.Page k; value = v; grant = grant; base = base }) = same_Some _ _ is in
     let a : w ≡ u = ap (λ (y : Write). y.uid) same in
     let i : j ≡ k = item-page j k (ap (λ (y : Write). y.item) same) in
     let c : g ≡ grant = ap (λ (y : Write). y.grant) same in
@@ -42,7 +42,7 @@ page-written (Ask.PageOut w j g b bytes) u k v grant base is =
   where
     item-page : (x y : ℕ) → Item.Page x ≡ Item.Page y → x ≡ y
     item-page x y e = cc
-page-written (Ask.AttrOut w n g b) u k v grant base is = absurd (let e : Item.Size ≡ Item.Page k = ap (λ (y : Write). y.item) (some-is _ _ is) in cc)
+page-written (Ask.AttrOut w n g b) u k v grant base is = absurd (let e : Item.Size ≡ Item.Page k = ap (λ (y : Write). y.item) (same_Some _ _ is) in cc)
 page-written (Ask.PageIn w j) u k v grant base is = absurd (cc)
 page-written (Ask.Lock w m) u k v grant base is = absurd (cc)
 page-written (Ask.Unlock w) u k v grant base is = absurd (cc)
@@ -55,7 +55,7 @@ changed-known None n is = absurd (cc)
 changed-known (Some k) n is = by k.changed is
   where
     by : (b : Bool) → changed_in b k.length ≡ Some n → Some (known_value k) ≡ Some (Value.Length n)
-    by true is = ap (λ l. Some (Value.Length l)) (some-is k.length n is)
+    by true is = ap (λ l. Some (Value.Length l)) (same_Some k.length n is)
     by false is = absurd (cc)
 
 -- the desk still shows what the home took
@@ -161,7 +161,7 @@ module _ (s : Setup) (old after : World) (u : ObjectName) (step : IsQuietFor old
           stays = stays-then x v t kept.stays;
           alike = λ q other m. elim (may-then there a q node x other m) [
             | inl before ↦ kept.alike q other before
-            | inr sent ↦ some-is other v (sym sent.1 ∙ ack-shown after a p u x v t (carried a node) ack)
+            | inr sent ↦ same_Some other v (sym sent.1 ∙ ack-shown after a p u x v t (carried a node) ack)
           ];
         };
     harmless = λ a p node x v there clean m. elim (may-then there a p node x v m) [

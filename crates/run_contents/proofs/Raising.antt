@@ -3,6 +3,7 @@
 use Rattle.std.proofs.Common.{◌≡◌, ℕ, ◌+◌, ◌≤◌, Bool, true, false, Option, Some, None, ◌⊎◌, inl, inr, refl, sym, ap, subst, ◌∙◌, arith}
 use Rattle.std.specs.Prelude.{nat_lt}
 use Rattle.std.specs.Option.{option_map}
+use Rattle.std.proofs.lemmas.Option.{same_Some}
 use Rattle.uid_names.specs.Steps.{◌>>=◌}
 use Rattle.uid_names.specs.Names.{ObjectName}
 use Rattle.dom_history.specs.declared.op.Op.{Op}
@@ -10,8 +11,9 @@ use Rattle.dom_history.specs.declared.op.Op.TheVariants as ops
 use Rattle.dom_history.specs.declared.event.What.{What}
 use Rattle.page_cache.specs.Caches.{Resident, page_at, free_count}
 use Rattle.page_cache.specs.Numbers.{dirty_page}
-use Rattle.ring_messages.specs.Bodies.{Ask, Answer, ask_of, answer_of, body_of_answer}
+use Rattle.ring_messages.specs.Bodies.{Ask, Answer, ask_of, body_of_answer}
 use Rattle.ring_messages.specs.Frames.{Message}
+use Rattle.ring_messages.proofs.Asking.{answers-back, answers-ask-nothing}
 use Rattle.fault_handler.specs.declared.tasks.Work.{Work}
 use Rattle.fault_handler.specs.declared.tasks.Work.TheVariants.{Load, Store}
 use Rattle.fault_handler.specs.declared.tasks.Task.{Task}
@@ -38,8 +40,7 @@ use Rattle.node_runs.specs.Outcomes.{Stage, Stepped, turned, moved as moved_by_o
 use Rattle.node_runs.specs.Dones.{Did, asking, paused, finished, began, resumed, served, passed_over, heard, ignored, resent, gave_up, got_ready, marked}
 use Rattle.node_runs.specs.Doings.{stage_of}
 use Rattle.node_runs.specs.Rooms.{MayMove}
-use Rattle.node_runs.proofs.Somes.{some-is}
-use Rattle.run_nodes.specs.DeskSteps.{Takes, IsTaken, doing_after}
+use Rattle.run_desks.specs.DeskSteps.{Takes, IsTaken, doing_after}
 
 -- a desk on which a release goes on: a page may be sent home, and nothing else changes of pages, lengths and stamps
 pub record IsSettledTo (g e : DeskState) : Type 0 where
@@ -109,32 +110,6 @@ lock-came d p (LockAnswer.Refused q held) to may = tt
 lock-came d p (LockAnswer.Gone u) to may = tt
 lock-came d p (LockAnswer.Released u) to may = tt
 lock-came d p (LockAnswer.Removed u) to may = tt
-
-answers-back : (x : Answer) → answer_of (body_of_answer x) ≡ Some x
-answers-back (Answer.Page stamp bytes) = refl
-answers-back (Answer.Stored stamp) = refl
-answers-back (Answer.Stale stamp) = refl
-answers-back Answer.NoGrant = refl
-answers-back Answer.NoObject = refl
-answers-back (Answer.Granted grant stamp kind room n) = refl
-answers-back (Answer.Conflict p m) = refl
-answers-back Answer.Done = refl
-answers-back (Answer.Made u) = refl
-answers-back Answer.NoSpace = refl
-answers-back (Answer.Listed rows more) = refl
-
-asks-nothing : (x : Answer) → ask_of (body_of_answer x) ≡ None
-asks-nothing (Answer.Page stamp bytes) = refl
-asks-nothing (Answer.Stored stamp) = refl
-asks-nothing (Answer.Stale stamp) = refl
-asks-nothing Answer.NoGrant = refl
-asks-nothing Answer.NoObject = refl
-asks-nothing (Answer.Granted grant stamp kind room n) = refl
-asks-nothing (Answer.Conflict p m) = refl
-asks-nothing Answer.Done = refl
-asks-nothing (Answer.Made u) = refl
-asks-nothing Answer.NoSpace = refl
-asks-nothing (Answer.Listed rows more) = refl
 
 -- an operation that has an open call at the desk is none of which the desk knows nothing
 module _ (d : DeskState) (p : ℕ) (x : Answer) where
@@ -207,11 +182,11 @@ module _ (g : Given) (n : NodeState) (p : ℕ) (o : BegunOp) (k : Asked) (doing 
 
   -- what the answer said
   came-said : (a : PageAnswer) (may : MayCome n.desk p (Cause.PageCame a)) → IsOf n.desk p (Cause.PageCame a) o.op → (said : Said) → said_by n.desk p o.op may.answer ≡ Some said → said ≡ Said.ToAccess a
-  came-said a may of said says = some-is said (Said.ToAccess a)
+  came-said a may of said says = same_Some said (Said.ToAccess a)
       (sym says ∙ (said-is n.desk p may.answer o.op calls.Access may.accessing (subst (IsCallOf o.op (task_of n.desk p)) may.accessing of) ∙ ap (option_map Said.ToAccess) may.says))
 
   lock-said : (a : LockAnswer) (may : MayCome n.desk p (Cause.AnswerCame a)) → IsOf n.desk p (Cause.AnswerCame a) o.op → (said : Said) → said_by n.desk p o.op may.answer ≡ Some said → said ≡ Said.ToLock a
-  lock-said a may of said says = some-is said (Said.ToLock a)
+  lock-said a may of said says = same_Some said (Said.ToLock a)
       (sym says ∙ (said-is n.desk p may.answer o.op (open_call may.call) may.opened (subst (IsCallOf o.op (task_of n.desk p)) may.opened of)
       ∙ (ap (said_to_lock n.desk p may.answer) (lock-back n.desk p may.answer may.call) ∙ ap (option_map Said.ToLock) may.says)))
 
@@ -226,7 +201,7 @@ module _ (g : Given) (n : NodeState) (p : ℕ) (o : BegunOp) (k : Asked) (doing 
         by_said said found to (subst (λ q. MayMove q (answered n.desk q said) to) own way)
 
     not-asked : {X : Type 0} (m : Message) (ask : Ask) → m.body ≡ body_of_answer x → ask_of m.body ≡ Some ask → X
-    not-asked m ask body asks = absurd (let e : None ≡ Some ask = sym (ap ask_of body ∙ asks-nothing x) ∙ asks in cc)
+    not-asked m ask body asks = absurd (let e : None ≡ Some ask = sym (ap ask_of body ∙ answers-ask-nothing x) ∙ asks in cc)
 
     did-case : (what : What) (incoming : Incoming) (s : Stepped) → Takes incoming p (proc_of n p).doing x → (proc_of s.node p).doing ≡ doing_after o (proc_of n p) turn → Did g n what incoming s → Q s.node.desk
     did-case what incoming s taken after (heard from index m b c said to sender receiver asks is same says way) =

@@ -3,6 +3,7 @@ use Rattle.std.proofs.Common.{◌≡◌, ◌≢◌, ℕ, ◌+◌, ◌≤◌, ◌
 use Rattle.std.specs.Prelude.{◌==◌, nat_lt, if◌then◌else◌}
 use Rattle.std.specs.Option.{option_map}
 use Rattle.std.proofs.lemmas.Bool.Decides.{nat_tests}
+use Rattle.std.proofs.lemmas.Option.{same_Some}
 use Rattle.uid_names.specs.Names.{ObjectName, same_uid}
 use Rattle.uid_names.proofs.ListLemmas.{by_cases}
 use Rattle.uid_names.proofs.Orders.{same_uid_is}
@@ -16,21 +17,21 @@ use Rattle.fault_handler.specs.Transits.{going}
 use Rattle.fault_handler.specs.Desks.{DeskState, entry_at, moving_of, any_keeps, base_of, writing_grant}
 use Rattle.fault_handler.specs.Changes.{known_sent}
 use Rattle.fault_handler.specs.Outcomes.{Turn}
-use Rattle.fault_handler.specs.Invariant.{IsProc, is_dirty, IsDesk}
+use Rattle.fault_handler.specs.Invariant.{IsProc, IsDesk}
 use Rattle.fault_handler.proofs.Fours.{any-at}
 use Rattle.fault_handler.proofs.KnownRows.{known_of-with_known, uid-grown, uid-sent}
 use Rattle.fault_handler.proofs.TransitKeeps.{keeps_writing-keeps}
 use Rattle.desk_laws.specs.Causes.{Cause}
-use Rattle.desk_laws.specs.Moves.{Change, Moves}
+use Rattle.desk_laws.specs.DeskMoves.{Change, DeskMoves}
 use Rattle.desk_laws.specs.Told.{told_row}
 use Rattle.desk_laws.specs.Turns.{Says}
 use Rattle.desk_laws.proofs.Beside.{moves-beside}
 use Rattle.desk_laws.proofs.DeskStays.{moves-desk}
-use Rattle.node_runs.proofs.Somes.{some-is}
-use Rattle.run_nodes.specs.OpenCalls.{HasSent, IsLengthSent, Carries}
-use Rattle.run_nodes.proofs.GoingPages.{IsBeside, kept, stored_to, change-beside}
-use Rattle.run_nodes.proofs.Staying.{known-stays, writing-left}
-use Rattle.run_stamps.specs.Items.{Item, Value, page_value, desk_value, is_dirty_at, Write, write_of}
+use Rattle.run_desks.specs.OpenCalls.{IsLengthSent, Carries}
+use Rattle.run_desks.proofs.GoingPages.{IsBeside, kept, stored_to, change-beside}
+use Rattle.run_desks.proofs.Staying.{known-stays, writing-left}
+use Rattle.run_desks.proofs.OpenCalls.{sent-is-dirty}
+use Rattle.run_contents.specs.Items.{Item, Value, page_value, desk_value, is_dirty_at, Write, write_of}
 use Rattle.run_contents.specs.Writes.{IsStillSent, IsUnchanged}
 use Rattle.run_contents.proofs.Quiet.{page-written, changed-known}
 
@@ -40,7 +41,7 @@ module _ (c : Cause) (turn : Turn) (p : ℕ) (u : ObjectName) (n : ℕ) where
   grown-back end k most is = by (nat_lt k.length end) refl is
     where
       by : (b : Bool) → nat_lt k.length end ≡ b → changed_length (Some (grown_if b end k)) ≡ Some n → changed_length (Some k) ≡ Some n
-      by true longer is = absurd (let e : end ≡ n = some-is end n is in let f : k.length < end = grind (arith, nat_tests, longer) in omega (arith, e, f, most))
+      by true longer is = absurd (let e : end ≡ n = same_Some end n is in let f : k.length < end = grind (arith, nat_tests, longer) in omega (arith, e, f, most))
       by false longer is = is
 
   sent-back : (l : ℕ) (k : Known) → changed_length (Some (sent_length l k)) ≡ Some n → changed_length (Some k) ≡ Some n
@@ -85,33 +86,33 @@ module _ (c : Cause) (turn : Turn) (p : ℕ) (proc : IsProc p) (q : ℕ) (other 
         false-is : false ≡ true → ⊥
         false-is e = absurd (cc)
 
-    page-back : (e : DeskState) (dropped : List (ObjectName × ℕ)) → Moves c turn p d e dropped → IsStillSent (page_at e.cache.pages u k) → IsStillSent (page_at d.cache.pages u k)
-    page-back e dropped Moves.none sent = sent
-    page-back e dropped (Moves.next {e = f} before change) sent =
+    page-back : (e : DeskState) (dropped : List (ObjectName × ℕ)) → DeskMoves c turn p d e dropped → IsStillSent (page_at e.cache.pages u k) → IsStillSent (page_at d.cache.pages u k)
+    page-back e dropped DeskMoves.none sent = sent
+    page-back e dropped (DeskMoves.next {e = f} before change) sent =
         page-back f dropped before (beside-sent (page_at f.cache.pages u k) (page_at e.cache.pages u k)
         (change-beside c turn p proc q other differs f (moves-desk c turn p proc d f dropped desk before) u k ((moves-beside c turn p q proc other differs d f dropped before).moving ∙ goes) e [] change) sent)
-    page-back e dropped (Moves.dropping {e = f} before change) sent =
+    page-back e dropped (DeskMoves.dropping {e = f} before change) sent =
         page-back f [] before (beside-sent (page_at f.cache.pages u k) (page_at e.cache.pages u k)
         (change-beside c turn p proc q other differs f (moves-desk c turn p proc d f [] desk before) u k ((moves-beside c turn p q proc other differs d f [] before).moving ∙ goes) e dropped change) sent)
 
   -- a length
   module _ (u : ObjectName) (n : ℕ) (writes : keeps_writing (entry_at d.entries q u) ≡ true) (most : n ≤ length_of (known_of u d.known)) where
-    kept-then : (f : DeskState) (dropped : List (ObjectName × ℕ)) → Moves c turn p d f dropped → any_keeps f.entries u ≡ true
+    kept-then : (f : DeskState) (dropped : List (ObjectName × ℕ)) → DeskMoves c turn p d f dropped → any_keeps f.entries u ≡ true
     kept-then f dropped before = any-at (λ r. keeps (entry_at f.entries r u)) q other
         (ap (λ es. keeps (entry_of u es)) (moves-beside c turn p q proc other differs d f dropped before).entries ∙ keeps_writing-keeps (entry_at d.entries q u) writes)
 
-    most-then : (f : DeskState) (dropped : List (ObjectName × ℕ)) → Moves c turn p d f dropped → n ≤ length_of (known_of u f.known)
-    most-then f dropped Moves.none = most
-    most-then f dropped (Moves.next {e = g} before change) = let a = most-then g dropped before in let b = known-stays u c turn p g (kept-then g dropped before) f [] change in omega (arith, a, b)
-    most-then f dropped (Moves.dropping {e = g} before change) = let a = most-then g [] before in let b = known-stays u c turn p g (kept-then g [] before) f dropped change in omega (arith, a, b)
+    most-then : (f : DeskState) (dropped : List (ObjectName × ℕ)) → DeskMoves c turn p d f dropped → n ≤ length_of (known_of u f.known)
+    most-then f dropped DeskMoves.none = most
+    most-then f dropped (DeskMoves.next {e = g} before change) = let a = most-then g dropped before in let b = known-stays u c turn p g (kept-then g dropped before) f [] change in omega (arith, a, b)
+    most-then f dropped (DeskMoves.dropping {e = g} before change) = let a = most-then g [] before in let b = known-stays u c turn p g (kept-then g [] before) f dropped change in omega (arith, a, b)
 
-    length-back : (e : DeskState) (dropped : List (ObjectName × ℕ)) → Moves c turn p d e dropped → changed_length (known_of u e.known) ≡ Some n → changed_length (known_of u d.known) ≡ Some n
-    length-back e dropped Moves.none is = is
-    length-back e dropped (Moves.next {e = f} before change) is = length-back f dropped before (change-back c turn p u n f e [] (kept-then f dropped before) (most-then f dropped before) change is)
-    length-back e dropped (Moves.dropping {e = f} before change) is = length-back f [] before (change-back c turn p u n f e dropped (kept-then f [] before) (most-then f [] before) change is)
+    length-back : (e : DeskState) (dropped : List (ObjectName × ℕ)) → DeskMoves c turn p d e dropped → changed_length (known_of u e.known) ≡ Some n → changed_length (known_of u d.known) ≡ Some n
+    length-back e dropped DeskMoves.none is = is
+    length-back e dropped (DeskMoves.next {e = f} before change) is = length-back f dropped before (change-back c turn p u n f e [] (kept-then f dropped before) (most-then f dropped before) change is)
+    length-back e dropped (DeskMoves.dropping {e = f} before change) is = length-back f [] before (change-back c turn p u n f e dropped (kept-then f [] before) (most-then f [] before) change is)
 
   -- either
-  pub unchanged-back : (u : ObjectName) (x : Item) (v : Value) (grant base : ℕ) (ask : Ask) → write_of ask ≡ Some (record { uid = u; item = x; value = v; grant = grant; base = base }) → Carries d q ask → (e : DeskState) (dropped : List (ObjectName × ℕ)) → Moves c turn p d e dropped
+  pub unchanged-back : (u : ObjectName) (x : Item) (v : Value) (grant base : ℕ) (ask : Ask) → write_of ask ≡ Some (record { uid = u; item = x; value = v; grant = grant; base = base }) → Carries d q ask → (e : DeskState) (dropped : List (ObjectName × ℕ)) → DeskMoves c turn p d e dropped
       → IsUnchanged e u x v → IsUnchanged d u x v
   unchanged-back u (Item.Page k) v grant base ask is carries e dropped made same =
       let out = page-written ask u k v grant base is in
@@ -123,7 +124,7 @@ module _ (c : Cause) (turn : Turn) (p : ℕ) (proc : IsProc p) (q : ℕ) (other 
     where
       length-written : (ask : Ask) (u : ObjectName) (n grant base : ℕ) → write_of ask ≡ Some (record { uid = u; item = Item.Size; value = Value.Length n; grant = grant; base = base }) → ask ≡ Ask.AttrOut u n grant base
       length-written (Ask.AttrOut w l g b) u n grant base is =
-          let same : ◌≡◌ {A = Write} (record { uid = w; item = Item.Size; value = Value.Length l; grant = g; base = b }) (record { uid = u; item = Item.Size; value = Value.Length n; grant = grant; base = base }) = some-is _ _ is in
+          let same : ◌≡◌ {A = Write} (record { uid = w; item = Item.Size; value = Value.Length l; grant = g; base = b }) (record { uid = u; item = Item.Size; value = Value.Length n; grant = grant; base = base }) = same_Some _ _ is in
           let a : w ≡ u = ap (λ (y : Write). y.uid) same in
           let i : l ≡ n = value-length l n (ap (λ (y : Write). y.value) same) in
           let c : g ≡ grant = ap (λ (y : Write). y.grant) same in
@@ -132,7 +133,7 @@ module _ (c : Cause) (turn : Turn) (p : ℕ) (proc : IsProc p) (q : ℕ) (other 
         where
           value-length : (x y : ℕ) → Value.Length x ≡ Value.Length y → x ≡ y
           value-length x y e = cc
-      length-written (Ask.PageOut w j g b bytes) u n grant base is = absurd (let e : Item.Page j ≡ Item.Size = ap (λ (y : Write). y.item) (some-is _ _ is) in cc)
+      length-written (Ask.PageOut w j g b bytes) u n grant base is = absurd (let e : Item.Page j ≡ Item.Size = ap (λ (y : Write). y.item) (same_Some _ _ is) in cc)
       length-written (Ask.PageIn w j) u n grant base is = absurd (cc)
       length-written (Ask.Lock w m) u n grant base is = absurd (cc)
       length-written (Ask.Unlock w) u n grant base is = absurd (cc)
@@ -153,23 +154,19 @@ changed-is o n is = by (is_changed o) refl is
     by true same is = same
     by false same is = absurd (cc)
 
-has-dirty : (bytes : List ℕ) (o : Option Resident) → HasSent bytes o → is_dirty o ≡ true
-has-dirty bytes None is = absurd is
-has-dirty bytes (Some r) is = is.dirty
-
 -- a turn that asks for a write
 abbrev pub SendsTurn : DeskState → ℕ → Turn → Type 0
 SendsTurn e p (Turn.Asks home ask) = Carries e p ask → (written : Write) → write_of ask ≡ Some written → IsSent e written
 SendsTurn e p turn = Unit {0}
 
 page-sends : (e : DeskState) (p : ℕ) (u : ObjectName) (k grant base : ℕ) (bytes : List ℕ) (r : Resident) → page_at e.cache.pages u k ≡ Some r → r.bytes ≡ bytes → Carries e p (Ask.PageOut u k grant base bytes) → (written : Write) → write_of (Ask.PageOut u k grant base bytes) ≡ Some written → IsSent e written
-page-sends e p u k grant base bytes r there same carries written is = subst (IsSent e) (some-is _ written is) (record {
-  dirty = has-dirty bytes (page_at e.cache.pages u k) carries.page;
+page-sends e p u k grant base bytes r there same carries written is = subst (IsSent e) (same_Some _ written is) (record {
+  dirty = sent-is-dirty bytes (page_at e.cache.pages u k) carries.page;
   value = ap (option_map page_value) there ∙ ap (λ bs. Some (Value.Bytes bs)) same;
 })
 
 length-sends : (e : DeskState) (u : ObjectName) (n grant base : ℕ) → changed_length (known_of u e.known) ≡ Some n → (written : Write) → write_of (Ask.AttrOut u n grant base) ≡ Some written → IsSent e written
-length-sends e u n grant base changed written is = subst (IsSent e) (some-is _ written is) (record { dirty = changed-is (known_of u e.known) n changed; value = changed-known (known_of u e.known) n changed })
+length-sends e u n grant base changed written is = subst (IsSent e) (same_Some _ written is) (record { dirty = changed-is (known_of u e.known) n changed; value = changed-known (known_of u e.known) n changed })
 
 pub says-sent : (d : DeskState) (p : ℕ) (e : DeskState) (c : Cause) (turn : Turn) → Says d p e c turn → SendsTurn e p turn
 says-sent d p e c turn (Says.sends_room cause task r given room) = λ carries. page-sends e p r.uid r.page (writing_grant e.entries r.uid) (base_of e.seen r.uid) r.bytes r room.sends.there refl carries

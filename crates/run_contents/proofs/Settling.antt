@@ -3,6 +3,7 @@ use Rattle.std.proofs.Common.{◌≡◌, ℕ, Bool, true, false, Option, Some, N
 use Rattle.std.specs.Prelude.{◌==◌, ◌&&◌, not, if◌then◌else◌}
 use Rattle.std.specs.Option.{option_map}
 use Rattle.std.proofs.lemmas.Bool.Decides.{nat_tests}
+use Rattle.std.proofs.lemmas.Option.{same_Some}
 use Rattle.uid_names.specs.Names.{ObjectName, same_uid}
 use Rattle.uid_names.proofs.ListLemmas.{by_cases}
 use Rattle.uid_names.proofs.Orders.{same_uid_is}
@@ -19,8 +20,7 @@ use Rattle.fault_handler.specs.LockCalls.{LockAnswer}
 use Rattle.fault_handler.proofs.KnownRows.{known_of-with_known, uid-sent}
 use Rattle.fault_handler.proofs.PageLists.{is_same, same-uid, same-page, page_at-changed_other}
 use Rattle.desk_laws.specs.Causes.{Cause}
-use Rattle.node_runs.proofs.Somes.{some-is}
-use Rattle.run_stamps.specs.Items.{Item, Value, page_value, known_value, is_dirty_at}
+use Rattle.run_contents.specs.Items.{Item, Value, page_value, known_value, is_dirty_at}
 use Rattle.run_contents.proofs.ItemSteps.{IsCleanThen, ItemStep, alike, cleaned, changed-here, page-then, length-then, flagged-one-then, and-true}
 use Rattle.run_contents.proofs.Raising.{IsSettledTo}
 
@@ -85,7 +85,7 @@ module _ (d : DeskState) (p : ℕ) (u : ObjectName) where
           let a = same-uid u j w k same in
           let i = same-page u j w k same in
           cleaned (page_value r) (sym a, goes ∙ (ap (λ v. going v k) (sym a) ∙ ap (going u) (sym i)), (r, there-at w k delete true stamp goes r there e to j same, sent, refl))
-          (λ other clean shown. some-is other (page_value r)
+          (λ other clean shown. same_Some other (page_value r)
           (sym ((later-then (g w k delete true stamp goes r there e to) e u (Item.Page j) to clean).value other shown) ∙ ap (option_map page_value) (settled-here w k delete true stamp goes r there e to j same))))
           (λ unsent. kept true same to (ap (λ b. r.flags.dirty && not (true && b)) unsent ∙ and-true r.flags.dirty))
 
@@ -109,7 +109,7 @@ module _ (d : DeskState) (p : ℕ) (u : ObjectName) where
           (λ is.
           let here : k.length ≡ n = grind (arith, nat_tests, e_n) in
           cleaned (Value.Length n) (on, ap changed_length was ∙ (ap (λ b. changed_in b k.length) is ∙ ap Some here), refl)
-          (λ other clean shown. some-is other (Value.Length n) (sym shown ∙ (ap (λ ks. option_map known_value (known_of u ks)) to.known ∙ (ap (option_map known_value) now ∙ ap (λ l. Some (Value.Length l)) here)))))
+          (λ other clean shown. same_Some other (Value.Length n) (sym shown ∙ (ap (λ ks. option_map known_value (known_of u ks)) to.known ∙ (ap (option_map known_value) now ∙ ap (λ l. Some (Value.Length l)) here)))))
           (λ unchanged. alike (λ clean. record {
             was = ap is_changed was ∙ unchanged;
             value = λ v shown. ap (option_map known_value) was ∙ (sym (ap (option_map known_value) now) ∙ (ap (λ ks. option_map known_value (known_of u ks)) (sym to.known) ∙ shown));

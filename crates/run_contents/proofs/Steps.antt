@@ -1,15 +1,17 @@
 -- Each event keeps contents.
 use Rattle.std.proofs.Common.{◌≡◌, ◌≢◌, ℕ, ◌+◌, ◌≤◌, ◌<◌, Bool, true, false, List, [], ◌∷◌, length, Option, Some, None, ◌⊎◌, inl, inr, refl, sym, ap, subst, ◌∙◌, arith}
-use Rattle.std.specs.Prelude.{is_some, unwrap_or, IfSome, IsSome}
+use Rattle.std.specs.Prelude.{is_some, unwrap_or, IfSome}
 use Rattle.std.specs.Option.{option_map}
 use Rattle.std.proofs.lemmas.Bool.{cases_eq}
 use Rattle.std.proofs.lemmas.Bool.Decides.{nat_tests}
+use Rattle.std.proofs.lemmas.Option.{same_Some}
 use Rattle.uid_names.specs.Names.{ProcName, ObjectName, same_uid}
 use Rattle.uid_names.specs.declared.ids.Place.{Place}
 use Rattle.uid_names.specs.declared.mode.Mode.{Mode}
 use Rattle.uid_names.specs.Openings.{Start}
 use Rattle.uid_names.proofs.ListLemmas.{by_cases}
 use Rattle.uid_names.proofs.Orders.{same_uid_is}
+use Rattle.uid_names.proofs.Somes.{there_is}
 use Rattle.dom_history.specs.declared.op.Op.{Op}
 use Rattle.dom_history.specs.declared.op.Op.TheVariants as ops
 use Rattle.dom_history.specs.Objects.{is_node}
@@ -32,42 +34,40 @@ use Rattle.fault_handler.specs.LockCalls.{LockAnswer}
 use Rattle.fault_handler.specs.Invariant.{IsProc, is_dirty, FitsWay, FitsTransit, IsDesk}
 use Rattle.fault_handler.proofs.Fours.{any-of}
 use Rattle.lock_validate.specs.Answers.{is_seen, is_fresh}
+use Rattle.lock_validate.proofs.States.{kept-entry}
 use Rattle.desk_laws.specs.Causes.{Cause, MayCome, IsOf}
 use Rattle.desk_laws.specs.Left.{IsGranted}
 use Rattle.desk_laws.specs.Told.{told_stamp}
 use Rattle.desk_laws.specs.Turns.{IsMade}
-use Rattle.desk_laws.specs.Moves.{Moves}
+use Rattle.desk_laws.specs.DeskMoves.{DeskMoves}
 use Rattle.desk_laws.proofs.PageSaid.{page-said}
 use Rattle.node_runs.specs.Setups.{Setup, IsSetup, given}
 use Rattle.node_runs.specs.NodeStates.{Asked, Await, BegunOp, OpenOp, ProcState, NodeState, proc_of}
 use Rattle.node_runs.specs.Incomings.{Incoming}
-use Rattle.node_runs.specs.Outcomes.{Stage, Stepped, next_call}
+use Rattle.node_runs.specs.Outcomes.{Stage, next_call}
 use Rattle.node_runs.specs.Dones.{Did, asking}
-use Rattle.node_runs.specs.Doings.{ticked}
 use Rattle.node_runs.specs.Notes.{Note}
 use Rattle.node_runs.specs.NodesKeep.{IsNodeOf}
-use Rattle.node_runs.specs.Runs.{World, Noted, Choice, calls_after, world_with}
+use Rattle.node_runs.specs.Runs.{World, Noted, Choice, calls_after}
 use Rattle.node_runs.specs.CallsKeep.{IsCallAt, EachOf}
 use Rattle.node_runs.specs.DecidedCalls.{IsDecided}
 use Rattle.node_runs.specs.Agreements.{Agrees}
 use Rattle.node_runs.proofs.Doing.{step_of-did}
-use Rattle.node_runs.proofs.Calls.{put-same, put-other}
-use Rattle.node_runs.proofs.Worlds.{place_at}
+use Rattle.node_runs.proofs.Calls.{put-same, put-other, numbered-within}
 use Rattle.node_runs.proofs.Decisions.{IsNoDecision}
-use Rattle.node_runs.proofs.Somes.{some-is}
 use Rattle.run_calls.specs.DecidedReplies.{proc_at, IsAnswerAt, WasAnswered}
-use Rattle.run_calls.proofs.HearingRuns.{IsKeptNext}
-use Rattle.run_nodes.specs.DeskSteps.{IsTaken, IsHomeAsk, IsHomeTurn, IsAt, OpMove, apart as desk_apart, moves, doing_after, turn_call, IsSameDoing, NodeMove, still, moved}
-use Rattle.run_nodes.specs.OpenCalls.{Carries, CarriesOpen}
-use Rattle.run_nodes.proofs.DeskSteps.{home-asks, same-doing}
-use Rattle.run_locks.specs.LiveLocks.{row_at, locks_of, served_of}
-use Rattle.run_locks.proofs.Live.{call-within, not-answered}
-use Rattle.run_locks.proofs.LiveRun.{got-row}
-use Rattle.run_stamps.specs.Items.{Item, Value, page_value, known_value, desk_value, is_dirty_at, Write, write_of}
-use Rattle.run_stamps.specs.Contents.{content}
-use Rattle.run_stamps.specs.Stamps.{home_at, stamp_at, IsThere, IsStampOf, IsToldOf, Tells}
+use Rattle.run_calls.proofs.HearingRuns.{IsKeptNext, event}
+use Rattle.run_desks.specs.DeskSteps.{IsTaken, IsHomeAsk, IsHomeTurn, IsAt, OpMove, apart as desk_apart, moves, doing_after, turn_call, IsSameDoing, NodeMove, still, moved}
+use Rattle.run_desks.specs.OpenCalls.{Carries, CarriesOpen}
+use Rattle.run_desks.proofs.DeskSteps.{home-asks, same-doing}
+use Rattle.run_homes.specs.LiveLocks.{row_at, locks_of, served_of}
+use Rattle.run_homes.proofs.Live.{not-answered}
+use Rattle.run_homes.proofs.LiveRun.{got-row}
+use Rattle.run_contents.specs.Items.{Item, Value, page_value, known_value, desk_value, is_dirty_at, Write, write_of}
+use Rattle.run_contents.specs.Contents.{content}
+use Rattle.run_contents.specs.Stamps.{home_at, stamp_at, IsThere, IsStampOf, IsItemTold, TellsItem}
 use Rattle.run_contents.specs.Writes.{HasRoom, IsUnchanged, IsAcknowledged}
-use Rattle.run_contents.specs.Contents.{AreContents}
+use Rattle.run_contents.specs.DeskContents.{AreContents}
 use Rattle.run_contents.proofs.ItemSteps.{Cleans, IsPlain}
 use Rattle.run_contents.proofs.Traces.{content-quiet, since-quiet, told-of, stamps-told}
 use Rattle.run_contents.proofs.Answers.{IsAnswering, answering, IsTold, cleaned-acked, came-told, removed-told}
@@ -77,11 +77,11 @@ use Rattle.run_contents.proofs.Gone.{TellsGone}
 use Rattle.run_contents.proofs.Calls.{call-then}
 use Rattle.run_contents.proofs.Lawful.{IsLawful, ack-stamp}
 use Rattle.run_contents.proofs.Sending.{unchanged-back, IsSent, SendsTurn, says-sent}
-use Rattle.run_contents.proofs.Moved.{granted_uid, held-keeping, IsGrantLeft, said-left, clean-then, seen-then, low-then, kept-shows, unkept-same, unkept-seen}
+use Rattle.run_contents.proofs.Moved.{granted_uid, IsGrantLeft, said-left, clean-then, seen-then, low-then, kept-shows, unkept-same, unkept-seen}
 use Rattle.run_contents.proofs.Quiet.{IsSentNow, DeskStep, IsQuietFor, contents-of, quiet-contents, IsDeskStill, ack-same, still-step}
 
 -- what a new object or a list asks is no write
-home-sends : (opening : Start) (incoming : Incoming) (p : ℕ) (doing : Option OpenOp) (stage : Stage) (op : Op) (e : DeskState) (turn : Turn) → IsHomeTurn opening incoming p doing stage op turn → SendsTurn e p turn
+pub home-sends : (opening : Start) (incoming : Incoming) (p : ℕ) (doing : Option OpenOp) (stage : Stage) (op : Op) (e : DeskState) (turn : Turn) → IsHomeTurn opening incoming p doing stage op turn → SendsTurn e p turn
 home-sends opening incoming p doing stage op e (Turn.Ends reply) is = tt
 home-sends opening incoming p doing stage op e (Turn.Waits u k) is = tt
 home-sends opening incoming p doing stage op e (Turn.Asks home ask) is = λ carries written writes. absurd (by op (home-asks opening incoming p doing stage op home ask is) written writes)
@@ -178,10 +178,6 @@ fresh-low : (stamp : ℕ) (o : Option ℕ) → is_fresh stamp o ≡ true → unw
 fresh-low stamp None is = omega arith
 fresh-low stamp (Some s) is = grind (arith, nat_tests, is)
 
-some-of : (o : Option ℕ) → IsSome o → (s : ℕ) × (o ≡ Some s)
-some-of None is = absurd (cc)
-some-of (Some s) is = (s, refl)
-
 -- a call that was answered was made
 answered-call : (w : World) (P : ProcName) (home number : ℕ) (x : Answer) (notes : List Noted) → WasAnswered notes home P number x → EachOf (λ (j : Noted). IsDecided w j.place j.note) notes → (to : ℕ) × (ask : Ask) × IsCallAt (w.calls P.node P.number) number to ask
 answered-call w P home number x [] some each = absurd some
@@ -197,17 +193,7 @@ answered-call w P home number x (j ∷ older) (inl is) each = by j.place j.note 
         (place.node, ask, subst (λ (r : ProcName). IsCallAt (w.calls r.node r.number) number place.node ask) is.1.0 (subst (λ i. IsCallAt (w.calls q.node q.number) i place.node ask) is.1.1 decided.1))
 
 module _ (s : Setup) (setup : IsSetup s) (old : World) (c : Choice) (new : World) (next : IsKeptNext s old c new) where
-  abbrev n : NodeState
-  n = ticked (old.nodes c.node) next.is.incoming
-
-  abbrev step : Stepped
-  step = next.is.step
-
-  abbrev after : World
-  after = world_with old (place_at c step) c.what step
-
-  abbrev mark : Noted
-  mark = record { place = place_at c step; note = step.note }
+  open event s old c new next use {n, step, after, mark}
 
   abbrev d : DeskState
   d = (old.nodes c.node).desk
@@ -253,7 +239,7 @@ module _ (s : Setup) (setup : IsSetup s) (old : World) (c : Choice) (new : World
             let now : doing_after o (proc_of n p) m.turn ≡ asking ack.began ack.open_call = sym doing ∙ (sym (ap (λ (y : NodeState). (proc_of y p).doing) after-node) ∙ ack.doing) in
             let number = turn-number o ack.began (proc_of n p) ack.open_call m.turn now in
             let made = answered-call old (proc_at c.node p) u.home ack.open_call.waiting.number (Answer.Stored t) old.trace (answered-was u (proc_at c.node p) ack.open_call.waiting.number t ack.answered) next.decisions.each in
-            let within = call-within ack.open_call.waiting.number (old.calls c.node p) made.0 made.1 made.2 in
+            let within = numbered-within ack.open_call.waiting.number (old.calls c.node p) made.0 made.1 made.2 in
             let last = next.calls.last c.node p proc in
             absurd (omega (arith, number, within, last))
 
@@ -374,7 +360,7 @@ module _ (s : Setup) (setup : IsSetup s) (old : World) (c : Choice) (new : World
               quiet-since : (x : Item) → is_dirty_at d u x ≡ false → (t : ℕ) → base_of d.seen u ≤ t → t ≤ stamp_at old u → content old.trace u t x ≡ content old.trace u (stamp_at old u) x
               quiet-since x clean t above below =
                   let q = keeper in
-                  let e = held-keeping (entry_at d.entries q.0 u) q.2 in
+                  let e = kept-entry (entry_at d.entries q.0 u) q.2 in
                   let kept_one : keeps (Some e.0) ≡ true = ap keeps (sym e.2) ∙ q.2 in
                   let row : row_at (locks_of old) (proc_at c.node q.0) u ≡ Some (e.1, e.0.grant) = (law.live c.node q.0 q.1).row u e.0 e.1 e.2 kept_one e.3 in
                   let low = law.stamped.kept c.node q.0 node u e.1 e.0.grant (record { owner = q.1; entry = e.0; found = e.2; kept = kept_one; state = e.3; number = refl }) in
@@ -383,7 +369,7 @@ module _ (s : Setup) (setup : IsSetup s) (old : World) (c : Choice) (new : World
               shows : (x : Item) → Shows (λ t y. content old.trace u t y) (stamp_at old u) u d (base_of d.seen u) x
               shows x v clean shown t above below =
                   let q = keeper in
-                  let s0 = some-of (seen_of u d.seen) (desk_old.known.kept q.0 q.1 u q.2) in
+                  let s0 = there_is (seen_of u d.seen) (desk_old.known.kept q.0 q.1 u q.2) in
                   let base : base_of d.seen u ≡ s0.0 = ap (λ y. unwrap_or y 0) s0.1 in
                   let top = seen-was s0.0 s0.1 in
                   were.as_seen c.node node u x v s0.0 there shown clean s0.1
@@ -397,9 +383,9 @@ module _ (s : Setup) (setup : IsSetup s) (old : World) (c : Choice) (new : World
                   let a : own ≡ task = ap (came_task own) is in
                   let b : at_stamp ≡ stamp = ap (came_stamp at_stamp) is in
                   let e : came_bytes ≡ bytes = ap (came_bytes_of came_bytes) is in
-                  let here : IsToldOf old task.uid stamp (Item.Page (page_of task)) (Value.Bytes bytes) =
-                  subst (λ (y : Task). IsToldOf old y.uid stamp (Item.Page (page_of y)) (Value.Bytes bytes)) a (subst (λ i. IsToldOf old own.uid i (Item.Page (page_of own)) (Value.Bytes bytes)) b (subst (λ bs. IsToldOf old own.uid at_stamp (Item.Page (page_of own)) (Value.Bytes bs)) e told)) in
-                  let mine : IsToldOf old u stamp (Item.Page (page_of task)) (Value.Bytes bytes) = subst (λ w. IsToldOf old w stamp (Item.Page (page_of task)) (Value.Bytes bytes)) (sym on) here in
+                  let here : IsItemTold old task.uid stamp (Item.Page (page_of task)) (Value.Bytes bytes) =
+                  subst (λ (y : Task). IsItemTold old y.uid stamp (Item.Page (page_of y)) (Value.Bytes bytes)) a (subst (λ i. IsItemTold old own.uid i (Item.Page (page_of own)) (Value.Bytes bytes)) b (subst (λ bs. IsItemTold old own.uid at_stamp (Item.Page (page_of own)) (Value.Bytes bs)) e told)) in
+                  let mine : IsItemTold old u stamp (Item.Page (page_of task)) (Value.Bytes bytes) = subst (λ w. IsItemTold old w stamp (Item.Page (page_of task)) (Value.Bytes bytes)) (sym on) here in
                   let comes : moving_of d p ≡ coming task.uid (page_of task) = subst (λ (y : Task). moving_of d p ≡ coming y.uid (page_of y)) a said.comes in
                   let fits : FitsWay true d.cache.pages d.entries p task.uid (page_of task) = subst (FitsTransit d.cache.pages d.entries p) comes (desk_old.moved.each p proc) in
                   let clean : is_dirty_at d u (Item.Page (page_of task)) ≡ false = ap (λ w. is_dirty (page_at d.cache.pages w (page_of task))) on ∙ ap is_dirty fits.0 in
@@ -439,17 +425,17 @@ module _ (s : Setup) (setup : IsSetup s) (old : World) (c : Choice) (new : World
                   left = subst (IsGrantLeft d p m.desk) is (said-left d p m.desk cause m.turn made.says)
 
                   raised-is : (t : ℕ) → seen_of u m.desk.seen ≡ Some t → raised stamp (seen_of u d.seen) ≡ t
-                  raised-is t seen = some-is (raised stamp (seen_of u d.seen)) t (sym left.seen ∙ seen)
+                  raised-is t seen = same_Some (raised stamp (seen_of u d.seen)) t (sym left.seen ∙ seen)
 
-                  told : IsToldOf old u stamp Item.Size (Value.Length l)
+                  told : IsItemTold old u stamp Item.Size (Value.Length l)
                   told =
                       let got = got-row s setup old c new next (law.opened c.node node) law.calls (law.carried c.node node) law.live p proc o stage m is_at at_desk doing call u k grant stamp room l cause may of taken is in
-                      told-of old (Tells old) (proc_at c.node p) (length (old.calls c.node p)) got.2 (Ask.Lock u k) got.3 u.home (Answer.Granted grant stamp got.4 room l) old.trace got.5 next.decisions.each (stamps-told old old.trace law.stamped.told)
+                      told-of old (TellsItem old) (proc_at c.node p) (length (old.calls c.node p)) got.2 (Ask.Lock u k) got.3 u.home (Answer.Granted grant stamp got.4 room l) old.trace got.5 next.decisions.each (stamps-told old old.trace law.stamped.told)
 
                   plain : IsPlain cause
                   plain = subst IsPlain (sym is) tt
 
-                  same-from : (x : Item) → ((f : DeskState) (before : List (ObjectName × ℕ)) → Moves cause m.turn p d f before → (j : Mode) (g st r i : ℕ) → cause ≡ Cause.AnswerCame (LockAnswer.Granted u j g st r i) → x ≡ Item.Size → is_fresh st (seen_of u f.seen) ≡ true → ⊥) → IsKeptFrom d m.desk u x
+                  same-from : (x : Item) → ((f : DeskState) (before : List (ObjectName × ℕ)) → DeskMoves cause m.turn p d f before → (j : Mode) (g st r i : ℕ) → cause ≡ Cause.AnswerCame (LockAnswer.Granted u j g st r i) → x ≡ Item.Size → is_fresh st (seen_of u f.seen) ≡ true → ⊥) → IsKeptFrom d m.desk u x
                   same-from x unlearned = moves-kept cause d p u (λ y v cleans. subst (λ z. Cleans z d p u y v) is cleans) (λ task st bytes came_so on. absurd (let f = sym is ∙ came_so in cc)) m.turn proc plain desk_old x unlearned m.desk m.dropped made.moves
 
                   as-before : (x : Item) (v : Value) (s0 : ℕ) → IsKeptFrom d m.desk u x → seen_of u d.seen ≡ Some s0 → desk_value m.desk u x ≡ Some v → is_dirty_at m.desk u x ≡ false → v ≡ content old.trace u s0 x
@@ -465,7 +451,7 @@ module _ (s : Setup) (setup : IsSetup s) (old : World) (c : Choice) (new : World
                   by Item.Size v t shown clean seen = by_cases (is_fresh stamp (seen_of u d.seen)) (v ≡ content old.trace u t Item.Size)
                       (λ fresh.
                       let at : t ≡ stamp = sym (raised-is t seen) ∙ fresh-raised stamp (seen_of u d.seen) fresh in
-                      let value : v ≡ Value.Length l = some-is v (Value.Length l) (sym shown ∙ ap (option_map known_value) (left.known none fresh)) in
+                      let value : v ≡ Value.Length l = same_Some v (Value.Length l) (sym shown ∙ ap (option_map known_value) (left.known none fresh)) in
                       subst (λ j. v ≡ content old.trace u j Item.Size) (sym at) (value ∙ told.value there))
                       (λ stale.
                       let was = old-raised stamp (seen_of u d.seen) stale in

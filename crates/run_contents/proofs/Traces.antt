@@ -20,12 +20,12 @@ use Rattle.node_runs.proofs.Decisions.{IsNoDecision}
 use Rattle.node_runs.proofs.Receiving.{EachOf-more}
 use Rattle.run_calls.specs.DecidedReplies.{IsAnswerAt, WasAnswered}
 use Rattle.run_calls.proofs.HearingRuns.{same-ask}
-use Rattle.run_stamps.proofs.Contents.{content-above}
-use Rattle.run_stamps.proofs.Given.{NoteHas}
-use Rattle.run_stamps.proofs.ObjectMoves.{taken-each}
-use Rattle.run_stamps.specs.Items.{Item, same_item, Write, write_of}
-use Rattle.run_stamps.specs.Contents.{value_if, left_by, left_if, content, told_with, granted_if, since}
-use Rattle.run_stamps.specs.Stamps.{IsThere, stamp_at, Tells, TellsStamp}
+use Rattle.run_contents.proofs.Contents.{content-above}
+use Rattle.run_contents.proofs.Given.{NoteHas}
+use Rattle.run_contents.proofs.ObjectMoves.{taken-each}
+use Rattle.run_contents.specs.Items.{Item, same_item, Write, write_of}
+use Rattle.run_contents.specs.Contents.{value_if, left_by, left_if, content, told_with, granted_if, since}
+use Rattle.run_contents.specs.Stamps.{IsThere, stamp_at, TellsItem, TellsStamp}
 
 left-quiet : (b : Bool) (u : ObjectName) (x : Item) (t : ℕ) (note : Note) → IsNoDecision note → left_if b u x t note ≡ None
 left-quiet false u x t note quiet = refl
@@ -163,12 +163,12 @@ module _ (w : World) (T : Ask → Answer → Type 0) (P : ProcName) (number to :
   told-of (j ∷ older) (inl is) decided tells = note-told j.place j.note is decided.0 tells.0
   told-of (j ∷ older) (inr some) decided tells = told-of older some decided.1 tells.1
 
-stamp-told : (w : World) (note : Note) → TellsStamp w note → NoteHas (Tells w) note
+stamp-told : (w : World) (note : Note) → TellsStamp w note → NoteHas (TellsItem w) note
 stamp-told w Note.Nothing is = tt
 stamp-told w (Note.Began q op) is = tt
 stamp-told w (Note.Did q phase op reply) is = tt
 stamp-told w (Note.Ended t) is = tt
 stamp-told w (Note.Decided q i ask given) is = is
 
-pub stamps-told : (w : World) (notes : List Noted) → EachOf (λ (j : Noted). TellsStamp w j.note) notes → EachOf (λ (j : Noted). NoteHas (Tells w) j.note) notes
-stamps-told w notes told = EachOf-more (λ (j : Noted). TellsStamp w j.note) (λ (j : Noted). NoteHas (Tells w) j.note) notes (λ j is. stamp-told w j.note is) told
+pub stamps-told : (w : World) (notes : List Noted) → EachOf (λ (j : Noted). TellsStamp w j.note) notes → EachOf (λ (j : Noted). NoteHas (TellsItem w) j.note) notes
+stamps-told w notes told = EachOf-more (λ (j : Noted). TellsStamp w j.note) (λ (j : Noted). NoteHas (TellsItem w) j.note) notes (λ j is. stamp-told w j.note is) told

@@ -1,45 +1,47 @@
--- What desks have of an object that is there, against what it held at its stamps. "Clean" is everything that is not dirty, also what is
--- not there. Each speaks of one item; the length is one of them.
-use Rattle.std.specs.Prelude.{◌≡◌, ℕ, ◌≤◌, max, true, false, Some}
-use Rattle.uid_names.specs.Names.{ObjectName}
-use Rattle.uid_names.specs.declared.mode.Mode.{Mode}
-use Rattle.version_stamps.specs.Stamps.{stamp_of as seen_of}
-use Rattle.dom_history.specs.Objects.{is_node}
-use Rattle.fault_handler.specs.Desks.{base_of}
-use Rattle.node_runs.specs.Setups.{Setup}
-use Rattle.node_runs.specs.Runs.{World}
-use Rattle.fault_handler.specs.Invariant.{IsProc}
-use Rattle.run_calls.specs.DecidedReplies.{proc_at}
-use Rattle.run_locks.specs.LiveLocks.{row_at, locks_of}
-use Rattle.run_stamps.specs.Items.{Item, Value, desk_value, is_dirty_at}
-use Rattle.run_stamps.specs.Contents.{content, since}
-use Rattle.run_stamps.specs.Stamps.{IsThere, stamp_at}
-use Rattle.run_contents.specs.Writes.{MayStore, IsAcknowledged}
+-- What an object held at a stamp: what the write last taken at or below that stamp left there. It never changes, since each write that is
+-- taken later has a greater stamp.
+use Rattle.std.specs.Prelude.{ℕ, ◌==◌, nat_le, Bool, true, false, ◌&&◌, if◌then◌else◌, Option, Some, None, List, [], ◌∷◌, unwrap_or}
+use Rattle.uid_names.specs.Names.{ObjectName, same_uid}
+use Rattle.ring_messages.specs.Bodies.{Ask, Answer}
+use Rattle.node_runs.specs.Notes.{Note}
+use Rattle.node_runs.specs.Runs.{Noted}
+use Rattle.run_contents.specs.Items.{Item, Value, same_item, blank, Write, write_of}
 
--- acknowledged: what the home took stays, as long as the process does not know; and each write of its node that may still be taken carries the same
-pub record IsKeptSince (w : World) (n : ℕ) (u : ObjectName) (x : Item) (v : Value) (s : ℕ) : Type 0 where
-  pub stays : (t : ℕ) → s ≤ t → t ≤ stamp_at w u → content w.trace u t x ≡ v
-  pub alike : (q : ℕ) (other : Value) → MayStore w n q u x other → other ≡ v
+abbrev pub value_if : Bool → Write → Option Value
+value_if true w = Some w.value
+value_if false w = None
 
-abbrev pub AreAcknowledged : Setup → World → Type 0
-AreAcknowledged s w = (n p : ℕ) → is_node s.opening n ≡ true → (u : ObjectName) (x : Item) (v : Value) (t : ℕ) → IsThere w u → IsAcknowledged w n p u x v t → IsKeptSince w n u x v t
+-- what an answer to a write left of an item, at or below a stamp
+abbrev pub left_by : ObjectName → Item → ℕ → Option Write → Answer → Option Value
+left_by u x s (Some w) (Answer.Stored t) = value_if (same_uid w.uid u && (same_item w.item x && nat_le t s)) w
+left_by u x s w answer = None
 
--- harmless: a write that may still be taken, of what is clean at its node, carries what the home has
-abbrev pub AreHarmless : Setup → World → Type 0
-AreHarmless s w = (n p : ℕ) → is_node s.opening n ≡ true → (u : ObjectName) (x : Item) (v : Value) → IsThere w u → is_dirty_at (w.nodes n).desk u x ≡ false → MayStore w n p u x v → v ≡ content w.trace u (stamp_at w u) x
+abbrev pub left_at : ObjectName → Item → ℕ → Note → Option Value
+left_at u x s (Note.Decided p number ask answer) = left_by u x s (write_of ask) answer
+left_at u x s note = None
 
--- quiet: where a process has a lock at the home, what is clean at its node did not change since the grant, or since the stamp that the node has seen
-abbrev pub AreQuiet : Setup → World → Type 0
-AreQuiet s w = (n p : ℕ) → is_node s.opening n ≡ true → IsProc p → (u : ObjectName) (x : Item) (m : Mode) (grant : ℕ) → IsThere w u → row_at (locks_of w) (proc_at n p) u ≡ Some (m, grant) → is_dirty_at (w.nodes n).desk u x ≡ false
-    → (t : ℕ) → max (since w.trace u grant) (base_of (w.nodes n).desk.seen u) ≤ t → t ≤ stamp_at w u → content w.trace u t x ≡ content w.trace u (stamp_at w u) x
+abbrev pub left_if : Bool → ObjectName → Item → ℕ → Note → Option Value
+left_if true u x s note = left_at u x s note
+left_if false u x s note = None
 
--- clean is as seen: whether anybody holds the object or not
-abbrev pub AreAsSeen : Setup → World → Type 0
-AreAsSeen s w = (n : ℕ) → is_node s.opening n ≡ true → (u : ObjectName) (x : Item) (v : Value) (t : ℕ) → IsThere w u → desk_value (w.nodes n).desk u x ≡ Some v → is_dirty_at (w.nodes n).desk u x ≡ false
-    → seen_of u (w.nodes n).desk.seen ≡ Some t → v ≡ content w.trace u t x
+-- by the notes of its home
+abbrev pub content : List Noted → ObjectName → ℕ → Item → Value
+content [] u s x = blank x
+content (j ∷ older) u s x = unwrap_or (left_if (j.place.node == u.home) u x s j.note) (content older u s x)
 
-pub record AreContents (s : Setup) (w : World) : Type 0 where
-  pub acknowledged : AreAcknowledged s w
-  pub harmless : AreHarmless s w
-  pub quiet : AreQuiet s w
-  pub as_seen : AreAsSeen s w
+-- the stamp that was told with a grant of u, 0 where it was not given
+abbrev pub told_with : ObjectName → ℕ → Ask → Answer → Option ℕ
+told_with u grant (Ask.Lock v m) (Answer.Granted g s kind room n) = if same_uid v u && (g == grant) then Some s else None
+told_with u grant ask answer = None
+
+abbrev pub granted_at : ObjectName → ℕ → Note → Option ℕ
+granted_at u grant (Note.Decided p number ask answer) = told_with u grant ask answer
+granted_at u grant note = None
+
+abbrev pub granted_if : Bool → ObjectName → ℕ → Note → Option ℕ
+granted_if true u grant note = granted_at u grant note
+granted_if false u grant note = None
+
+abbrev pub since : List Noted → ObjectName → ℕ → ℕ
+since [] u grant = 0
+since (j ∷ older) u grant = unwrap_or (granted_if (j.place.node == u.home) u grant j.note) (since older u grant)

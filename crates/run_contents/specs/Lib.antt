@@ -1,2 +1,8 @@
-pub mod Writes
+pub mod Items
 pub mod Contents
+pub mod Stamps
+pub mod ObjectMoves
+pub mod Writes
+pub mod DeskContents
+pub mod Stores
+pub mod Releases

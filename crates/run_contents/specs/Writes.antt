@@ -14,9 +14,9 @@ use Rattle.node_runs.specs.Dones.{asking}
 use Rattle.node_runs.specs.Runs.{World}
 use Rattle.node_runs.specs.CallsKeep.{IsCallAt}
 use Rattle.run_calls.specs.DecidedReplies.{proc_at, WasAnswered}
-use Rattle.run_locks.specs.LiveLocks.{served_of}
-use Rattle.run_stamps.specs.Items.{Item, Value, write_of}
-use Rattle.run_stamps.specs.Stamps.{home_at, stamp_at}
+use Rattle.run_homes.specs.LiveLocks.{served_of}
+use Rattle.run_contents.specs.Items.{Item, Value, write_of}
+use Rattle.run_contents.specs.Stamps.{home_at, stamp_at}
 
 -- the object has this item, or room for this length
 abbrev pub HasRoom : HomeState → ObjectName → Item → Value → Type 0

@@ -1,4 +1,4 @@
-//! What desks have of an object, against what it held at its stamps.
+//! Laws of contents: what objects held at their stamps, that what is clean at a desk is so, and where the last store is.
 #![tactic(auto)]
 
 pub mod laws;

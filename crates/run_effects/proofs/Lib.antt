@@ -1,3 +1,10 @@
 pub mod NotedEffects
 pub mod NotedDeeds
 pub mod NotedRooms
+pub mod Each
+pub mod Named
+pub mod TurnDeeds
+pub mod StateMoves
+pub mod States
+pub mod MapMoves
+pub mod Targets

@@ -5,7 +5,7 @@ use Rattle.std.proofs.lemmas.Bool.{cases_eq}
 use Rattle.std.proofs.lemmas.Bool.Decides.{nat_tests}
 use Rattle.std.proofs.lemmas.List.Elements.{filter-append}
 use Rattle.uid_names.proofs.ListLemmas.{by_cases}
-use Rattle.uid_names.proofs.Orders.{same_proc_is}
+use Rattle.uid_names.proofs.Orders.{same_proc_is, same_proc-itself}
 use Rattle.uid_names.specs.Names.{ProcName, same_proc}
 use Rattle.dom_history.specs.declared.op.Entry.{Entry}
 use Rattle.dom_history.specs.declared.op.Reply.{Reply}
@@ -21,19 +21,16 @@ use Rattle.node_runs.specs.Setups.{Setup, IsSetup, given}
 use Rattle.node_runs.specs.NodeStates.{ProcState, NodeState, first_node, proc_of}
 use Rattle.node_runs.specs.Incomings.{Incoming}
 use Rattle.node_runs.specs.Notes.{Note}
-use Rattle.node_runs.specs.Doings.{ticked}
 use Rattle.node_runs.specs.NodesKeep.{IsTimely}
-use Rattle.node_runs.specs.Runs.{World, Choice, world_with, world_after}
+use Rattle.node_runs.specs.Runs.{World, Choice, world_after}
 use Rattle.node_runs.specs.RunHistories.{history_in}
 use Rattle.node_runs.specs.CallsKeep.{EachOf}
 use Rattle.node_runs.proofs.SettingUp.{setup-procs}
 use Rattle.node_runs.proofs.Calls.{put-same, put-other}
-use Rattle.node_runs.proofs.Worlds.{place_at}
 use Rattle.run_calls.specs.DecidedReplies.{proc_at}
 use Rattle.run_calls.specs.Heard.{AreHeard}
 use Rattle.run_calls.specs.Progress.{Progress, opens, goes_on, again, did, told, pauses, is_done, IsApart, rests, comes}
-use Rattle.run_calls.proofs.Slots.{same_proc-refl}
-use Rattle.run_calls.proofs.HearingRuns.{IsKeptNext, proc-step, every-kept-run, heard-are}
+use Rattle.run_calls.proofs.HearingRuns.{IsKeptNext, proc-step, every-kept-run, heard-are, event}
 use Rattle.run_calls.proofs.HistoryEntries.{asked-heard}
 use Rattle.run_effects.specs.NotedDeeds.{note_deeds, noted_deeds, AreDeedsTold}
 
@@ -77,7 +74,7 @@ module _ (p : ProcName) (ask : Heard → Want) where
   reached-deeds (passed is asks) mine = reached-deeds is mine
 
   own-one : (d : Deed) → d.proc ≡ p → own p (d ∷ []) ≡ d ∷ []
-  own-one d is = ap (λ b. if b then d ∷ [] else []) (subst (λ q. same_proc d.proc q ≡ true) is (same_proc-refl d.proc))
+  own-one d is = ap (λ b. if b then d ∷ [] else []) (subst (λ q. same_proc d.proc q ≡ true) is (same_proc-itself d.proc))
 
   -- one process comes on
   module _ (tick : ℕ) (incoming : Incoming) (old new : ProcState) (note : Note) where
@@ -134,11 +131,7 @@ abbrev AreDeedsHeard : Setup → World → Type 0
 AreDeedsHeard s w = (n p : ℕ) → IsProc p → own (proc_at n p) (noted_deeds w.trace) ≡ heard_deeds (proc_at n p) (s.asks (proc_at n p)) (proc_of (w.nodes n) p).heard
 
 module _ (s : Setup) (setup : IsSetup s) (old : World) (c : Choice) (new : World) (next : IsKeptNext s old c new) (all : AreHeard s old) (before : AreDeedsHeard s old) where
-  abbrev n : NodeState
-  n = ticked (old.nodes c.node) next.is.incoming
-
-  abbrev after : World
-  after = world_with old (place_at c next.is.step) c.what next.is.step
+  open event s old c new next use {n, after}
 
   abbrev Deeds : ℕ → ℕ → ProcState → Type 0
   Deeds a q x = own (proc_at a q) (noted_deeds after.trace) ≡ heard_deeds (proc_at a q) (s.asks (proc_at a q)) x.heard

@@ -2,10 +2,12 @@
 use Rattle.std.proofs.Common.{◌≡◌, ℕ, Bool, true, false, List, [], ◌∷◌, ◌++◌, Option, Some, None, inl, inr, refl, sym, ap, subst, ◌∙◌, append_assoc}
 use Rattle.std.specs.Prelude.{◌==◌, ◌&&◌, if◌then◌else◌}
 use Rattle.std.proofs.lemmas.List.{append-nil}
+use Rattle.std.proofs.lemmas.Option.{same_Some}
 use Rattle.uid_names.proofs.ListLemmas.{by_cases}
 use Rattle.uid_names.proofs.Orders.{same_proc_is}
 use Rattle.uid_names.specs.Names.{ProcName, same_proc}
 use Rattle.uid_names.specs.declared.ids.Place.{Place}
+use Rattle.uid_names.proofs.Passed.{left-true, right-true, equal}
 use Rattle.dom_history.specs.declared.op.Op.{Op}
 use Rattle.dom_history.specs.declared.op.Op.TheVariants as ops
 use Rattle.dom_history.specs.declared.op.Reply.{Reply}
@@ -21,18 +23,16 @@ use Rattle.node_runs.specs.Runs.{World, Noted, Choice, numbered, world_after}
 use Rattle.node_runs.specs.RunHistories.{is_fault, settled_op, change_reply, act_item, all_told, fault_item, begun_item, told_item, open_item, settled_item, decided_item, doing_of, ended_at, ended_by, items_of, items_from}
 use Rattle.node_runs.specs.CallsKeep.{AsksThis, EachOf}
 use Rattle.node_runs.specs.DecidedCalls.{IsDecided}
-use Rattle.node_runs.proofs.Bools.{left-true, right-true, equal}
-use Rattle.node_runs.proofs.Somes.{some-is}
 use Rattle.node_runs.proofs.SettingUp.{setup-procs}
 use Rattle.node_runs.proofs.Decisions.{decisions-are}
+use Rattle.node_runs.proofs.EachOf.{EachOf-both, EachOf-behind}
 use Rattle.run_calls.specs.Progress.{IsSettling}
 use Rattle.run_calls.proofs.Slots.{settles}
 use Rattle.run_calls.proofs.HearingRuns.{same-ask}
-use Rattle.run_nodes.specs.ToldAnswers.{IsTold}
-use Rattle.run_nodes.proofs.ToldAnswers.{told-are}
+use Rattle.run_desks.specs.ToldAnswers.{IsTold}
+use Rattle.run_desks.proofs.ToldAnswers.{told-are}
 use Rattle.run_homes.specs.DecidedEffects.{home_effects, noted_effect}
 use Rattle.run_homes.proofs.HomeEffects.{notes-right}
-use Rattle.run_homes.proofs.HistoryHomes.{each-behind}
 use Rattle.run_effects.specs.NotedEffects.{note_effects, noted_past, AreEffectsNoted}
 
 -- the effects of items
@@ -89,11 +89,11 @@ module _ (p : ProcName) where
   settled-home home (Ask.PageIn u k) op e = absurd (cc)
   settled-home home (Ask.PageOut u k grant base bytes) op e = absurd (cc)
   settled-home home (Ask.AttrOut u n grant base) op e = absurd (cc)
-  settled-home home (Ask.Lock u m) op e = subst IsOfHomes (some-is (ops.Lock u m) op e) (lock-home u m)
-  settled-home home (Ask.Unlock u) op e = subst IsOfHomes (some-is (ops.Unlock u) op e) (unlock-home u)
-  settled-home home (Ask.Remove u) op e = subst IsOfHomes (some-is (ops.Delete u) op e) (delete-home u)
-  settled-home home (Ask.Make kind room) op e = subst IsOfHomes (some-is (ops.New home kind room) op e) (new-home home kind room)
-  settled-home home (Ask.ListLocks after) op e = subst IsOfHomes (some-is (ops.List home after) op e) (λ r. refl)
+  settled-home home (Ask.Lock u m) op e = subst IsOfHomes (same_Some (ops.Lock u m) op e) (lock-home u m)
+  settled-home home (Ask.Unlock u) op e = subst IsOfHomes (same_Some (ops.Unlock u) op e) (unlock-home u)
+  settled-home home (Ask.Remove u) op e = subst IsOfHomes (same_Some (ops.Delete u) op e) (delete-home u)
+  settled-home home (Ask.Make kind room) op e = subst IsOfHomes (same_Some (ops.New home kind room) op e) (new-home home kind room)
+  settled-home home (Ask.ListLocks after) op e = subst IsOfHomes (same_Some (ops.List home after) op e) (λ r. refl)
 
 -- homes decide on all that these items do
 abbrev AreOfHomes : List Item → Type 0
@@ -111,13 +111,9 @@ found-by : (Q : Told → Type 0) (p : ProcName) (number : ℕ) (so_far : List To
 found-by Q p number [] each t e = absurd (cc)
 found-by Q p number (u ∷ so_far) each t e = by_cases (same_proc u.proc p && (u.number == number)) ((t.proc ≡ p) × (t.number ≡ number) × Q t)
     (λ h.
-    let same : u ≡ t = some-is u t (sym (ap (λ b. if b then Some u else ended_by p number so_far) h) ∙ e) in
+    let same : u ≡ t = same_Some u t (sym (ap (λ b. if b then Some u else ended_by p number so_far) h) ∙ e) in
     subst (λ (x : Told). (x.proc ≡ p) × (x.number ≡ number) × Q x) same (same_proc_is u.proc p (left-true _ _ h), equal u.number number (right-true (same_proc u.proc p) _ h), each.0))
     (λ h. found-by Q p number so_far each.1 t (sym (ap (λ b. if b then Some u else ended_by p number so_far) h) ∙ e))
-
-each-both : {A : Type 0} (P Q R : A → Type 0) (xs : List A) → ((x : A) → P x → Q x → R x) → EachOf P xs → EachOf Q xs → EachOf R xs
-each-both P Q R [] so ps qs = tt
-each-both P Q R (x ∷ xs) so ps qs = (so x ps.0 qs.0, each-both P Q R xs so ps.1 qs.1)
 
 module _ (w : World) (so_far : List Told) (told : EachOf (IsTold w) so_far) where
   -- a decision on a call that settles an operation
@@ -176,6 +172,6 @@ effects-noted s setup cs w e timely newer older parts =
     let so_far = all_told w.trace in
     let told = (told-are s setup cs w e timely).told in
     let each : EachOf (IsNoted w so_far told) w.trace =
-    each-both (λ (j : Noted). IsDecided w j.place j.note) (λ (j : Noted). home_effects (item_effects (items_of w so_far j.place j.note)) ≡ noted_effect j.place.node j.note) (IsNoted w so_far told) w.trace
+    EachOf-both (λ (j : Noted). IsDecided w j.place j.note) (λ (j : Noted). home_effects (item_effects (items_of w so_far j.place j.note)) ≡ noted_effect j.place.node j.note) (IsNoted w so_far told) w.trace
     (λ j decided right. note-whole w so_far told j.place j.note decided right) (decisions-are s (setup-procs s setup) cs w e).each (notes-right s setup cs w e timely) in
-    all-noted w so_far told older (each-behind (IsNoted w so_far told) newer older (subst (EachOf (IsNoted w so_far told)) parts each))
+    all-noted w so_far told older (EachOf-behind (IsNoted w so_far told) newer older (subst (EachOf (IsNoted w so_far told)) parts each))

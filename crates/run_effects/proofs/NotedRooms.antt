@@ -10,6 +10,7 @@ use Rattle.uid_names.specs.Beginnings.{at_home, entry_directory}
 use Rattle.uid_names.specs.declared.opening.Object.{Object}
 use Rattle.uid_names.specs.declared.limits.TheConstants.{ENTRY_ROOM, VOLUME_ROOM}
 use Rattle.uid_names.specs.declared.mode.ObjKind.{ObjKind}
+use Rattle.uid_names.proofs.Passed.{left-true}
 use Rattle.dom_history.specs.declared.op.Op.{Op}
 use Rattle.dom_history.specs.declared.op.Op.TheVariants as ops
 use Rattle.dom_history.specs.declared.op.Reply.{Reply}
@@ -34,16 +35,16 @@ use Rattle.node_runs.specs.Runs.{World, Noted, Choice, world_after}
 use Rattle.node_runs.specs.RunHistories.{settled_op, change_reply}
 use Rattle.node_runs.specs.CallsKeep.{EachOf}
 use Rattle.node_runs.specs.Replays.{Held, held_by, after_note, after_if, first_held, IsAnswered, AreAnswered}
-use Rattle.node_runs.proofs.Bools.{left-true}
 use Rattle.node_runs.proofs.Replaying.{replays-are}
 use Rattle.node_runs.proofs.SettingUp.{setup-procs}
+use Rattle.node_runs.proofs.EachOf.{EachOf-behind}
 use Rattle.run_calls.proofs.HearingRuns.{every-kept-run}
-use Rattle.run_nodes.specs.ToldAnswers.{IsDeskReply, IsAtDesk}
-use Rattle.run_nodes.proofs.ToldAnswers.{told-are}
+use Rattle.run_desks.specs.ToldAnswers.{IsLocalReply, IsAtDesk}
+use Rattle.run_desks.proofs.ToldAnswers.{told-are}
 use Rattle.run_homes.specs.DecidedEffects.{effect_if}
 use Rattle.run_homes.specs.HistoryHomes.{held_then}
 use Rattle.run_homes.specs.ToldRooms.{IsRoomOf}
-use Rattle.run_homes.proofs.HistoryHomes.{each-behind, answered-behind, homes-always}
+use Rattle.run_homes.proofs.HistoryHomes.{answered-behind, homes-always}
 use Rattle.run_homes.proofs.ToldRooms.{room-decided}
 use Rattle.run_effects.specs.NotedEffects.{note_effects, noted_past}
 use Rattle.run_effects.specs.NotedRooms.{AreRoomsAlways}
@@ -89,7 +90,7 @@ module _ (opening : Start) (past : List StoreEffect) (p : ProcName) where
   unmap-quiet u r = refl
 
   -- what a desk answers
-  desk-quiet : (op : Op) (r : Reply) → IsDeskReply op r → made opening (store_effect p op r ++ past) ≡ made opening past
+  desk-quiet : (op : Op) (r : Reply) → IsLocalReply op r → made opening (store_effect p op r ++ past) ≡ made opening past
   desk-quiet (ops.New home kind room) r is = ap (λ x. made opening (store_effect p (ops.New home kind room) x ++ past)) is
   desk-quiet (ops.Lock u m) r is = lock-quiet u m r
   desk-quiet (ops.Unlock u) r is = unlock-quiet u r
@@ -347,7 +348,7 @@ module _ (s : Setup) (setup : IsSetup s) (cs : List Choice) (w : World) (e : wor
   room-then : (newer older : List Noted) → w.trace ≡ newer ++ older → is_some (attr_of (held_then s u.home older).home u) ≡ true → room_or_none (find (test u) (made s.opening (noted_past older))) ≡ room_of (attr_of (held_then s u.home older).home u)
   room-then newer older parts there =
       let answers = answered-behind s newer older (subst (AreAnswered s) parts (replays-are s cs w e).answers) in
-      let desks = each-behind (λ (j : Noted). IsAtDesk j.note) newer older (subst (EachOf (λ (j : Noted). IsAtDesk j.note)) parts (told-are s setup cs w e timely).desks) in
+      let desks = EachOf-behind (λ (j : Noted). IsAtDesk j.note) newer older (subst (EachOf (λ (j : Noted). IsAtDesk j.note)) parts (told-are s setup cs w e timely).desks) in
       let kept = kept-behind s newer older (subst (AreKeptThen s) parts (kept-then s setup cs w e timely)) in
       let made_so = left-true (is_some (find (test u) (made s.opening (noted_past older)))) (not (is_deleted u (noted_past older))) (was-made newer older parts ∙ there) in
       sym ((safe-then s u node first-safe older answers desks kept made_so).room there)

@@ -1,23 +1,32 @@
 //! Laws of effects and deeds. Each stands on a function without a body, so that the check proves it.
-ghost use Rattle.std.specs.Prelude.{◌≡◌, Some, List};
-ghost use Rattle.node_runs.specs.Setups.{Setup, IsSetup};
-ghost use Rattle.node_runs.specs.NodesKeep.{IsTimely};
-ghost use Rattle.node_runs.specs.Runs.{Choice, World, world_after};
+ghost use Rattle.node_runs.specs.NodesKeep.{InEveryRun};
 ghost use Rattle.run_effects.specs.NotedEffects.{AreEffectsNoted};
 ghost use Rattle.run_effects.specs.NotedDeeds.{AreDeedsTold};
 ghost use Rattle.run_effects.specs.NotedRooms.{AreRoomsAlways};
+ghost use Rattle.run_effects.specs.States.{AreStatesTold};
+ghost use Rattle.run_effects.specs.Targets.{AreTargetsTold};
 
 /// In every run in which no tick is above 2^40 the history does to the store, up to each place, what the notes up to there say.
 pub fn a_history_does_what_was_noted()
-    ensures { (s : Setup) → IsSetup s → (cs : List Choice) (w : World) → world_after s cs ≡ Some w → IsTimely w → AreEffectsNoted w }
+    ensures { InEveryRun (λ s w. AreEffectsNoted w) }
 {}
 
 /// And it tells each process what the notes do, in their order.
 pub fn a_history_tells_what_was_noted()
-    ensures { (s : Setup) → IsSetup s → (cs : List Choice) (w : World) → world_after s cs ≡ Some w → IsTimely w → AreDeedsTold s w }
+    ensures { InEveryRun AreDeedsTold }
 {}
 
 /// At each place an object that its home has has there the room that it was made with.
 pub fn rooms_are_those_of_the_homes()
-    ensures { (s : Setup) → IsSetup s → (cs : List Choice) (w : World) → world_after s cs ≡ Some w → IsTimely w → AreRoomsAlways s w }
+    ensures { InEveryRun AreRoomsAlways }
+{}
+
+/// In every run in which no tick is above 2^40 the lock states that a desk has of a process are those that the process was told.
+pub fn desks_have_the_locks_that_were_told()
+    ensures { InEveryRun AreStatesTold }
+{}
+
+/// And a spot of a process names the same place at its desk and in the store.
+pub fn desks_have_the_mappings_of_the_store()
+    ensures { InEveryRun AreTargetsTold }
 {}

@@ -1,4 +1,4 @@
-//! What a run did to the one store and told each process, read off its notes.
+//! Laws of what a run did and told: it is what the history says, and desks know of it.
 #![tactic(auto)]
 
 pub mod laws;

@@ -20,8 +20,8 @@ use Rattle.node_runs.proofs.Calls.{calls-are}
 use Rattle.node_runs.proofs.Running.{run-keeps}
 use Rattle.node_runs.proofs.SettingUp.{setup-procs}
 use Rattle.run_calls.specs.DecidedReplies.{proc_at}
-use Rattle.run_phases.specs.FittingAnswers.{AnswersThis, AnswersCall}
-use Rattle.run_phases.proofs.Fitting.{answers-fit}
+use Rattle.run_calls.specs.FittingAnswers.{AnswersThis, AnswersCall}
+use Rattle.run_calls.proofs.Fitting.{answers-fit}
 use Rattle.world_runs.proofs.Receiving.{numbered-within}
 
 abbrev IsUpTo : ℕ → Call Answer → Type 0

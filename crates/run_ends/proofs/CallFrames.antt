@@ -19,13 +19,13 @@ use Rattle.node_runs.proofs.Decisions.{decisions-are}
 use Rattle.node_runs.proofs.Receiving.{numbered-each}
 use Rattle.node_runs.proofs.SettingUp.{setup-procs}
 use Rattle.run_calls.specs.DecidedReplies.{proc_at, IsAnswerAt, WasAnswered, IsReplyOf}
-use Rattle.run_calls.proofs.Replies.{replies-are}
-use Rattle.run_phases.specs.FittingAnswers.{CanAnswer, IsFittingNote}
-use Rattle.run_phases.proofs.Fitting.{answers-fit}
-use Rattle.run_locks.specs.OpenDecisions.{IsRight, IsRightNote, IsOpenRight}
-use Rattle.run_locks.proofs.OpenDecisions.{right-are}
+use Rattle.run_calls.proofs.Replies.{replies-are, caller-at}
+use Rattle.run_calls.specs.FittingAnswers.{CanAnswer, IsFittingNote}
+use Rattle.run_calls.proofs.Fitting.{answers-fit}
+use Rattle.run_homes.specs.OpenDecisions.{IsRight, IsRightNote, IsOpenRight}
+use Rattle.run_homes.proofs.OpenDecisions.{right-are}
 use Rattle.run_ends.specs.FramesOfCalls.{IsOfCall}
-use Rattle.run_ends.proofs.Callers.{asker-is, answered-is}
+use Rattle.run_ends.proofs.Callers.{answered-is}
 use Rattle.run_ends.proofs.FirstWaiting.{if-some}
 
 -- a frame on this link, of a call of a process of this node
@@ -83,7 +83,7 @@ module _ (s : Setup) (setup : IsSetup s) (cs : List Choice) (w : World) (e : wor
 
     request-is : (ask : Ask) → ask_of m.body ≡ Some ask → IsFrameOf n c from to m
     request-is ask asks =
-        let caller = sym (asker-is m ask asks) ∙ call.0 in
+        let caller = sym (caller-at m ask asks) ∙ call.0 in
         let sender : from ≡ n = sym on-link.sender ∙ ap (λ (q : ProcName). q.node) caller in
         let made = on-link.call ask asks in
         let here = subst (λ i. IsCallAt (w.calls n i) m.number to ask) (ap (λ (q : ProcName). q.number) caller) (subst (λ a. IsCallAt (w.calls a m.proc) m.number to ask) sender made) in

@@ -2,7 +2,7 @@
 use Rattle.std.proofs.Common.{◌≡◌, ◌≢◌, ℕ, zero, suc, ◌+◌, ◌<◌, ◌≤◌, Bool, true, false, cond, List, [], ◌∷◌, map, Option, Some, None, inl, inr, refl, sym, ap, subst, ◌∙◌, arith}
 use Rattle.std.specs.Prelude.{◌==◌, ◌&&◌, ◌||◌, ◌^◌, nat_le, nat_lt, not, is_none, find}
 use Rattle.std.specs.List.{list_any, list_all}
-use Rattle.std.proofs.lemmas.Bool.{cases_eq, eq-eqb, ne_eqb}
+use Rattle.std.proofs.lemmas.Bool.{cases_eq, eq-eqb, ne_eqb, and_from}
 use Rattle.std.proofs.lemmas.Bool.Decides.{nat_tests}
 use Rattle.uid_names.proofs.ListLemmas.{by_cases}
 use Rattle.dom_history.specs.declared.event.What.{What}
@@ -19,8 +19,8 @@ use Rattle.node_runs.specs.Doings.{node_numbers, others_marked}
 use Rattle.node_runs.specs.NodesKeep.{IsTimely}
 use Rattle.node_runs.specs.Runs.{World, SentMark, HasEnded, choice_of, incoming_of, mark_of}
 use Rattle.node_runs.proofs.SettingUp.{setup-procs}
-use Rattle.run_phases.specs.Phases.{IsMarkBelow, IsNodeInPhase, AreInPhase}
-use Rattle.run_phases.proofs.InPhases.{in_phases-are}
+use Rattle.run_calls.specs.Phases.{IsMarkBelow, IsNodeInPhase, AreInPhase}
+use Rattle.run_calls.proofs.InPhases.{in_phases-are}
 use Rattle.world_runs.specs.ByPlace.{by_place}
 use Rattle.world_runs.specs.Turns.{coming_to, enabled_events, after_turns}
 use Rattle.world_runs.proofs.Among.{Among}
@@ -29,7 +29,7 @@ use Rattle.world_runs.proofs.Merging.{Merged, turns-merge}
 use Rattle.run_ends.specs.OpenAsks.{IsAnswerAwaited, HasCall, HasNoCall}
 use Rattle.run_ends.proofs.MarkCounts.{marks_of}
 use Rattle.run_ends.proofs.LinkMarks.{was_sent, AreLinkMarks, turns-link-marks}
-use Rattle.run_ends.proofs.FirstWaiting.{both-true, marks-parts, enable}
+use Rattle.run_ends.proofs.FirstWaiting.{marks-parts, enable}
 use Rattle.run_ends.proofs.Stuck.{true-false, never, start-comes, ready-comes, nothing-waits}
 use Rattle.run_ends.proofs.Waits.{idle-without, none-in-transit}
 
@@ -50,7 +50,7 @@ number-low (suc a) is = omega arith
 
 all-among : (test : ℕ → Bool) (ps : List ℕ) → ((p : ℕ) → Among p ps → test p ≡ true) → list_all test ps ≡ true
 all-among test [] each = refl
-all-among test (p ∷ ps) each = both-true (test p) (list_all test ps) (each p (inl refl)) (all-among test ps (λ q is. each q (inr is)))
+all-among test (p ∷ ps) each = and_from (test p) (list_all test ps) (each p (inl refl)) (all-among test ps (λ q is. each q (inr is)))
 
 among-any : (ps : List ℕ) (p : ℕ) → Among p ps → list_any (λ q. q == p) ps ≡ true
 among-any [] p is = absurd is
@@ -67,7 +67,7 @@ found-some tick from k (m ∷ older) some =
     by_cases ((m.node == from) && (m.phase == k)) ((x : SentMark) × (find (λ m. (m.node == from) && (m.phase == k)) (m ∷ older) ≡ Some x))
     (λ h. (m, ap (λ b. cond b (Some m) (find (λ m. (m.node == from) && (m.phase == k)) older)) h))
     (λ h. elim some [
-      | inl is ↦ absurd (true-false ((m.node == from) && (m.phase == k)) (both-true (m.node == from) (m.phase == k) (eq-eqb m.node from is.0) (eq-eqb m.phase k is.1)) h)
+      | inl is ↦ absurd (true-false ((m.node == from) && (m.phase == k)) (and_from (m.node == from) (m.phase == k) (eq-eqb m.node from is.0) (eq-eqb m.phase k is.1)) h)
       | inr more ↦ (let found = found-some tick from k older more in (found.0, ap (λ b. cond b (Some m) (find (λ m. (m.node == from) && (m.phase == k)) older)) h ∙ found.1))
     ])
 
@@ -113,15 +113,15 @@ module _ (s : Setup) (setup : IsSetup s) (plan : List FateRow) (cs : List ℕ) (
         of_await o is (Await.Answer c) awaits = absurd (no_call n node p proc (subst HasCall (sym is) (subst IsAnswerAwaited (sym awaits) tt)))
         of_await o is (Await.Page u k) awaits =
             absurd (enables (Go p) Incoming.Nothing (start-comes s setup plan w none n node alive p proc (Go p) (inr (inl refl))) refl
-            (both-true (has_program (given s n) p) (may_go x.desk (proc_of x p).doing) has
+            (and_from (has_program (given s n) p) (may_go x.desk (proc_of x p).doing) has
             (ap (may_go x.desk) is ∙ ap (has_come x.desk) awaits ∙ ap (λ b. not b) (none-in-transit x.desk idle u k))))
 
         by : (o : Option OpenOp) → (proc_of x p).doing ≡ o → is_at_end x p ≡ true
         by None is =
             by_cases (is_at_end x p) (is_at_end x p ≡ true) (λ h. h)
             (λ h. absurd (enables (Begin p) Incoming.Nothing (start-comes s setup plan w none n node alive p proc (Begin p) (inl refl)) refl
-            (both-true (has_program (given s n) p) (is_none (proc_of x p).doing && not (is_at_end x p)) has
-            (both-true (is_none (proc_of x p).doing) (not (is_at_end x p)) (ap (λ (o : Option OpenOp). is_none o) is) (ap (λ b. not b) h)))))
+            (and_from (has_program (given s n) p) (is_none (proc_of x p).doing && not (is_at_end x p)) has
+            (and_from (is_none (proc_of x p).doing) (not (is_at_end x p)) (ap (λ (o : Option OpenOp). is_none o) is) (ap (λ b. not b) h)))))
         by (Some o) is = of_await o is o.awaits refl
 
     -- and its mark was sent
@@ -129,8 +129,8 @@ module _ (s : Setup) (setup : IsSetup s) (plan : List FateRow) (cs : List ℕ) (
     is-ready =
         by_cases x.ready (x.ready ≡ true) (λ h. h)
         (λ h. absurd (enables (Ready x.phase) Incoming.Nothing (ready-comes s setup plan w none n node alive) refl
-        (both-true (x.phase == x.phase) (not x.ready && list_all (is_at_end x) (given s n).programs) (eq-eqb x.phase x.phase refl)
-        (both-true (not x.ready) (list_all (is_at_end x) (given s n).programs) (ap (λ b. not b) h)
+        (and_from (x.phase == x.phase) (not x.ready && list_all (is_at_end x) (given s n).programs) (eq-eqb x.phase x.phase refl)
+        (and_from (not x.ready) (list_all (is_at_end x) (given s n).programs) (ap (λ b. not b) h)
         (all-among (is_at_end x) (given s n).programs (λ p is. program-ends p (among-any (given s n).programs p is)))))))
 
     -- each mark that another sent was taken
@@ -165,7 +165,7 @@ module _ (s : Setup) (setup : IsSetup s) (plan : List FateRow) (cs : List ℕ) (
       other-taken a number within other =
           let low = number-low a number in
           let first : nat_le 1 a ≡ true = grind (arith, nat_tests, low) in
-          let node_a = both-true (nat_le 1 a) (nat_le a s.opening.nodes) first within in
+          let node_a = and_from (nat_le 1 a) (nat_le a s.opening.nodes) first within in
           let found = sent-by-now (suc k) (omega arith) high a node_a (past a node_a) in
           subst (λ i. is_marked y a i ≡ true) (sym now) (mark-taken n node still a (suc k) number other found.0 found.1)
 
@@ -182,7 +182,7 @@ module _ (s : Setup) (setup : IsSetup s) (plan : List FateRow) (cs : List ℕ) (
       all-taken = all-among (λ a. not (nat_le a s.opening.nodes) || ((a == n) || is_marked y a y.phase)) node_numbers one-taken
 
       not-now : ⊥
-      not-now = true-false (y.ready && others_marked (given s n) y) (both-true y.ready (others_marked (given s n) y) (is-ready n node still) all-taken) (marks.under_way n).1
+      not-now = true-false (y.ready && others_marked (given s n) y) (and_from y.ready (others_marked (given s n) y) (is-ready n node still) all-taken) (marks.under_way n).1
 
     next-past : suc k < y.phase
     next-past = elim (cases_eq y.phase (suc k)) [

@@ -1,7 +1,7 @@
 -- What waits first on a link is enabled.
 use Rattle.std.proofs.Common.{◌≡◌, ℕ, zero, suc, ◌+◌, ◌≤◌, Bool, true, false, cond, List, [], ◌∷◌, ◌++◌, map, length, Option, Some, None, IfSome, refl, sym, ap, subst, ◌∙◌, arith}
 use Rattle.std.specs.Prelude.{◌==◌, ◌&&◌, not, is_none, flat_map}
-use Rattle.std.proofs.lemmas.Bool.{eq-eqb}
+use Rattle.std.proofs.lemmas.Bool.{eq-eqb, and_from}
 use Rattle.std.proofs.lemmas.Bool.Decides.{nat_tests}
 use Rattle.uid_names.proofs.ListLemmas.{by_cases}
 use Rattle.dom_history.specs.declared.event.What.{What}
@@ -22,6 +22,7 @@ use Rattle.node_runs.specs.CallsKeep.{IsOnLink, EachOf}
 use Rattle.node_runs.proofs.Calls.{calls-are}
 use Rattle.node_runs.proofs.Receiving.{EachOf-more, numbered-each}
 use Rattle.node_runs.proofs.SettingUp.{setup-procs}
+use Rattle.node_runs.proofs.EachOf.{EachOf-behind}
 use Rattle.run_calls.proofs.Following.{EachOf-append}
 use Rattle.world_runs.specs.ByPlace.{by_place}
 use Rattle.world_runs.specs.Sendings.{Sending, sendings, frames_in, frames_on}
@@ -71,12 +72,8 @@ copies-sent fate (Sending.Frame ∷ older) =
     EachOf-append (IsCopyOf (n + 1)) (entries fate older) (map Entry.Copy (due fate n))
     (EachOf-more (IsCopyOf n) (IsCopyOf (n + 1)) (entries fate older) (more-sent n) (copies-sent fate older))
     (each-copy (n + 1) (due fate n)
-    (EachOf-append (IsOfSent (n + 1)) (in_place (n + 1) (fate (n + 1))) (copies fate (n + 1) n) (place-copies (n + 1) (n + 1) (omega arith, omega arith) (fate (n + 1))) (falling-copies (n + 1) fate (n + 1) n (omega arith))))
+    (EachOf-append (IsOfSent (n + 1)) (in_place (n + 1) (fate (n + 1))) (copies fate (n + 1) (n + 1)) (place-copies (n + 1) (n + 1) (omega arith, omega arith) (fate (n + 1))) (falling-copies (n + 1) fate (n + 1) (n + 1) (omega arith))))
 copies-sent fate (Sending.Mark phase ∷ older) = EachOf-append (IsCopyOf (frames_in older)) (entries fate older) (Entry.Mark phase ∷ []) (copies-sent fate older) (tt, tt)
-
-each-right : {A : Type 0} (P : A → Type 0) (xs ys : List A) → EachOf P (xs ++ ys) → EachOf P ys
-each-right P [] ys each = each
-each-right P (x ∷ xs) ys each = each-right P xs ys each.1
 
 each-flat : {A B : Type 0} (P : B → Type 0) (f : A → List B) (xs : List A) → ((x : A) → EachOf P (f x)) → EachOf P (flat_map f xs)
 each-flat P f [] each = tt
@@ -93,9 +90,6 @@ numbered-there {A} k (x ∷ older) low high =
 
 pub if-some : {A : Type 0} (P : A → Type 0) (o : Option A) (x : A) → IfSome o P → o ≡ Some x → P x
 if-some P o x is e = let h : IfSome (Some x) P = subst (λ a. IfSome a P) e is in h
-
-pub both-true : (a b : Bool) → a ≡ true → b ≡ true → (a && b) ≡ true
-both-true a b e f = ap (λ c. c && b) e ∙ f
 
 -- a mark that waits was sent by another, and not taken
 waits-still : (self : Bool) (o : Option SentMark) (was : Bool) (more : ℕ) → cond self 0 (cond (is_none o) 0 1) ≡ cond was 1 0 + suc more → (not self ≡ true) × (not was ≡ true) × (m : SentMark) × (o ≡ Some m)
@@ -143,7 +137,7 @@ module _ (s : Setup) (setup : IsSetup s) (plan : List FateRow) (cs : List ℕ) (
         let found = numbered-there index (w.frames from n) is.0 (omega (arith, long, high)) in
         let on = on-link from n index found.0 found.1 in
         enable (Take from index) (Incoming.Frame found.0) (ap taken found.1)
-        (both-true (found.0.from == from) (found.0.to == n) (eq-eqb found.0.from from on.0) (eq-eqb found.0.to n on.1))
+        (and_from (found.0.from == from) (found.0.to == n) (eq-eqb found.0.from from on.0) (eq-eqb found.0.to n on.1))
 
     mark-enabled : (from k : ℕ) (rest : List Entry) → waiting plan from n w.done ≡ Entry.Mark k ∷ rest → is_enabled s w n (Mark from k) ≡ true
     mark-enabled from k rest first =
@@ -152,14 +146,14 @@ module _ (s : Setup) (setup : IsSetup s) (plan : List FateRow) (cs : List ℕ) (
         let here = ap (marks_of k) first in
         let is = waits-still (from == n) (mark_of w from k) (is_marked (w.nodes n) from k) (marks_of k rest) (omega (arith, own, parts, here)) in
         enable (Mark from k) (Incoming.Mark is.2.tick) (ap marked is.3)
-        (both-true (not (from == n)) (not (is_marked (w.nodes n) from k)) is.0 is.1)
+        (and_from (not (from == n)) (not (is_marked (w.nodes n) from k)) is.0 is.1)
 
     pub first-enabled : (from : ℕ) (ws : List Entry) → waiting plan from n w.done ≡ ws → EachOf (λ (what : What). is_enabled s w n what ≡ true) (oldest from ws)
     first-enabled from [] is = tt
     first-enabled from (Entry.Copy index ∷ more) is =
         let each = copies-sent (fate_of plan from n) (sendings from n w.done) in
         let all = subst (EachOf (IsCopyOf (frames_on from n w.done))) (delivered.order from n).parts each in
-        let waits = subst (EachOf (IsCopyOf (frames_on from n w.done))) is (each-right (IsCopyOf (frames_on from n w.done)) (entries_taken from n w.done) (waiting plan from n w.done) all) in
+        let waits = subst (EachOf (IsCopyOf (frames_on from n w.done))) is (EachOf-behind (IsCopyOf (frames_on from n w.done)) (entries_taken from n w.done) (waiting plan from n w.done) all) in
         (copy-enabled from index waits.0, tt)
     first-enabled from (Entry.Mark k ∷ more) is = (mark-enabled from k more is, tt)
 

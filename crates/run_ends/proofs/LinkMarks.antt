@@ -2,6 +2,7 @@
 use Rattle.std.proofs.Common.{◌≡◌, ℕ, ◌+◌, Bool, true, false, cond, List, ◌∷◌, map, Option, Some, None, inl, inr, refl, sym, ap, subst, ◌∙◌, arith}
 use Rattle.std.specs.Prelude.{◌==◌, ◌&&◌, ◌||◌, not, is_none}
 use Rattle.std.proofs.lemmas.Bool.{cases_eq, eq-eqb, ne_eqb}
+use Rattle.uid_names.proofs.Passed.{right-true, equal}
 use Rattle.dom_history.specs.declared.event.What.{What}
 use Rattle.dom_history.specs.declared.event.What.TheVariants.{Begin, Go, Take, Notice, Ready, Mark}
 use Rattle.dom_history.specs.declared.plan.FateRow.{FateRow}
@@ -13,7 +14,6 @@ use Rattle.node_runs.specs.Doings.{ticked}
 use Rattle.node_runs.specs.Dones.{Did}
 use Rattle.node_runs.specs.NodesKeep.{IsTimely}
 use Rattle.node_runs.specs.Runs.{World, SentMark, choice_of, first_world, mark_of}
-use Rattle.node_runs.proofs.Bools.{right-true, equal}
 use Rattle.node_runs.proofs.Calls.{put-same, put-other}
 use Rattle.node_runs.proofs.Doing.{step_of-did}
 use Rattle.world_runs.specs.Sendings.{mark_to, sent_by, sendings}

@@ -1,6 +1,8 @@
 -- What each event does to the marks that its node took, and that no node has taken all marks of a phase and stays in it.
 use Rattle.std.proofs.Common.{◌≡◌, ℕ, ◌≤◌, Bool, true, false, ◌∷◌, refl, sym, subst, arith}
 use Rattle.std.specs.Prelude.{◌==◌, ◌&&◌, not}
+use Rattle.std.proofs.lemmas.Bool.{not-true}
+use Rattle.uid_names.proofs.Passed.{right-true}
 use Rattle.dom_history.specs.declared.event.What.{What}
 use Rattle.dom_history.specs.declared.event.What.TheVariants.{Mark}
 use Rattle.fault_handler.specs.Outcomes.{Turn, Moved}
@@ -10,8 +12,7 @@ use Rattle.node_runs.specs.Incomings.{Incoming, may_happen}
 use Rattle.node_runs.specs.Outcomes.{Stepped, Stage, moved}
 use Rattle.node_runs.specs.Doings.{begun_at, stage_of, in_next_phase, others_marked, after_marks}
 use Rattle.node_runs.specs.Dones.{Did, paused, finished, began, resumed, served, passed_over, heard, ignored, resent, gave_up, got_ready, marked}
-use Rattle.node_runs.proofs.Bools.{right-true, not-true}
-use Rattle.run_phases.proofs.PhaseSteps.{NodePhase, same, readied, took, did-node}
+use Rattle.run_calls.proofs.PhaseSteps.{NodePhase, same, readied, took, did-node}
 
 -- the event takes the mark, which was not taken before, or none
 abbrev pub MarksNow : NodeState → What → NodeState → Type 0

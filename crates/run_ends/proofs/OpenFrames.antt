@@ -2,8 +2,10 @@
 use Rattle.std.proofs.Common.{◌≡◌, ℕ, Bool, true, false, List, [], ◌∷◌, map, Option, Some, None, inl, inr, refl, sym, ap, subst, ◌∙◌}
 use Rattle.std.specs.Prelude.{◌^◌, ◌≤◌, is_some}
 use Rattle.std.proofs.lemmas.Bool.{cases_eq}
+use Rattle.std.proofs.lemmas.Option.{same_Some}
 use Rattle.uid_names.specs.Names.{ProcName, same_proc}
 use Rattle.uid_names.proofs.Orders.{same_proc_is}
+use Rattle.uid_names.proofs.Somes.{bind-some}
 use Rattle.dom_history.specs.declared.event.What.{What}
 use Rattle.dom_history.specs.declared.event.What.TheVariants.{Take, Notice}
 use Rattle.dom_history.specs.declared.plan.FateRow.{FateRow}
@@ -28,10 +30,9 @@ use Rattle.node_runs.proofs.Calls.{put-same, put-other}
 use Rattle.node_runs.proofs.CallSteps.{IsUnasking, IsFrameProc, did-calls}
 use Rattle.node_runs.proofs.Doing.{step_of-did}
 use Rattle.node_runs.proofs.SettingUp.{setup-procs}
-use Rattle.node_runs.proofs.Somes.{some-is, bind-some}
 use Rattle.run_calls.specs.DecidedReplies.{proc_at}
-use Rattle.run_phases.specs.FittingAnswers.{CanAnswer}
-use Rattle.run_locks.specs.OpenDecisions.{IsRight}
+use Rattle.run_calls.specs.FittingAnswers.{CanAnswer}
+use Rattle.run_homes.specs.OpenDecisions.{IsRight}
 use Rattle.world_runs.specs.ByPlace.{by_place}
 use Rattle.world_runs.specs.Gone.{FrameName}
 use Rattle.world_runs.specs.Turns.{turn, after_turns}
@@ -110,7 +111,7 @@ module _ (s : Setup) (setup : IsSetup s) (plan : List FateRow) where
     module _ (doing : (proc_of (old.nodes n) p).doing ≡ asking o c) (f : FrameName) (m : Message) (found : numbered f.2 (old.frames f.0 f.1) ≡ Some m) (call : IsOfCall (proc_at n p) c.waiting.number (Some m)) where
       module _ (is : what ≡ Take f.0 f.2) (there : k ≡ f.1) where
         comes : incoming ≡ Incoming.Frame m
-        comes = sym (some-is (Incoming.Frame m) incoming
+        comes = sym (same_Some (Incoming.Frame m) incoming
             (sym (ap (incoming_of old k) is ∙ ap (λ j. taken (numbered f.2 (old.frames f.0 j))) there ∙ ap taken found) ∙ turn.is.receives))
 
         -- its request is answered
@@ -201,7 +202,7 @@ module _ (s : Setup) (setup : IsSetup s) (plan : List FateRow) where
   first-frames n p node proc o c is = absurd (subst IsUnasking is (by_proc (λ r. IsUnasking (proc_of (first_node (given s n)) r).doing) tt tt tt tt p proc))
 
   pub frames-are : (cs : List ℕ) (w : World) → after_turns s plan cs ≡ Some w → IsTimely w → HaveFrames s plan w
-  frames-are [] w e timely = subst (HaveFrames s plan) (some-is (first_world s) w e) first-frames
+  frames-are [] w e timely = subst (HaveFrames s plan) (same_Some (first_world s) w e) first-frames
   frames-are (c ∷ cs) w e timely =
       let found = bind-some (after_turns s plan cs) (λ (v : World). turn s plan v c) w e in
       let is = turn-is s plan found.0 c w found.2 in

@@ -2,6 +2,8 @@
 use Rattle.std.proofs.Common.{◌≡◌, ℕ, true, List, length, Option, Some, None, inl, inr, refl, sym, ap, subst, ◌∙◌}
 use Rattle.std.specs.Prelude.{◌⊎◌, is_some}
 use Rattle.std.proofs.lemmas.Bool.{cases_eq, eq-eqb}
+use Rattle.std.proofs.lemmas.Option.{same_Some}
+use Rattle.world_runs.proofs.Faults.{call-same}
 use Rattle.uid_names.specs.Names.{ObjectName}
 use Rattle.dom_history.specs.declared.event.What.{What}
 use Rattle.dom_history.specs.declared.event.What.TheVariants.{Take, Notice}
@@ -20,7 +22,6 @@ use Rattle.node_runs.specs.Outcomes.{Stepped, Stage, request, next_call, turned}
 use Rattle.node_runs.specs.Doings.{Doing, noticed_call, stage_of, hears_said, hears_if, hears, takes, ticked}
 use Rattle.node_runs.specs.Dones.{Did, asking, paused, finished, began, resumed, served, passed_over, heard, ignored, resent, gave_up, got_ready, marked}
 use Rattle.node_runs.specs.Steps.{step_of}
-use Rattle.node_runs.proofs.Somes.{some-is}
 use Rattle.node_runs.proofs.Stepping.{Leaves, step_of-is}
 use Rattle.node_runs.proofs.CallSteps.{IsUnasking, CallStep, silent, asked, again}
 use Rattle.run_calls.specs.DecidedReplies.{proc_at}
@@ -39,10 +40,6 @@ abbrev open_call : Option OpenOp → Option Asked
 open_call None = None
 open_call (Some o) = awaited_call o.awaits
 
--- an operation awaits one call
-pub same-call : (o q : BegunOp) (c d : Asked) → asking o c ≡ asking q d → c ≡ d
-same-call o q c d e = some-is c d (ap open_call e)
-
 unasked : (o : BegunOp) (c : Asked) (x : Option OpenOp) → IsUnasking x → x ≡ asking o c → ⊥
 unasked o c x is e = subst IsUnasking e is
 
@@ -58,7 +55,7 @@ module _ (g : Given) (n : NodeState) (four : length n.procs ≡ 4) where
     turned-sends (Turn.Ends reply) = unasking (Turn.Ends reply) None (ap (λ (q : ProcState). q.doing) (at-put_same n.procs p _ first_proc four proc)) tt
     turned-sends (Turn.Asks home ask) = λ q c now.
         subst (λ (x : Asked). IsOfCall (proc_at g.number p) x.waiting.number (Some (request g (record n { desk = d }) p (next_call (proc_of n p) home ask))))
-        (same-call o q (next_call (proc_of n p) home ask) c (sym (asks-now home ask) ∙ now))
+        (call-same o q (next_call (proc_of n p) home ask) c (sym (asks-now home ask) ∙ now))
         (request-caller g (record n { desk = d }) p (next_call (proc_of n p) home ask), refl)
     turned-sends (Turn.Waits u k) = unasking (Turn.Waits u k) (Some (record { began = o; awaits = Await.Page u k })) (ap (λ (q : ProcState). q.doing) (at-put_same n.procs p _ first_proc four proc)) tt
 
@@ -69,7 +66,7 @@ module _ (g : Given) (n : NodeState) (four : length n.procs ≡ 4) where
 
   resent-sends : (p : ℕ) (o : BegunOp) (c : Asked) (s : Stepped) → (proc_of s.node p).doing ≡ asking o (noticed_call c) → s.frame ≡ Some (request g n p (noticed_call c)) → SendsOpen g p s
   resent-sends p o c s now frame q d then =
-      subst (λ (x : Asked). IsOfCall (proc_at g.number p) x.waiting.number s.frame) (same-call o q (noticed_call c) d (sym now ∙ then))
+      subst (λ (x : Asked). IsOfCall (proc_at g.number p) x.waiting.number s.frame) (call-same o q (noticed_call c) d (sym now ∙ then))
       (subst (IsOfCall (proc_at g.number p) c.waiting.number) (sym frame) (request-caller g n p (noticed_call c), refl))
 
   pub did-tells : (what : What) (incoming : Incoming) (s : Stepped) → Did g n what incoming s → TellsOf what s
@@ -106,7 +103,7 @@ module _ (g : Given) (n : NodeState) (four : length n.procs ≡ 4) where
   did-answers what incoming s (served from index m ask answer sender receiver asks is) = λ other also some. (reply-caller m n.tick ask answer asks, refl)
   did-answers what incoming s (passed_over from index m ask sender receiver asks is) = λ other also some.
       absurd (no-answer (serve_of n.side (caller_of m) m.number ask).answer is
-      (subst (λ (a : Ask). is_some (serve_of n.side (caller_of m) m.number a).answer ≡ true) (some-is other ask (sym also ∙ asks)) some))
+      (subst (λ (a : Ask). is_some (serve_of n.side (caller_of m) m.number a).answer ≡ true) (same_Some other ask (sym also ∙ asks)) some))
   did-answers what incoming s (heard from index m o c said to sender receiver asks is same fits may) = λ other also some. absurd (both-ways (ask_of m.body) other asks also)
   did-answers what incoming s (ignored from index m sender receiver asks) = λ other also some. absurd (both-ways (ask_of m.body) other asks also)
   did-answers what incoming s (resent p from to index number tick o c has is same answer) = tt
@@ -122,7 +119,7 @@ module _ (g : Given) (n : NodeState) (four : length n.procs ≡ 4) where
     | inr free ↦ absurd (unasked o c (proc_of s.node p).doing free now)
   ]
   sent-or-same s (asked q o2 d other next call frame last then rest fours) p proc o c now = elim (cases_eq p q) [
-    | inl same ↦ inl (subst (λ (x : Asked). IsOfCall (proc_at g.number p) x.waiting.number s.frame) (same-call o2 o d c (sym then ∙ subst (λ i. (proc_of s.node i).doing ≡ asking o c) same now))
+    | inl same ↦ inl (subst (λ (x : Asked). IsOfCall (proc_at g.number p) x.waiting.number s.frame) (call-same o2 o d c (sym then ∙ subst (λ i. (proc_of s.node i).doing ≡ asking o c) same now))
         (subst (IsOfCall (proc_at g.number p) d.waiting.number) (sym frame) (subst (λ i. caller_of (request g n q d) ≡ proc_at g.number i) (sym same) (request-caller g n q d), refl)))
     | inr differs ↦ inr (ap (λ (x : ProcState). x.doing) (sym (rest p proc differs)) ∙ now)
   ]
@@ -140,7 +137,7 @@ module _ (g : Given) (n : NodeState) (four : length n.procs ≡ 4) (from index :
       let x = ticked n (Incoming.Frame m) in
       let is = step_of-is g n (Take from index) (Incoming.Frame m) dropped s steps in
       let event : is.event ≡ Doing.Moves m.proc o (stage_of m.number said) (answered n.desk m.proc said) =
-      sym (some-is (takes x m (ask_of m.body)) is.event is.comes) ∙ ap (takes x m) asks ∙ ap (hears x m) doing
+      sym (same_Some (takes x m (ask_of m.body)) is.event is.comes) ∙ ap (takes x m) asks ∙ ap (hears x m) doing
       ∙ ap (λ b. hears_if b x m o) (eq-eqb m.number c.waiting.number number) ∙ ap (hears_said x m o) fits in
       let left : Leaves g x (Doing.Moves m.proc o (stage_of m.number said) (answered n.desk m.proc said)) s = subst (λ (e : Doing). Leaves g x e s) event is.leaves in
       subst (SendsOpen g m.proc) (sym left.2) (turned-sends g x four m.proc proc o (stage_of m.number said) left.0.desk left.0.turn)

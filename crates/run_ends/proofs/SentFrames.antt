@@ -1,5 +1,5 @@
 -- The frame that an event sends is on its way then.
-use Rattle.std.proofs.Common.{◌≡◌, ℕ, ◌+◌, ◌≤◌, Bool, true, false, cond, List, [], ◌∷◌, ◌++◌, length, Option, Some, None, inl, inr, refl, sym, ap, subst, ◌∙◌, arith}
+use Rattle.std.proofs.Common.{◌≡◌, ℕ, ◌+◌, ◌≤◌, true, false, cond, List, [], ◌∷◌, ◌++◌, length, Option, Some, None, inl, inr, refl, sym, ap, subst, ◌∙◌}
 use Rattle.std.specs.Prelude.{◌==◌, ◌||◌, ◌⊎◌}
 use Rattle.std.specs.List.{list_any, AllByRecursion}
 use Rattle.std.proofs.lemmas.Bool.{eq-eqb}
@@ -23,24 +23,14 @@ use Rattle.world_runs.proofs.Alike.{added, frames-added}
 use Rattle.world_runs.proofs.Among.{Among, among-right}
 use Rattle.world_runs.proofs.Coming.{IsDue, coming-due}
 use Rattle.world_runs.proofs.Inserting.{event_at}
-use Rattle.world_runs.proofs.Noticing.{IsWithin, gone-within}
+use Rattle.world_runs.proofs.Noticing.{IsWithin, gone-within, not-among}
 use Rattle.world_runs.proofs.Planning.{AreDelivered}
 use Rattle.world_runs.proofs.Sent.{IsSent, step-sent}
 use Rattle.world_runs.proofs.Taking.{TakesOldest, due-takes-oldest}
-use Rattle.world_runs.proofs.Telling.{frame-is}
 use Rattle.world_runs.proofs.TimelyTurns.{IsTimelyTurn}
 use Rattle.run_ends.specs.FramesOfCalls.{IsOfCall}
 use Rattle.run_ends.specs.OpenFrames.{IsWaiting, IsUntold, HasFrame}
 use Rattle.run_ends.proofs.WaitingNext.{behind, among-some, waits-next, sent-behind}
-
--- nobody was told of the frame that is sent next
-apart : (es : List Happening) (f h : FrameName) (b : Bool) → IsWithin es h → f.2 ≡ frames_on f.0 f.1 es + 1 → same_frame f h ≡ b → b ≡ false
-apart es f h true within next is = absurd (let low : f.2 ≤ frames_on f.0 f.1 es = subst (IsWithin es) (sym (frame-is f h is)) within in omega (arith, low, next))
-apart es f h false within next is = refl
-
-untold : (es : List Happening) (f : FrameName) (hs : List FrameName) → AllByRecursion (IsWithin es) hs → f.2 ≡ frames_on f.0 f.1 es + 1 → list_any (same_frame f) hs ≡ false
-untold es f [] all next = refl
-untold es f (h ∷ hs) all next = ap (λ b. b || list_any (same_frame f) hs) (apart es f h (same_frame f h) all.0 next refl) ∙ untold es f hs all.1 next
 
 due-within : (plan : List FateRow) (w : World) (k : ℕ) (what : What) → IsDue plan w k what → AllByRecursion (IsWithin w.done) (noticed_by what)
 due-within plan w k (Begin p) due = tt
@@ -107,8 +97,8 @@ module _ (s : Setup) (plan : List FateRow) (old new : World) (turn : IsTimelyTur
                 (among-right f (gone_in plan old.done) (gone_by plan n turn.is.step.effects.sent old.done)
                 (subst (λ (o : Option Sent). Among f (gone_by plan n o old.done)) (sym sent) (subst (λ b. Among f (frame_if b f)) (sym is) (inl refl)))),
             list_any-append (same_frame f) (noticed_by what) (noticed_in old.done)
-                ∙ ap (λ b. b || list_any (same_frame f) (noticed_in old.done)) (untold old.done f (noticed_by what) (due-within plan old n what (coming-due plan old n what turn.is.comes)) refl)
-                ∙ untold old.done f (noticed_in old.done) within refl,
+                ∙ ap (λ b. b || list_any (same_frame f) (noticed_in old.done)) (not-among old.done f (noticed_by what) (due-within plan old n what (coming-due plan old n what turn.is.comes)) refl)
+                ∙ not-among old.done f (noticed_in old.done) within refl,
           )
 
       way : IsWaiting plan new f ⊎ IsUntold plan new f

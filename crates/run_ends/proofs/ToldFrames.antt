@@ -1,9 +1,10 @@
 -- Where no event is enabled, each frame of an open call that was lost or is late was told.
 use Rattle.std.proofs.Common.{◌≡◌, ℕ, true, false, List, [], ◌∷◌, Option, Some, None, inl, inr, refl, sym, ap, subst, ◌∙◌}
 use Rattle.std.specs.Prelude.{◌==◌, not, filter}
-use Rattle.std.proofs.lemmas.Bool.{eq-eqb}
+use Rattle.std.proofs.lemmas.Bool.{eq-eqb, and_from}
 use Rattle.uid_names.proofs.ListLemmas.{by_cases}
 use Rattle.uid_names.specs.Names.{ProcName, same_proc}
+use Rattle.uid_names.proofs.Orders.{same_proc-itself}
 use Rattle.dom_history.specs.declared.event.What.TheVariants.{Notice}
 use Rattle.dom_history.specs.declared.plan.FateRow.{FateRow}
 use Rattle.dom_history.specs.Objects.{is_node}
@@ -16,13 +17,12 @@ use Rattle.node_runs.specs.NodesKeep.{IsTimely}
 use Rattle.node_runs.specs.Runs.{World, numbered, told_if, told_of}
 use Rattle.node_runs.specs.CallsKeep.{EachOf}
 use Rattle.run_calls.specs.DecidedReplies.{proc_at}
-use Rattle.run_calls.proofs.Slots.{same_proc-refl}
 use Rattle.world_runs.specs.Gone.{FrameName, was_told, notice_if, notice_of, gone_in}
 use Rattle.world_runs.specs.Turns.{enabled_events, after_turns}
 use Rattle.world_runs.proofs.Among.{Among}
 use Rattle.run_ends.specs.FramesOfCalls.{IsOfCall}
 use Rattle.run_ends.proofs.NotEnabled.{filter-among, flat-among}
-use Rattle.run_ends.proofs.FirstWaiting.{both-true, enable}
+use Rattle.run_ends.proofs.FirstWaiting.{enable}
 use Rattle.run_ends.proofs.NothingComing.{all-alive, driven}
 use Rattle.run_ends.proofs.Stuck.{never, notice-comes}
 
@@ -50,11 +50,11 @@ all-told s plan setup cs w e timely n p node proc o open_op c awaits none = each
         let among = flat-among (λ (g : FrameName). notice_of n g (numbered g.2 (w.frames g.0 g.1))) f what (filter (λ (g : FrameName). not (was_told w.done g)) (gone_in plan w.done))
         (filter-among (λ (g : FrameName). not (was_told w.done g)) f (gone_in plan w.done) (ap (λ b. not b) untold) gone) (subst (Among what) (sym listed) (inl refl)) in
         let alive = all-alive s plan setup cs w e timely n p node proc o open_op n node in
-        let same : same_proc (caller_of m) (proc_at n p) ≡ true = ap (λ (q : ProcName). same_proc q (proc_at n p)) caller ∙ same_proc-refl (proc_at n p) in
+        let same : same_proc (caller_of m) (proc_at n p) ≡ true = ap (λ (q : ProcName). same_proc q (proc_at n p)) caller ∙ same_proc-itself (proc_at n p) in
         never s setup plan w none n node alive what (notice-comes s setup plan w none n node what among)
         (enable s setup plan cs w e timely n alive what (Incoming.Gone m.number m.tick)
         (ap (told_of (proc_at n p)) found ∙ ap (λ b. told_if b m) same)
-        (both-true (has_program (given s n) p) (may_notice m.number (proc_of (w.nodes n) p).doing) (driven s plan setup cs w e timely n p node proc o open_op)
+        (and_from (has_program (given s n) p) (may_notice m.number (proc_of (w.nodes n) p).doing) (driven s plan setup cs w e timely n p node proc o open_op)
         (ap (may_notice m.number) open_op ∙ ap (is_call m.number) awaits ∙ eq-eqb m.number c.waiting.number number)))
 
     told : (f : FrameName) → Among f (gone_in plan w.done) → (m : Option Message) → numbered f.2 (w.frames f.0 f.1) ≡ m → IsToldIfOf w (proc_at n p) c.waiting.number f

@@ -4,6 +4,7 @@ use Rattle.std.specs.Prelude.{◌⊎◌, ◌==◌, ◌&&◌, ◌||◌}
 use Rattle.std.specs.List.{list_any}
 use Rattle.std.proofs.lemmas.List.Folds.{list_any-append}
 use Rattle.std.proofs.Math.Seq.{drop-append_seam}
+use Rattle.uid_names.proofs.Passed.{left-true, right-true, equal}
 use Rattle.dom_history.specs.declared.event.What.{What}
 use Rattle.dom_history.specs.declared.event.What.TheVariants.{Begin, Go, Take, Notice, Ready, Mark}
 use Rattle.dom_history.specs.declared.plan.Fate.{Fate}
@@ -14,7 +15,6 @@ use Rattle.dom_history.specs.Histories.{SomeOf}
 use Rattle.dom_history.specs.Plans.{fate_of}
 use Rattle.node_runs.specs.Deliveries.{in_place, copies, is_gone, noticed_by, noticed_in}
 use Rattle.node_runs.specs.Runs.{World}
-use Rattle.node_runs.proofs.Bools.{left-true, right-true, equal}
 use Rattle.world_runs.specs.Gone.{FrameName, same_frame, gone_by, gone_in, was_told}
 use Rattle.world_runs.specs.Sendings.{Sending, sent_by, sendings, frames_in}
 use Rattle.world_runs.specs.Waiting.{Entry, due, put_by, entries, entry_if, entry_by, entries_taken, entries_put, waiting}
@@ -78,7 +78,7 @@ pub sent-behind : (fate : ℕ → Fate) (xs older : List Sending) → let k = fr
 sent-behind fate xs older = elim (put-or-gone (frames_in older + 1) (fate (frames_in older + 1))) [
   | inl is ↦ inl (behind-more fate (Entry.Copy (frames_in older + 1)) xs (Sending.Frame ∷ []) older
       (map-among Entry.Copy (frames_in older + 1) (due fate (frames_in older))
-      (among-left (frames_in older + 1) (in_place (frames_in older + 1) (fate (frames_in older + 1))) (copies fate (frames_in older + 1) (frames_in older)) is)))
+      (among-left (frames_in older + 1) (in_place (frames_in older + 1) (fate (frames_in older + 1))) (copies fate (frames_in older + 1) (frames_in older + 1)) is)))
   | inr is ↦ inr is
 ]
 

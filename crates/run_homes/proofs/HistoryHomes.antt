@@ -16,18 +16,14 @@ use Rattle.node_runs.proofs.Receiving.{EachOf-more, numbered-each}
 use Rattle.node_runs.proofs.Decisions.{decisions-are}
 use Rattle.node_runs.proofs.Replaying.{replays-are}
 use Rattle.node_runs.proofs.SettingUp.{setup-procs}
-use Rattle.run_nodes.specs.AskedHomes.{IsAtHome, AreCallsAtHomes}
-use Rattle.run_nodes.proofs.AskedHomes.{calls-at-homes}
+use Rattle.node_runs.proofs.EachOf.{EachOf-behind}
+use Rattle.run_desks.specs.AskedHomes.{IsAtHome, AreCallsAtHomes}
+use Rattle.run_desks.proofs.AskedHomes.{calls-at-homes}
 use Rattle.run_homes.specs.DecidedEffects.{home_effects, decided_effects}
 use Rattle.run_homes.specs.HistoryHomes.{past_then, AreHomesAlways}
 use Rattle.run_homes.proofs.HomeEffects.{notes-right, effects-right}
 use Rattle.run_homes.proofs.HomeRows.{IsMeantAt, table-then, rows-home, rows-then}
 use Rattle.run_homes.proofs.Presence.{present-home, objects-there}
-
--- what holds of each holds of each of a part
-pub each-behind : {A : Type 0} (P : A → Type 0) (xs ys : List A) → EachOf P (xs ++ ys) → EachOf P ys
-each-behind P [] ys each = each
-each-behind P (x ∷ xs) ys each = each-behind P xs ys each.1
 
 pub answered-behind : (s : Setup) (xs ys : List Noted) → AreAnswered s (xs ++ ys) → AreAnswered s ys
 answered-behind s [] ys are = are
@@ -52,9 +48,9 @@ pub homes-always : (s : Setup) → IsSetup s → (cs : List Choice) (w : World) 
 homes-always s setup cs w e timely newer older parts =
     let decisions = decisions-are s (setup-procs s setup) cs w e in
     let meant = EachOf-more (λ (j : Noted). IsDecided w j.place j.note) (λ (j : Noted). IsMeantAt j.place.node j.note) w.trace (λ j decided. meant-at w (calls-at-homes s setup cs w e timely) j.place j.note decided) decisions.each in
-    let meant_then = each-behind (λ (j : Noted). IsMeantAt j.place.node j.note) newer older (subst (EachOf (λ (j : Noted). IsMeantAt j.place.node j.note)) parts meant) in
+    let meant_then = EachOf-behind (λ (j : Noted). IsMeantAt j.place.node j.note) newer older (subst (EachOf (λ (j : Noted). IsMeantAt j.place.node j.note)) parts meant) in
     let answered_then = answered-behind s newer older (subst (AreAnswered s) parts (replays-are s cs w e).answers) in
-    let right = each-behind _ newer older (subst (EachOf _) parts (notes-right s setup cs w e timely)) in
+    let right = EachOf-behind _ newer older (subst (EachOf _) parts (notes-right s setup cs w e timely)) in
     let decided : home_effects (past_then w older) ≡ decided_effects older = effects-right s setup cs w e timely older right in
     record {
       decided = decided;

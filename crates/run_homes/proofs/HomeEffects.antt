@@ -3,10 +3,12 @@ use Rattle.std.proofs.Common.{◌≡◌, ℕ, Bool, true, false, List, [], ◌�
 use Rattle.std.specs.Prelude.{◌==◌, ◌&&◌, if◌then◌else◌}
 use Rattle.std.proofs.lemmas.Bool.{eq-eqb}
 use Rattle.std.proofs.lemmas.List.Elements.{filter-append}
+use Rattle.std.proofs.lemmas.Option.{same_Some}
 use Rattle.uid_names.proofs.ListLemmas.{by_cases}
-use Rattle.uid_names.proofs.Orders.{same_proc_is}
+use Rattle.uid_names.proofs.Orders.{same_proc_is, same_proc-itself}
 use Rattle.uid_names.specs.Names.{ProcName, same_proc}
 use Rattle.uid_names.specs.declared.ids.Place.{Place}
+use Rattle.uid_names.proofs.Passed.{left-true, right-true, equal}
 use Rattle.dom_history.specs.declared.op.Op.{Op}
 use Rattle.dom_history.specs.declared.op.Op.TheVariants as ops
 use Rattle.dom_history.specs.declared.op.Reply.{Reply}
@@ -22,33 +24,31 @@ use Rattle.node_runs.specs.Runs.{World, Noted, Choice, numbered, world_after}
 use Rattle.node_runs.specs.RunHistories.{is_fault, settled_op, change_reply, act_item, all_told, fault_item, begun_item, told_item, open_item, settled_item, decided_item, doing_of, ended_at, ended_by, items_of, items_from}
 use Rattle.node_runs.specs.CallsKeep.{AsksThis, EachOf}
 use Rattle.node_runs.specs.DecidedCalls.{IsDecided, IsOther, IsFirst, AreDecidedOnce}
-use Rattle.node_runs.proofs.Bools.{left-true, right-true, equal}
-use Rattle.node_runs.proofs.Somes.{some-is}
 use Rattle.node_runs.proofs.Receiving.{EachOf-more}
 use Rattle.node_runs.proofs.SettingUp.{setup-procs}
 use Rattle.node_runs.proofs.Decisions.{decisions-are}
 use Rattle.run_calls.specs.DecidedReplies.{proc_at}
 use Rattle.run_calls.specs.LastCalls.{IsOpenNumber, IsOpenOrTold}
 use Rattle.run_calls.specs.Progress.{IsSettling}
-use Rattle.run_calls.proofs.Slots.{settles, same_proc-refl}
+use Rattle.run_calls.proofs.Slots.{settles}
 use Rattle.run_calls.proofs.Lasting.{last-calls-are, calls-of-procs}
 use Rattle.run_calls.proofs.HearingRuns.{same-ask}
-use Rattle.run_nodes.specs.ToldAnswers.{Tells, IsReleaseFault, IsFaultOf, IsLockRefusal, IsDeskReply, IsAtDesk, IsToldBy, IsTold}
-use Rattle.run_nodes.proofs.ToldAnswers.{told-are}
+use Rattle.run_desks.specs.ToldAnswers.{TellsReply, IsReleaseFault, IsFaultOf, IsLockRefusal, IsLocalReply, IsAtDesk, IsToldBy, IsTold}
+use Rattle.run_desks.proofs.ToldAnswers.{told-are}
 use Rattle.run_homes.specs.DecidedEffects.{is_of_home, home_effects, effect_if, noted_effect, decided_effects}
 
 -- the effects of items, as far as homes decide on them
-abbrev pub item_effects : List Item → List StoreEffect
-item_effects items = home_effects (store_effects (deeds items))
+abbrev pub item_home_effects : List Item → List StoreEffect
+item_home_effects items = home_effects (store_effects (deeds items))
 
-effects-append : (xs ys : List Item) → item_effects (xs ++ ys) ≡ item_effects xs ++ item_effects ys
-effects-append [] ys = refl
-effects-append (i ∷ xs) ys =
+home_effects-append : (xs ys : List Item) → item_home_effects (xs ++ ys) ≡ item_home_effects xs ++ item_home_effects ys
+home_effects-append [] ys = refl
+home_effects-append (i ∷ xs) ys =
     let d = deed_of i in
     filter-append is_of_home (store_effect d.proc d.op d.reply) (store_effects (deeds (xs ++ ys)))
-    ∙ ap (λ es. home_effects (store_effect d.proc d.op d.reply) ++ es) (effects-append xs ys)
-    ∙ sym (append_assoc (home_effects (store_effect d.proc d.op d.reply)) (item_effects xs) (item_effects ys))
-    ∙ ap (λ es. es ++ item_effects ys) (sym (filter-append is_of_home (store_effect d.proc d.op d.reply) (store_effects (deeds xs))))
+    ∙ ap (λ es. home_effects (store_effect d.proc d.op d.reply) ++ es) (home_effects-append xs ys)
+    ∙ sym (append_assoc (home_effects (store_effect d.proc d.op d.reply)) (item_home_effects xs) (item_home_effects ys))
+    ∙ ap (λ es. es ++ item_home_effects ys) (sym (filter-append is_of_home (store_effect d.proc d.op d.reply) (store_effects (deeds xs))))
 
 -- an operation that a home settles
 abbrev IsHomeOp : Op → Type 0
@@ -63,11 +63,11 @@ settled-home : (home : ℕ) (ask : Ask) (op : Op) → settled_op home ask ≡ So
 settled-home home (Ask.PageIn u k) op e = absurd (cc)
 settled-home home (Ask.PageOut u k grant base bytes) op e = absurd (cc)
 settled-home home (Ask.AttrOut u n grant base) op e = absurd (cc)
-settled-home home (Ask.Lock u m) op e = subst IsHomeOp (some-is (ops.Lock u m) op e) tt
-settled-home home (Ask.Unlock u) op e = subst IsHomeOp (some-is (ops.Unlock u) op e) tt
-settled-home home (Ask.Remove u) op e = subst IsHomeOp (some-is (ops.Delete u) op e) tt
-settled-home home (Ask.Make kind room) op e = subst IsHomeOp (some-is (ops.New home kind room) op e) tt
-settled-home home (Ask.ListLocks after) op e = subst IsHomeOp (some-is (ops.List home after) op e) tt
+settled-home home (Ask.Lock u m) op e = subst IsHomeOp (same_Some (ops.Lock u m) op e) tt
+settled-home home (Ask.Unlock u) op e = subst IsHomeOp (same_Some (ops.Unlock u) op e) tt
+settled-home home (Ask.Remove u) op e = subst IsHomeOp (same_Some (ops.Delete u) op e) tt
+settled-home home (Ask.Make kind room) op e = subst IsHomeOp (same_Some (ops.New home kind room) op e) tt
+settled-home home (Ask.ListLocks after) op e = subst IsHomeOp (same_Some (ops.List home after) op e) tt
 
 module _ (p : ProcName) where
   home-op : (op : Op) → IsHomeOp op → (r : Reply) → home_effects (store_effect p op r ++ []) ≡ store_effect p op r
@@ -83,7 +83,7 @@ module _ (p : ProcName) where
   home-op op is r = absurd is
 
   -- an act
-  act-effect : (x begun : Place) (op : Op) → IsHomeOp op → (o : Option Reply) → item_effects (act_item x begun p op o) ≡ effect_if p (Some op) o
+  act-effect : (x begun : Place) (op : Op) → IsHomeOp op → (o : Option Reply) → item_home_effects (act_item x begun p op o) ≡ effect_if p (Some op) o
   act-effect x begun op is None = refl
   act-effect x begun op is (Some r) = home-op op is r
 
@@ -132,7 +132,7 @@ module _ (p : ProcName) where
   lock-quiet u m replies.NoObject is = refl
   lock-quiet u m r is = absurd is
 
-  desk-quiet : (op : Op) (r : Reply) → IsDeskReply op r → home_effects (store_effect p op r ++ []) ≡ []
+  desk-quiet : (op : Op) (r : Reply) → IsLocalReply op r → home_effects (store_effect p op r ++ []) ≡ []
   desk-quiet (ops.New home kind room) r is = ap (λ x. home_effects (store_effect p (ops.New home kind room) x ++ [])) is
   desk-quiet (ops.List home after) r is = refl
   desk-quiet (ops.Lock u m) r is = lock-quiet u m r is
@@ -150,7 +150,7 @@ module _ (p : ProcName) where
   desk-quiet (ops.Unmap u) r is = refl
 
   -- what a process was told of a decision
-  told-effect : (op : Op) (r : Reply) (answer : Answer) → Tells op r answer → home_effects (store_effect p op r ++ []) ≡ effect_if p (Some op) (change_reply answer)
+  told-effect : (op : Op) (r : Reply) (answer : Answer) → TellsReply op r answer → home_effects (store_effect p op r ++ []) ≡ effect_if p (Some op) (change_reply answer)
   told-effect (ops.New home kind room) r (Answer.Made u) tells = ap (λ x. home_effects (store_effect p (ops.New home kind room) x ++ [])) tells
   told-effect (ops.New home kind room) r Answer.NoSpace tells = ap (λ x. home_effects (store_effect p (ops.New home kind room) x ++ [])) tells
   told-effect (ops.New home kind room) r answer tells = absurd tells
@@ -191,7 +191,7 @@ fault-faulty (ops.Unmap u) ask r is = absurd is
 
 -- each call is decided once: the decision that told of it is the one
 abbrev ThenTold : Told → Note → Type 0
-ThenTold t (Note.Decided q k ask answer) = q ≡ t.proc → k ≡ t.number → Tells t.op t.reply answer
+ThenTold t (Note.Decided q k ask answer) = q ≡ t.proc → k ≡ t.number → TellsReply t.op t.reply answer
 ThenTold t note = Unit {0}
 
 module _ (t : Told) where
@@ -257,7 +257,7 @@ find-call w p number (t ∷ so_far) told = by_cases (same_proc t.proc p && (t.nu
       | found u is named numbered_so tells ↦ found u (ap (λ b. if b then Some t else ended_by p number so_far) h ∙ is) named numbered_so tells
       | absent is none ↦ absent (ap (λ b. if b then Some t else ended_by p number so_far) h ∙ is) (λ some. elim some [
         | inl here ↦
-            (let e : (same_proc t.proc p && (t.number == number)) ≡ true = ap (λ b. b && (t.number == number)) (subst (λ q. same_proc t.proc q ≡ true) here.0 (same_proc-refl t.proc)) ∙ eq-eqb t.number number here.1 in
+            (let e : (same_proc t.proc p && (t.number == number)) ≡ true = ap (λ b. b && (t.number == number)) (subst (λ q. same_proc t.proc q ≡ true) here.0 (same_proc-itself t.proc)) ∙ eq-eqb t.number number here.1 in
             absurd (let f : true ≡ false = sym e ∙ h in cc))
         | inr there ↦ none there
       ])
@@ -272,18 +272,18 @@ module _ (s : Setup) (setup : IsSetup s) (cs : List Choice) (w : World) (e : wor
   abbrev so_far : List Told
   so_far = all_told w.trace
 
-  begun-effect : (x : Place) (o : Option Told) → item_effects (begun_item x o) ≡ []
+  begun-effect : (x : Place) (o : Option Told) → item_home_effects (begun_item x o) ≡ []
   begun-effect x None = refl
   begun-effect x (Some t) = by (is_fault t.reply) refl
     where
-      by : (b : Bool) → is_fault t.reply ≡ b → item_effects (fault_item b x t) ≡ []
+      by : (b : Bool) → is_fault t.reply ≡ b → item_home_effects (fault_item b x t) ≡ []
       by true is = fault-none t.proc t.op t.reply is
       by false is = refl
 
   module _ (x : Place) (p : ProcName) (number : ℕ) (ask : Ask) (answer : Answer) (op : Op) (settling : IsSettling ask) (of : settled_op x.node ask ≡ Some op) (decided : IsDecided w x (Note.Decided p number ask answer))
       (so : (t : Told) → SomeOf (λ (j : Noted). IsToldBy t j.note) w.trace → ThenTold t (Note.Decided p number ask answer)) where
     abbrev Right : List Item → Type 0
-    Right items = item_effects items ≡ effect_if p (Some op) (change_reply answer)
+    Right items = item_home_effects items ≡ effect_if p (Some op) (change_reply answer)
 
     told-right : (t : Told) → IsTold w t → t.proc ≡ p → t.number ≡ number → (b : Bool) → is_fault t.reply ≡ b → Right (told_item b x op answer t)
     told-right t is proc same true fault = act-effect t.proc x t.begun op (settled-home x.node ask op of) (change_reply answer) ∙ ap (λ q. effect_if q (Some op) (change_reply answer)) proc
@@ -294,7 +294,7 @@ module _ (s : Setup) (setup : IsSetup s) (cs : List Choice) (w : World) (e : wor
           let own = subst (λ (q : ProcName). AsksThis (numbered number (w.calls q.node q.number)) is.home is.ask) proc call in
           let same_ask : is.ask ≡ ask = same-ask (numbered number (w.calls p.node p.number)) is.home x.node is.ask ask own decided.1 in
           let same_home : is.home ≡ x.node = same-home (numbered number (w.calls p.node p.number)) is.home x.node is.ask ask own decided.1 in
-          let same_op : t.op ≡ op = some-is t.op op (sym (is.op (subst IsSettling (sym same_ask) settling)) ∙ (ap (λ h. settled_op h is.ask) same_home ∙ (ap (settled_op x.node) same_ask ∙ of))) in
+          let same_op : t.op ≡ op = same_Some t.op op (sym (is.op (subst IsSettling (sym same_ask) settling)) ∙ (ap (λ h. settled_op h is.ask) same_home ∙ (ap (settled_op x.node) same_ask ∙ of))) in
           told-effect t.proc t.op t.reply answer (so t some (sym proc) (sym same)) ∙ (ap (λ o. effect_if t.proc (Some o) (change_reply answer)) same_op ∙ ap (λ q. effect_if q (Some op) (change_reply answer)) proc))
     ]
 
@@ -309,22 +309,22 @@ module _ (s : Setup) (setup : IsSetup s) (cs : List Choice) (w : World) (e : wor
     ]
 
   abbrev IsRight : Noted → Type 0
-  IsRight j = item_effects (items_of w so_far j.place j.note) ≡ noted_effect j.place.node j.note
+  IsRight j = item_home_effects (items_of w so_far j.place j.note) ≡ noted_effect j.place.node j.note
 
-  note-right : (x : Place) (note : Note) → IsDecided w x note → IsAtDesk note → ((t : Told) → SomeOf (λ (j : Noted). IsToldBy t j.note) w.trace → ThenTold t note) → item_effects (items_of w so_far x note) ≡ noted_effect x.node note
+  note-right : (x : Place) (note : Note) → IsDecided w x note → IsAtDesk note → ((t : Told) → SomeOf (λ (j : Noted). IsToldBy t j.note) w.trace → ThenTold t note) → item_home_effects (items_of w so_far x note) ≡ noted_effect x.node note
   note-right x Note.Nothing decided desk so = refl
   note-right x (Note.Began p op) decided desk so = begun-effect x (ended_at p x so_far)
   note-right x (Note.Did p phase op reply) decided desk so = desk-quiet p op reply desk
   note-right x (Note.Ended t) decided desk so = refl
   note-right x (Note.Decided p number ask answer) decided desk so = elim (settles x.node ask) [
-    | inl none ↦ subst (λ o. item_effects (decided_item x p o answer (ended_by p number so_far) (doing_of w p)) ≡ effect_if p o (change_reply answer)) (sym none) refl
-    | inr some ↦ subst (λ o. item_effects (decided_item x p o answer (ended_by p number so_far) (doing_of w p)) ≡ effect_if p o (change_reply answer)) (sym some.1.1)
+    | inl none ↦ subst (λ o. item_home_effects (decided_item x p o answer (ended_by p number so_far) (doing_of w p)) ≡ effect_if p o (change_reply answer)) (sym none) refl
+    | inr some ↦ subst (λ o. item_home_effects (decided_item x p o answer (ended_by p number so_far) (doing_of w p)) ≡ effect_if p o (change_reply answer)) (sym some.1.1)
         (settled-right x p number ask answer some.1.0 some.0 some.1.1 decided so (told-are s setup cs w e timely).told
         (subst (λ q. IsOpenOrTold q number (proc_of (w.nodes p.node) p.number) so_far) name (last-calls-are s setup cs w e timely p.node p.number (calls-of-procs s setup cs w e timely p.node p.number number x.node ask decided.1) number x.node ask decided.1 some.0)))
   ]
     where
       name : proc_at p.node p.number ≡ p
-      name = same_proc_is (proc_at p.node p.number) p (same_proc-refl p)
+      name = same_proc_is (proc_at p.node p.number) p (same_proc-itself p)
 
   pub notes-right : EachOf IsRight w.trace
   notes-right =
@@ -333,9 +333,9 @@ module _ (s : Setup) (setup : IsSetup s) (cs : List Choice) (w : World) (e : wor
       (λ j decided desk so. note-right j.place j.note decided desk (λ t some. so (t, some)))
       decisions.each (told-are s setup cs w e timely).desks (each-all (λ (a : (t : Told) × SomeOf (λ (i : Noted). IsToldBy t i.note) w.trace) (j : Noted). ThenTold a.0 j.note) w.trace (λ a. once-told a.0 w.trace decisions.once a.1))
 
-  pub effects-right : (notes : List Noted) → EachOf IsRight notes → item_effects (items_from w so_far notes) ≡ decided_effects notes
+  pub effects-right : (notes : List Noted) → EachOf IsRight notes → item_home_effects (items_from w so_far notes) ≡ decided_effects notes
   effects-right [] right = refl
   effects-right (j ∷ older) right =
-      effects-append (items_of w so_far j.place j.note) (items_from w so_far older)
-      ∙ ap (λ es. es ++ item_effects (items_from w so_far older)) right.0
+      home_effects-append (items_of w so_far j.place j.note) (items_from w so_far older)
+      ∙ ap (λ es. es ++ item_home_effects (items_from w so_far older)) right.0
       ∙ ap (λ es. noted_effect j.place.node j.note ++ es) (effects-right older right.1)

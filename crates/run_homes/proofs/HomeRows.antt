@@ -1,6 +1,6 @@
 -- The lock rows of a home are those that its decisions leave.
 use Rattle.std.proofs.Common.{◌≡◌, ◌≢◌, ℕ, ◌+◌, Bool, true, false, List, [], ◌∷◌, ◌++◌, length, Option, Some, None, inl, inr, refl, sym, ap, subst, ◌∙◌, arith}
-use Rattle.std.specs.Prelude.{◌==◌, ◌&&◌, not, nat_le, if◌then◌else◌, is_some, is_none, find, filter, All, AllPairs, slice_index_or}
+use Rattle.std.specs.Prelude.{◌==◌, ◌&&◌, not, nat_le, if◌then◌else◌, is_some, is_none, filter, All, AllPairs}
 use Rattle.std.proofs.lemmas.Bool.{cases_eq}
 use Rattle.std.proofs.lemmas.Bool.Decides.{nat_tests}
 use Rattle.std.proofs.lemmas.List.Elements.{All-cons, All-head, All-tail}
@@ -10,10 +10,10 @@ use Rattle.uid_names.specs.Rows.{row_lt, same_row}
 use Rattle.uid_names.specs.declared.lock_row.LockRow.{LockRow}
 use Rattle.uid_names.specs.declared.limits.TheConstants.{VOLUME_ROOM}
 use Rattle.uid_names.specs.declared.mode.Mode.{Mode}
-use Rattle.uid_names.proofs.ListLemmas.{by_cases}
+use Rattle.uid_names.proofs.ListLemmas.{by_cases, All-found, All-more}
 use Rattle.uid_names.proofs.Codes.{modes_clash-sym}
 use Rattle.uid_names.proofs.InOrder.{AllPairs-head, AllPairs-tail}
-use Rattle.uid_names.proofs.Orders.{same_row_is}
+use Rattle.uid_names.proofs.Orders.{same_row_is, same_uid-itself}
 use Rattle.dom_history.specs.StoreEffects.{StoreEffect, Makes, TakesLock, FreesLock, Deletes, Writes, Maps, Unmaps}
 use Rattle.dom_history.specs.Locks.{rows, rows_with, rows_without}
 use Rattle.object_store.specs.declared.attributes.Attr.{Attr}
@@ -32,7 +32,7 @@ use Rattle.node_runs.specs.Runs.{Noted}
 use Rattle.node_runs.specs.CallsKeep.{EachOf}
 use Rattle.node_runs.specs.Replays.{Held, after_note, after_if, replay, first_held, IsAnswered, AreAnswered}
 use Rattle.node_runs.specs.RunHistories.{settled_op, change_reply}
-use Rattle.run_nodes.specs.AskedHomes.{IsAtHome}
+use Rattle.run_desks.specs.AskedHomes.{IsAtHome}
 use Rattle.run_homes.proofs.Removals.{removes-clash}
 use Rattle.run_homes.specs.DecidedEffects.{home_effects, effect_if, noted_effect, decided_effects}
 use Rattle.run_homes.specs.HistoryHomes.{held_then}
@@ -77,22 +77,8 @@ rows-with new (g ∷ grants) =
     (λ h. rw h (ap (λ rs. g.row ∷ rs) (rows-with new grants)))
     (λ h. rw h refl)
 
-found-all : {X : Type 0} (P : X → Type 0) (test : X → Bool) (xs : List X) (x : X) → All P xs → find test xs ≡ Some x → P x
-found-all P test [] x all found = absurd (cc)
-found-all P test (y ∷ ys) x all found = by (test y) found (found-all P test ys x (All-tail P y ys all))
-  where
-    by : (b : Bool) → (if b then Some y else find test ys) ≡ Some x → (find test ys ≡ Some x → P x) → P x
-    by true is others = let same : y ≡ x = cc in subst P same (All-head P y ys all)
-    by false is others = others is
-
-all-more : {X : Type 0} (P Q : X → Type 0) (xs : List X) → ((x : X) → P x → Q x) → All P xs → All Q xs
-all-more P Q xs more all k d below = more (slice_index_or xs k d) (all k d below)
-
 abbrev AreCompatible : List Grant → Type 0
 AreCompatible = AllPairs (λ a b. are_in_conflict a b ≡ false)
-
-uid-itself : (u : ObjectName) → same_uid u u ≡ true
-uid-itself u = grind (arith, nat_tests)
 
 -- where a process holds an object in a mode that writes, clear other holds it
 module _ (q : ProcName) (v : ObjectName) where
@@ -149,9 +135,9 @@ module _ (q : ProcName) (v : ObjectName) where
       by true row is later =
           let same : g ≡ h = cc in
           let removing : mode_removes g.row.mode ≡ true = subst (λ x. mode_removes x.row.mode ≡ true) (sym same) removes in
-          All-cons IsOwn g rest (subst (λ u. same_uid v u ≡ true) (same_row_is q v g.row row).1 (uid-itself v) ∙ sym row) (all-more (λ k. are_in_conflict g k ≡ false) IsOwn rest (λ k clear. own-first g k row removing clear) free)
+          All-cons IsOwn g rest (subst (λ u. same_uid v u ≡ true) (same_row_is q v g.row row).1 (same_uid-itself v) ∙ sym row) (All-more (λ k. are_in_conflict g k ≡ false) IsOwn rest (λ k clear. own-first g k row removing clear) free)
       by false row is later =
-          let holds = found-all (λ k. are_in_conflict g k ≡ false) (λ k. same_row q v k.row) rest h free is in
+          let holds = All-found (λ k. are_in_conflict g k ≡ false) (λ k. same_row q v k.row) rest h free is in
           All-cons IsOwn g rest (own-later g h row (passes rest is) removes holds) (later is)
         where
           passes : (ks : List Grant) → grant_of q v ks ≡ Some h → same_row q v h.row ≡ true

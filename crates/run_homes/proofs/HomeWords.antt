@@ -28,11 +28,12 @@ use Rattle.node_runs.specs.Replays.{IsAnswered, AreAnswered}
 use Rattle.node_runs.proofs.Decisions.{decisions-are}
 use Rattle.node_runs.proofs.Replaying.{replays-are}
 use Rattle.node_runs.proofs.SettingUp.{setup-procs}
-use Rattle.run_nodes.specs.ToldAnswers.{Tells}
-use Rattle.run_nodes.proofs.AskedHomes.{calls-at-homes}
+use Rattle.node_runs.proofs.EachOf.{EachOf-behind}
+use Rattle.run_desks.specs.ToldAnswers.{TellsReply}
+use Rattle.run_desks.proofs.AskedHomes.{calls-at-homes}
 use Rattle.run_homes.specs.HistoryHomes.{held_then, past_then, AreHomesThen}
 use Rattle.run_homes.specs.HomeWords.{SaysSo, AreHomeWords}
-use Rattle.run_homes.proofs.HistoryHomes.{each-behind, answered-behind, meant-at, homes-always}
+use Rattle.run_homes.proofs.HistoryHomes.{answered-behind, meant-at, homes-always}
 use Rattle.run_homes.proofs.HomeRows.{IsMeantAt}
 
 find-row : (test : LockRow → Bool) (grants : List Grant) → find test (rows_of grants) ≡ option_map (λ (g : Grant). g.row) (find (λ g. test g.row) grants)
@@ -41,7 +42,7 @@ find-row test (g ∷ grants) = by_cases (test g.row) (find test (rows_of (g ∷ 
 
 -- the answer to a lock
 module _ (u : ObjectName) (m : Mode) (grant : ℕ) where
-  lock-says : (attr : Option Attr) (o : Option Grant) → Tells (ops.Lock u m) (if not (is_some attr) then NoObject else conflict_or_fine (option_map (λ (g : Grant). g.row) o)) (lock_answer attr (holder_in o) grant)
+  lock-says : (attr : Option Attr) (o : Option Grant) → TellsReply (ops.Lock u m) (if not (is_some attr) then NoObject else conflict_or_fine (option_map (λ (g : Grant). g.row) o)) (lock_answer attr (holder_in o) grant)
   lock-says None o = refl
   lock-says (Some attr) None = refl
   lock-says (Some attr) (Some g) = refl
@@ -66,18 +67,18 @@ module _ (s : Setup) (w : World) (older : List Noted) (homes : AreHomesThen s w 
           let said : home_lock_reply s.opening (past_then w older) p u m ≡ (if not (is_some (attr_of h.home u)) then NoObject else conflict_or_fine (option_map (λ (g : Grant). g.row) o)) =
           ap (λ b. if not b then NoObject else conflict_or_fine (find (is_in_conflict p u m) (rows u.home (past_then w older)))) present
           ∙ ap (λ x. if not (is_some (attr_of h.home u)) then NoObject else conflict_or_fine x) found in
-          subst (λ r. Tells (ops.Lock u m) r answer) (sym said) (subst (Tells (ops.Lock u m) (if not (is_some (attr_of h.home u)) then NoObject else conflict_or_fine (option_map (λ (g : Grant). g.row) o))) (sym is) (lock-says u m (h.locks.last + 1) (attr_of h.home u) o))
+          subst (λ r. TellsReply (ops.Lock u m) r answer) (sym said) (subst (TellsReply (ops.Lock u m) (if not (is_some (attr_of h.home u)) then NoObject else conflict_or_fine (option_map (λ (g : Grant). g.row) o))) (sym is) (lock-says u m (h.locks.last + 1) (attr_of h.home u) o))
       by (Ask.Unlock u) at is = tt
       by (Ask.Remove u) at is = tt
       by (Ask.Make kind room) at is = tt
       by (Ask.ListLocks after) at is =
-          subst (λ r. Tells (ops.List home after) (list_reply (rows_after after r)) answer) (sym (homes.rows home)) (subst (Tells (ops.List home after) (list_reply (rows_after after (rows_of (held_then s home older).locks.grants)))) (sym is) refl)
+          subst (λ r. TellsReply (ops.List home after) (list_reply (rows_after after r)) answer) (sym (homes.rows home)) (subst (TellsReply (ops.List home after) (list_reply (rows_after after (rows_of (held_then s home older).locks.grants)))) (sym is) refl)
 
 -- in every run
 pub words-are : (s : Setup) → IsSetup s → (cs : List Choice) (w : World) → world_after s cs ≡ Some w → IsTimely w → AreHomeWords s w
 words-are s setup cs w e timely newer older j parts node =
     let decisions = decisions-are s (setup-procs s setup) cs w e in
     let whole : w.trace ≡ (newer ++ j ∷ []) ++ older = parts ∙ sym (append_assoc newer (j ∷ []) older) in
-    let decided = (each-behind (λ (i : Noted). IsDecided w i.place i.note) newer (j ∷ older) (subst (EachOf (λ (i : Noted). IsDecided w i.place i.note)) parts decisions.each)).0 in
+    let decided = (EachOf-behind (λ (i : Noted). IsDecided w i.place i.note) newer (j ∷ older) (subst (EachOf (λ (i : Noted). IsDecided w i.place i.note)) parts decisions.each)).0 in
     let answered = (answered-behind s newer (j ∷ older) (subst (AreAnswered s) parts (replays-are s cs w e).answers)).0 in
     note-says s w older (homes-always s setup cs w e timely (newer ++ j ∷ []) older whole) j.place.node j.note node (meant-at w (calls-at-homes s setup cs w e timely) j.place j.note decided) answered

@@ -6,3 +6,11 @@ pub mod HistoryHomes
 pub mod HomeWords
 pub mod ToldRooms
 pub mod Removals
+pub mod Grants
+pub mod Live
+pub mod EntryMoves
+pub mod LiveRun
+pub mod Standing
+pub mod OpenDecisions
+pub mod KnownRooms
+pub mod KnownPages

@@ -9,6 +9,7 @@ use Rattle.uid_names.specs.Beginnings.{at_home, entry_directory}
 use Rattle.uid_names.specs.declared.opening.Object.{Object}
 use Rattle.uid_names.specs.declared.limits.TheConstants.{VOLUME_ROOM}
 use Rattle.uid_names.proofs.ListLemmas.{by_cases}
+use Rattle.uid_names.proofs.Orders.{same_uid-sym}
 use Rattle.dom_history.specs.StoreEffects.{StoreEffect, Makes, TakesLock, FreesLock, Deletes, Writes, Maps, Unmaps}
 use Rattle.dom_history.specs.Objects.{made, is_deleted, is_present, is_node, entry_directories}
 use Rattle.dom_history.proofs.KeptObjects.{find-present}
@@ -23,19 +24,20 @@ use Rattle.lock_manager.specs.Tables.{Table}
 use Rattle.ring_messages.specs.Bodies.{Ask, Answer}
 use Rattle.page_server.specs.Decisions.{decide, lock_answer, remove_answer, make_answer, may_remove}
 use Rattle.page_server.proofs.Given.{greatest-rises}
+use Rattle.page_server.proofs.Rising.{decided-node}
 use Rattle.node_runs.specs.Setups.{Setup, IsSetup}
 use Rattle.node_runs.specs.Notes.{Note}
 use Rattle.node_runs.specs.Runs.{Noted}
 use Rattle.node_runs.specs.CallsKeep.{EachOf}
 use Rattle.node_runs.specs.Replays.{Held, after_note, replay, first_held, IsAnswered, after_if, AreAnswered}
 use Rattle.node_runs.specs.RunHistories.{settled_op, change_reply}
-use Rattle.run_nodes.specs.AskedHomes.{IsAtHome}
+use Rattle.run_desks.specs.AskedHomes.{IsAtHome}
 use Rattle.run_homes.specs.DecidedEffects.{home_effects, effect_if, noted_effect, decided_effects}
 use Rattle.run_homes.proofs.HomeObjects.{there_after, attr-here, here, there_view, there-each, some-changed, some-pushed}
 use Rattle.run_homes.proofs.HomeRows.{IsMeantAt, kept-replay}
 
 -- what is there is told by the effects of homes alone
-made-home : (opening : Start) (past : List StoreEffect) → made opening (home_effects past) ≡ made opening past
+pub made-home : (opening : Start) (past : List StoreEffect) → made opening (home_effects past) ≡ made opening past
 made-home opening [] = refl
 made-home opening (Makes o ∷ past) = ap (λ xs. xs ++ o ∷ []) (made-home opening past)
 made-home opening (TakesLock q v m ∷ past) = made-home opening past
@@ -45,7 +47,7 @@ made-home opening (Writes q spot bytes ∷ past) = made-home opening past
 made-home opening (Maps q v address ∷ past) = made-home opening past
 made-home opening (Unmaps q v ∷ past) = made-home opening past
 
-deleted-home : (u : ObjectName) (past : List StoreEffect) → is_deleted u (home_effects past) ≡ is_deleted u past
+pub deleted-home : (u : ObjectName) (past : List StoreEffect) → is_deleted u (home_effects past) ≡ is_deleted u past
 deleted-home u [] = refl
 deleted-home u (Makes o ∷ past) = deleted-home u past
 deleted-home u (TakesLock q v m ∷ past) = deleted-home u past
@@ -132,28 +134,15 @@ node-if : (n : ℕ) (b : Bool) (x y : HomeState) → x.node ≡ n → y.node ≡
 node-if n true x y a b = a
 node-if n false x y a b = b
 
-decide-node : (home : HomeState) (locks : Table) (q : ProcName) (ask : Ask) → (decide home locks q ask).home.node ≡ home.node
-decide-node home locks q (Ask.PageIn v page) = refl
-decide-node home locks q (Ask.PageOut v page grant base bytes) = node-if home.node _ (after_page home v.counter page bytes) home refl refl
-decide-node home locks q (Ask.AttrOut v n grant base) = node-if home.node _ (after_length home v.counter n) home refl refl
-decide-node home locks q (Ask.Lock v m) = refl
-decide-node home locks q (Ask.Unlock v) = refl
-decide-node home locks q (Ask.Remove v) = node-if home.node _ (after_remove home v.counter) home refl refl
-decide-node home locks q (Ask.Make kind room) = node-if home.node _ (after_make home kind room) home refl refl
-decide-node home locks q (Ask.ListLocks after) = refl
-
-node-each : (n : ℕ) (h : Held) (note : Note) → h.home.node ≡ n → (after_note h note).home.node ≡ n
+pub node-each : (n : ℕ) (h : Held) (note : Note) → h.home.node ≡ n → (after_note h note).home.node ≡ n
 node-each n h Note.Nothing is = is
 node-each n h (Note.Began q op) is = is
 node-each n h (Note.Did q phase op reply) is = is
 node-each n h (Note.Ended t) is = is
-node-each n h (Note.Decided q number ask answer) is = decide-node h.home h.locks q ask ∙ is
+node-each n h (Note.Decided q number ask answer) is = decided-node h.home h.locks q ask ∙ is
 
 node-then : (s : Setup) (n : ℕ) (notes : List Noted) → (replay (first_held s n) n notes).home.node ≡ n
 node-then s n notes = kept-replay (λ h. h.home.node ≡ n) (node-each n) (first_held s n) n notes refl
-
-flip-uid : (u v : ObjectName) → same_uid u v ≡ same_uid v u
-flip-uid u v = grind (arith, nat_tests)
 
 -- after the decisions of its home
 module _ (opening : Start) (u : ObjectName) (past : List StoreEffect) where
@@ -192,7 +181,7 @@ module _ (opening : Start) (u : ObjectName) (past : List StoreEffect) where
     make-there q kind room true =
         let v : ObjectName = record { counter = h.home.greatest + 1; home = h.home.node } in
         let o : Object = record { uid = v; kind = kind; room = room } in
-        ap (λ b. b && not (is_deleted u past)) (find-push (λ x. same_uid x.uid u) (made opening past) o ∙ ap (λ b. was_made opening u past || b) (flip-uid v u))
+        ap (λ b. b && not (is_deleted u past)) (find-push (λ x. same_uid x.uid u) (made opening past) o ∙ ap (λ b. was_made opening u past || b) (same_uid-sym v u))
         ∙ pushed (same_uid u v) (was_made opening u past) (is_deleted u past) (there_view u h) before
         (λ same gone. let e = fresh gone in let f : u.counter ≡ h.home.greatest + 1 = grind (arith, nat_tests, same) in omega (arith, e, f))
 
@@ -288,7 +277,7 @@ module _ (opening : Start) (u : ObjectName) (past : List StoreEffect) where
     make-away q kind room false v is = (refl, refl)
     make-away q kind room true v is =
         let o : Object = record { uid = v; kind = kind; room = room } in
-        (ap (λ b. b && not (is_deleted u past)) (find-push (λ x. same_uid x.uid u) (made opening past) o ∙ ap (λ b. was_made opening u past || b) (flip-uid v u ∙ not-same v is) ∙ or-false (was_made opening u past)), refl)
+        (ap (λ b. b && not (is_deleted u past)) (find-push (λ x. same_uid x.uid u) (made opening past) o ∙ ap (λ b. was_made opening u past || b) (same_uid-sym v u ∙ not-same v is) ∙ or-false (was_made opening u past)), refl)
 
     decide-away : (q : ProcName) (ask : Ask) → IsAtHome home ask → IsSame (effect_if q (settled_op home ask) (change_reply (decide h.home h.locks q ask).answer))
     decide-away q (Ask.PageIn v page) meant = (refl, refl)

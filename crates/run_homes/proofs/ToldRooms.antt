@@ -22,15 +22,12 @@ use Rattle.node_runs.specs.Setups.{Setup, IsSetup, given}
 use Rattle.node_runs.specs.NodeStates.{NodeState}
 use Rattle.node_runs.specs.NodesKeep.{IsTimely}
 use Rattle.node_runs.specs.Notes.{Note}
-use Rattle.node_runs.specs.Doings.{ticked}
-use Rattle.node_runs.specs.Runs.{World, Noted, Choice, world_with, world_after}
-use Rattle.node_runs.proofs.Doing.{step_of-did}
+use Rattle.node_runs.specs.Runs.{World, Noted, Choice, world_after}
 use Rattle.node_runs.proofs.Receiving.{EachOf-more}
 use Rattle.node_runs.proofs.Calls.{put-same, put-other}
-use Rattle.node_runs.proofs.Worlds.{place_at}
-use Rattle.node_runs.proofs.Decisions.{IsNoDecision, HomeStep, apart, decides, did-home}
+use Rattle.node_runs.proofs.Decisions.{IsNoDecision, HomeStep, apart, decides}
 use Rattle.node_runs.proofs.SettingUp.{setup-procs}
-use Rattle.run_calls.proofs.HearingRuns.{IsKeptNext, every-kept-run}
+use Rattle.run_calls.proofs.HearingRuns.{IsKeptNext, every-kept-run, event, event-home}
 use Rattle.run_homes.specs.ToldRooms.{IsRoomOf, GrantTells, AskTells, TellsRoom, AreRoomsTold}
 use Rattle.run_homes.proofs.HomeObjects.{some-changed}
 
@@ -160,11 +157,7 @@ quiet-tells home (Note.Ended t) quiet = tt
 quiet-tells home (Note.Decided p number ask answer) quiet = absurd quiet
 
 module _ (s : Setup) (old : World) (c : Choice) (new : World) (next : IsKeptNext s old c new) (told : AreRoomsTold old) where
-  abbrev n : NodeState
-  n = ticked (old.nodes c.node) next.is.incoming
-
-  abbrev after : World
-  after = world_with old (place_at c next.is.step) c.what next.is.step
+  open event s old c new next use {n, after}
 
   kept : IsHome n.side.home
   kept = (next.kept.nodes c.node next.is.node).side.home
@@ -193,7 +186,7 @@ module _ (s : Setup) (old : World) (c : Choice) (new : World) (next : IsKeptNext
 
   told-later : AreRoomsTold new
   told-later = subst AreRoomsTold (sym next.is.world)
-      (all-told (did-home (given s c.node) n c.what next.is.incoming next.is.step (step_of-did (given s c.node) (old.nodes c.node) c.what next.is.incoming c.dropped next.is.step next.is.steps)))
+      (all-told (event-home s old c new next))
 
 -- in every run
 pub rooms-told : (s : Setup) → IsSetup s → (cs : List Choice) (w : World) → world_after s cs ≡ Some w → IsTimely w → AreRoomsTold w

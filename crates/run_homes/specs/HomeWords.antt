@@ -12,12 +12,12 @@ use Rattle.ring_messages.specs.Bodies.{Ask, Answer}
 use Rattle.node_runs.specs.Setups.{Setup}
 use Rattle.node_runs.specs.Notes.{Note}
 use Rattle.node_runs.specs.Runs.{Noted, World}
-use Rattle.run_nodes.specs.ToldAnswers.{Tells}
+use Rattle.run_desks.specs.ToldAnswers.{TellsReply}
 use Rattle.run_homes.specs.HistoryHomes.{past_then}
 
 abbrev pub AnswersSo : Start → List StoreEffect → ℕ → ProcName → Ask → Answer → Type 0
-AnswersSo opening past home p (Ask.Lock u m) answer = Tells (ops.Lock u m) (home_lock_reply opening past p u m) answer
-AnswersSo opening past home p (Ask.ListLocks after) answer = Tells (ops.List home after) (list_reply (rows_after after (rows home past))) answer
+AnswersSo opening past home p (Ask.Lock u m) answer = TellsReply (ops.Lock u m) (home_lock_reply opening past p u m) answer
+AnswersSo opening past home p (Ask.ListLocks after) answer = TellsReply (ops.List home after) (list_reply (rows_after after (rows home past))) answer
 AnswersSo opening past home p ask answer = Unit {0}
 
 abbrev pub SaysSo : Start → List StoreEffect → ℕ → Note → Type 0

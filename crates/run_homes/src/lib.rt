@@ -1,4 +1,4 @@
-//! Laws of homes: they are what the history of a run says of them, at each place.
+//! Laws of homes and of locks: homes are what the history says, and what processes keep stands there.
 #![tactic(auto)]
 
 pub mod laws;

@@ -13,7 +13,6 @@ use Rattle.fault_handler.specs.Invariant.{IsProc}
 use Rattle.fault_handler.proofs.Fours.{by_proc}
 use Rattle.node_runs.specs.Setups.{Setup, IsSetup, given}
 use Rattle.node_runs.specs.NodeStates.{OpenOp, ProcState, NodeState, proc_of, name_of, first_node}
-use Rattle.node_runs.specs.Outcomes.{Stepped}
 use Rattle.node_runs.specs.Doings.{ticked}
 use Rattle.node_runs.specs.Notes.{Note}
 use Rattle.node_runs.specs.NodesKeep.{IsTimely}
@@ -26,7 +25,7 @@ use Rattle.node_runs.proofs.SettingUp.{setup-procs}
 use Rattle.run_calls.specs.Progress.{Progress, opens, goes_on, again, did, told, pauses, is_done, IsApart, rests, comes}
 use Rattle.run_calls.specs.DecidedReplies.{proc_at}
 use Rattle.run_calls.specs.Heard.{AreHeard}
-use Rattle.run_calls.proofs.HearingRuns.{IsKeptNext, proc-step, heard-are, every-kept-run}
+use Rattle.run_calls.proofs.HearingRuns.{IsKeptNext, proc-step, heard-are, every-kept-run, event}
 use Rattle.run_effects.specs.NotedDeeds.{note_deeds}
 
 -- the operation began there, and since then nothing was done by its process or told to it
@@ -54,8 +53,7 @@ pub record AreAlone (s : Setup) (w : World) : Type 0 where
   pub nodes : EachOf (λ (j : Noted). is_node s.opening j.place.node ≡ true) w.trace
 
 module _ (s : Setup) (setup : IsSetup s) (old : World) (c : Choice) (new : World) (next : IsKeptNext s old c new) (heard : AreHeard s old) (alone : AreAlone s old) where
-  abbrev step : Stepped
-  step = next.is.step
+  open event s old c new next use {step}
 
   abbrev m : NodeState
   m = ticked (old.nodes c.node) next.is.incoming

@@ -13,14 +13,14 @@ use Rattle.fault_handler.specs.declared.entries.LockEntry.{LockEntry}
 use Rattle.fault_handler.specs.Entries.{entry_of, state_in, keeps_writing}
 use Rattle.node_runs.specs.NodeStates.{Asked, Await, OpenOp}
 use Rattle.node_runs.specs.RunHistories.{is_fault, change_reply}
-use Rattle.run_nodes.specs.ToldAnswers.{Tells, IsReleaseFault, IsFaultOf}
-use Rattle.run_nodes.specs.WaitingReleases.{SendsHome}
+use Rattle.run_desks.specs.ToldAnswers.{TellsReply, IsReleaseFault, IsFaultOf}
+use Rattle.run_desks.specs.WaitingReleases.{SendsHome}
 
 -- it tells a change, or nothing was done
 abbrev pub TellsChange : Op → Reply → Answer → Type 0
 TellsChange op reply answer = (change_reply answer ≡ Some reply) ⊎ ((change_reply answer ≡ None) × ((p : ProcName) → store_effect p op reply ≡ []))
 
-pub tells-change : (op : Op) (reply : Reply) (answer : Answer) → Tells op reply answer → TellsChange op reply answer
+pub tells-change : (op : Op) (reply : Reply) (answer : Answer) → TellsReply op reply answer → TellsChange op reply answer
 tells-change (ops.New home kind room) reply (Answer.Made u) is = inl (ap (λ r. Some r) (sym is))
 tells-change (ops.New home kind room) reply Answer.NoSpace is = inr (refl, λ p. ap (store_effect p (ops.New home kind room)) is)
 tells-change (ops.New home kind room) reply answer is = absurd is
@@ -37,7 +37,7 @@ tells-change (ops.Delete u) reply answer is = absurd is
 tells-change op reply answer is = absurd is
 
 -- no answer is a link fault
-pub tells-none : (op : Op) (reply : Reply) (answer : Answer) → Tells op reply answer → is_fault reply ≡ true → ⊥
+pub tells-none : (op : Op) (reply : Reply) (answer : Answer) → TellsReply op reply answer → is_fault reply ≡ true → ⊥
 tells-none (ops.New home kind room) reply (Answer.Made u) is fault = absurd (let f : false ≡ true = sym (ap is_fault is) ∙ fault in cc)
 tells-none (ops.New home kind room) reply Answer.NoSpace is fault = absurd (let f : false ≡ true = sym (ap is_fault is) ∙ fault in cc)
 tells-none (ops.New home kind room) reply answer is fault = absurd is

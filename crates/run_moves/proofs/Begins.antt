@@ -15,7 +15,7 @@ use Rattle.dom_history.specs.Locks.{state}
 use Rattle.dom_history.specs.Replies.{Before, may_write}
 use Rattle.dom_history.specs.StoreEffects.{own}
 use Rattle.history_moves.specs.Asking.{MayAsk, MayFail}
-use Rattle.history_moves.specs.Moves.{history, told_to}
+use Rattle.history_moves.specs.HistoryMoves.{history, told_to}
 use Rattle.history_moves.proofs.Hearing.{told-before}
 use Rattle.history_moves.proofs.Standing.{fault-allowed}
 use Rattle.ring_messages.specs.Bodies.{Ask}
@@ -27,10 +27,10 @@ use Rattle.node_runs.specs.Runs.{World, Noted}
 use Rattle.node_runs.specs.RunHistories.{all_told, items_from, settled_op}
 use Rattle.node_runs.specs.CallsKeep.{EachOf}
 use Rattle.run_calls.specs.DecidedReplies.{proc_at}
-use Rattle.run_nodes.specs.ToldAnswers.{IsReleaseFault, IsFaultOf}
+use Rattle.run_desks.specs.ToldAnswers.{IsReleaseFault, IsFaultOf}
 use Rattle.run_effects.specs.NotedEffects.{noted_past}
 use Rattle.run_effects.specs.NotedDeeds.{note_deeds, noted_deeds}
-use Rattle.run_replies.specs.DeskReplies.{before_note, MayBegin, IsDeskReply}
+use Rattle.run_moves.specs.DeskReplies.{before_note, MayBeThere, IsOneStoreNote}
 use Rattle.run_moves.specs.KnownRuns.{IsKnown}
 use Rattle.run_moves.proofs.Alone.{Alone, here, later}
 use Rattle.run_moves.proofs.Cuts.{all-of}
@@ -65,7 +65,7 @@ begin-split p op begun (m ∷ notes) (later quiet alone) =
     }
 
 -- an operation that is no load or store asks its home
-begin-asks : (s : Setup) (older : List Noted) (p : ProcName) (home : ℕ) (ask : Ask) (op : Op) → settled_op home ask ≡ Some op → MayBegin (before_note s older p) p op → MayAsk (own p (noted_deeds older)) op
+begin-asks : (s : Setup) (older : List Noted) (p : ProcName) (home : ℕ) (ask : Ask) (op : Op) → settled_op home ask ≡ Some op → MayBeThere (before_note s older p) p op → MayAsk (own p (noted_deeds older)) op
 begin-asks s older p home ask (ops.New to kind room) of may = may
 begin-asks s older p home ask (ops.List to after) of may = may
 begin-asks s older p home ask (ops.Lock u m) of may = may
@@ -134,7 +134,7 @@ module _ (s : Setup) (older : List Noted) (before : List Item) (o : Pending) (pa
       ap (λ es. let b : Before = record { opening = s.opening; past = es; told = own o.proc (noted_deeds older) } in b) (sym past)
       ∙ ap (λ ds. let b : Before = record { opening = s.opening; past = (before_op s.opening before o.proc).past; told = ds } in b) (sym told)
 
-  pub fault-may : (op : Op) → o.op ≡ op → MayBegin (before_note s older o.proc) o.proc op → IsFaultOf op ask reply → WritesKept (own o.proc (noted_deeds older)) op reply → IsAllowed (before_op s.opening before o.proc) o.proc o.op reply
+  pub fault-may : (op : Op) → o.op ≡ op → MayBeThere (before_note s older o.proc) o.proc op → IsFaultOf op ask reply → WritesKept (own o.proc (noted_deeds older)) op reply → IsAllowed (before_op s.opening before o.proc) o.proc o.op reply
   fault-may (ops.Load spot count) same may fault writes =
       subst (λ z. IsAllowed (before_op s.opening before o.proc) o.proc z reply) (sym same)
       (subst (λ b. IsAllowed b o.proc (ops.Load spot count) reply) same-before (subst (λ r. IsAllowed (record { opening = s.opening; past = noted_past older; told = own o.proc (noted_deeds older) }) o.proc (ops.Load spot count) r) (sym fault) may))
@@ -160,8 +160,8 @@ module _ (s : Setup) (w : World) (known : IsKnown s w) (n k : ℕ) (proc : IsPro
   abbrev mine : Pending
   mine = record { begun = b.begun; proc = proc_at n k; op = b.op }
 
-  pub began-may : MayBegin (before_note s split.older (proc_at n k)) (proc_at n k) b.op
-  began-may = subst (IsDeskReply s split.older) split.note (known.desks split.newer split.older split.it split.parts)
+  pub began-may : MayBeThere (before_note s split.older (proc_at n k)) (proc_at n k) b.op
+  began-may = subst (IsOneStoreNote s split.older) split.note (known.desks split.newer split.older split.it split.parts)
 
   pub began-asks : (home : ℕ) (ask : Ask) → settled_op home ask ≡ Some b.op → MayAsk (own (proc_at n k) (noted_deeds split.older)) b.op
   began-asks home ask of = begin-asks s split.older (proc_at n k) home ask b.op of began-may

@@ -5,10 +5,12 @@ use Rattle.std.specs.Option.{option_map}
 use Rattle.std.proofs.lemmas.Bool.Decides.{nat_tests}
 use Rattle.std.proofs.lemmas.List.Elements.{All-cons, All-nil}
 use Rattle.std.proofs.lemmas.List.Kept.{AllPairs-cons}
+use Rattle.std.proofs.lemmas.Option.{same_Some}
 use Rattle.uid_names.specs.Openings.{IsStart, IsDeclarable}
 use Rattle.uid_names.specs.Beginnings.{CanHomeBegin}
 use Rattle.uid_names.specs.declared.opening.Object.{Object}
 use Rattle.uid_names.specs.declared.mode.ObjKind.TheVariants.{File}
+use Rattle.uid_names.proofs.Somes.{map-some}
 use Rattle.dom_history.specs.Follows.{Heard}
 use Rattle.dom_history.specs.Plans.{is_set, IsPlan}
 use Rattle.dom_history.specs.Ranges.{IsWant}
@@ -22,7 +24,6 @@ use Rattle.node_runs.specs.NodeStates.{NodeState}
 use Rattle.node_runs.specs.Runs.{World}
 use Rattle.node_runs.specs.RunHistories.{history_of}
 use Rattle.node_runs.proofs.Calls.{put-other}
-use Rattle.node_runs.proofs.Somes.{some-is, map-some}
 use Rattle.world_runs.specs.ByPlace.{by_place}
 use Rattle.world_runs.specs.Draws.{draws, turns, IsBelow}
 use Rattle.world_runs.specs.Picked.{IsPicked}
@@ -119,7 +120,7 @@ module _ (w : World) (comes : turns doubtful.setup doubtful.plan 0 14 ≡ Some w
 
   tick-low : (n tick : ℕ) → option_map (λ (v : World). (v.nodes n).tick) (turns doubtful.setup doubtful.plan 0 14) ≡ Some tick → tick < 2 ^ 40 → (w.nodes n).tick < 2 ^ 40
   tick-low n tick is low =
-      let same = some-is (w.nodes n).tick tick (ap (option_map (λ (v : World). (v.nodes n).tick)) (sym comes) ∙ is) in
+      let same = same_Some (w.nodes n).tick tick (ap (option_map (λ (v : World). (v.nodes n).tick)) (sym comes) ∙ is) in
       omega (arith, same, low)
 
   below : IsBelow (2 ^ 40) w
@@ -129,7 +130,7 @@ module _ (w : World) (comes : turns doubtful.setup doubtful.plan 0 14 ≡ Some w
   below (suc (suc (suc n))) = let none = no-tick n in omega (arith, none)
 
   nothing : enabled_events doubtful.setup doubtful.plan w ≡ []
-  nothing = some-is (enabled_events doubtful.setup doubtful.plan w) [] (ap (option_map (enabled_events doubtful.setup doubtful.plan)) (sym comes) ∙ ends)
+  nothing = same_Some (enabled_events doubtful.setup doubtful.plan w) [] (ap (option_map (enabled_events doubtful.setup doubtful.plan)) (sym comes) ∙ ends)
 
 pub picked : IsPicked doubtful.setup doubtful.plan 0 (2 ^ 40) doubtful.events
 picked =

@@ -4,9 +4,8 @@ use Rattle.std.proofs.lemmas.Bool.{cases_eq}
 use Rattle.std.proofs.lemmas.Bool.Decides.{nat_tests}
 use Rattle.uid_names.specs.Names.{ProcName, same_proc}
 use Rattle.uid_names.specs.Openings.{Start}
-use Rattle.uid_names.specs.declared.ids.Place.{Place}
-use Rattle.dom_history.specs.Histories.{Item, Pending, place_lt}
-use Rattle.history_moves.specs.Moves.{history}
+use Rattle.dom_history.specs.Histories.{Item, Pending}
+use Rattle.history_moves.specs.HistoryMoves.{history}
 use Rattle.fault_handler.specs.Invariant.{IsProc}
 use Rattle.node_runs.specs.NodeStates.{ProcState, NodeState, proc_of}
 use Rattle.node_runs.specs.Outcomes.{Stepped}
@@ -53,9 +52,3 @@ moved-history opening is js was now ps qs open_was open_now a b c d moved =
     (subst (λ x. IsMovedOrSame opening (history is x) (history now open_now)) (sym b)
     (subst (λ x. IsMovedOrSame opening (history is ps) (history x open_now)) (sym c)
     (subst (λ x. IsMovedOrSame opening (history is ps) (history js x)) (sym d) moved)))
-
-pub lt-irreflexive : (x : Place) → place_lt x x ≡ true → ⊥
-lt-irreflexive x is = absurd (let f : true ≡ false = grind (arith, nat_tests, is) in cc)
-
-pub lt-trans : (a b d : Place) → place_lt a b ≡ true → place_lt b d ≡ true → place_lt a d ≡ true
-lt-trans a b d f g = grind (arith, nat_tests, f, g)

@@ -2,6 +2,7 @@
 use Rattle.std.proofs.Common.{◌≡◌, ℕ, ◌<◌, ◌≤◌, true, List, [], ◌∷◌, ◌++◌, Option, Some, None, inl, inr, refl, sym, ap, subst, ◌∙◌, arith}
 use Rattle.std.specs.Prelude.{◌⊎◌, IsTrue, All, not}
 use Rattle.std.proofs.lemmas.Bool.Decides.{nat_tests}
+use Rattle.std.proofs.lemmas.Option.{same_Some}
 use Rattle.uid_names.proofs.ListLemmas.{by_cases}
 use Rattle.uid_names.proofs.Orders.{same_proc_is}
 use Rattle.uid_names.specs.Names.{ProcName, same_proc}
@@ -15,7 +16,7 @@ use Rattle.dom_history.specs.Legal.{IsLegal, IsAllowed, IsIdle, IsLeftOpen, MayA
 use Rattle.dom_history.specs.Objects.{is_node}
 use Rattle.dom_history.specs.Replies.{Before}
 use Rattle.dom_history.specs.StoreEffects.{own, store_effects}
-use Rattle.history_moves.specs.Moves.{history, entry_of, act_of, IsEnd, IsNoActOf, MayEndAct, begins, does, finishes, acts}
+use Rattle.history_moves.specs.HistoryMoves.{history, entry_of, act_of, IsEnd, IsNoActOf, MayEndAct, begins, does, finishes, acts}
 use Rattle.history_moves.proofs.Lists.{All-without, SomeOf-left, SomeOf-right}
 use Rattle.history_moves.proofs.Acting.{may_end-act, may_end-idle, may_end-open}
 use Rattle.history_moves.proofs.Opens.{begins-at_end}
@@ -26,7 +27,6 @@ use Rattle.node_runs.specs.NodeStates.{Asked, Await, BegunOp, OpenOp, proc_of}
 use Rattle.node_runs.specs.Agreements.{Agrees}
 use Rattle.node_runs.specs.Dones.{asking}
 use Rattle.node_runs.specs.Notes.{Told, Note}
-use Rattle.node_runs.specs.Outcomes.{Stepped}
 use Rattle.node_runs.specs.NodesKeep.{IsTimely}
 use Rattle.node_runs.specs.Runs.{World, Noted, Choice, world_after}
 use Rattle.node_runs.specs.RunHistories.{is_fault, settled_op, change_reply, act_item, entry_at, told_item, open_item, settled_item, decided_item, begun_item, fault_item, all_told, told_by, doing_of, ended_at, ended_by, items_of, items_from, pending_to, pending_in, history_in}
@@ -36,32 +36,32 @@ use Rattle.node_runs.proofs.Worlds.{place_at}
 use Rattle.node_runs.proofs.Receiving.{EachOf-more}
 use Rattle.node_runs.proofs.Decisions.{decisions-are}
 use Rattle.node_runs.proofs.SettingUp.{setup-procs}
-use Rattle.node_runs.proofs.Somes.{some-is}
 use Rattle.node_runs.proofs.Ticks.{step_of-tick}
+use Rattle.node_runs.proofs.EachOf.{EachOf-at}
 use Rattle.run_calls.specs.DecidedReplies.{proc_at, WasDecided}
-use Rattle.run_calls.specs.Heard.{IsToldOf}
+use Rattle.run_calls.specs.Heard.{IsToldByDecision}
 use Rattle.run_calls.specs.LastCalls.{IsOpenNumber}
 use Rattle.run_calls.specs.Placed.{IsBegin, IsEndOf, IsPlaced, AreEndsPlaced}
 use Rattle.run_calls.specs.Progress.{IsSettling, IsPart}
 use Rattle.run_calls.proofs.Slots.{settles}
 use Rattle.run_calls.proofs.Walks.{others-not}
 use Rattle.run_calls.proofs.Hearing.{place-none}
-use Rattle.run_calls.proofs.HearingRuns.{IsKeptNext, heard-are}
+use Rattle.run_calls.proofs.HearingRuns.{IsKeptNext, heard-are, event}
 use Rattle.run_calls.proofs.Placing.{ends-placed}
 use Rattle.run_calls.proofs.Rising.{notes-rise}
-use Rattle.run_phases.specs.DecisionOrder.{IsDecidedAbove}
-use Rattle.run_phases.specs.SingleActs.{IsActOf}
-use Rattle.run_phases.proofs.DecisionOrder.{decisions-rise}
-use Rattle.run_phases.proofs.SingleActs.{open-no-act}
-use Rattle.run_phases.proofs.ToldRising.{told-rises}
-use Rattle.run_nodes.specs.AskedHomes.{IsOpenAtHome}
-use Rattle.run_nodes.specs.KeptLocks.{IsKeptWithout}
-use Rattle.run_nodes.proofs.AskedHomes.{opens-at-homes}
-use Rattle.run_nodes.proofs.KeptLocks.{kept-without}
-use Rattle.run_nodes.proofs.ToldAnswers.{calling-own}
+use Rattle.run_calls.specs.DecisionOrder.{IsDecidedAbove}
+use Rattle.run_calls.specs.SingleActs.{IsActOf}
+use Rattle.run_calls.proofs.DecisionOrder.{decisions-rise}
+use Rattle.run_calls.proofs.SingleActs.{open-no-act}
+use Rattle.run_calls.proofs.ToldRising.{told-rises}
+use Rattle.run_desks.specs.AskedHomes.{IsOpenAtHome}
+use Rattle.run_desks.specs.KeptLocks.{IsKeptWithout}
+use Rattle.run_desks.proofs.AskedHomes.{opens-at-homes}
+use Rattle.run_desks.proofs.KeptLocks.{kept-without}
+use Rattle.run_desks.proofs.ToldAnswers.{calling-own}
 use Rattle.run_effects.specs.NotedDeeds.{noted_deeds}
-use Rattle.run_replies.specs.DeskReplies.{before_note, IsDeskReply}
-use Rattle.run_replies.specs.HomeReplies.{IsHomeReply}
+use Rattle.run_moves.specs.DeskReplies.{before_note, IsOneStoreNote}
+use Rattle.run_moves.specs.HomeReplies.{IsHomeReply}
 use Rattle.run_moves.specs.KnownRuns.{IsKnown}
 use Rattle.run_moves.specs.MovedHistories.{IsMovedOrSame, stays, moves}
 use Rattle.run_moves.proofs.Alone.{Alone, here, later, IsAloneDoing, alone-are}
@@ -69,8 +69,8 @@ use Rattle.run_moves.proofs.Answers.{faults-are}
 use Rattle.run_moves.proofs.Cuts.{AreCut, all-of, pending-each, pending-cut}
 use Rattle.run_moves.proofs.Events.{after, moved-history}
 use Rattle.run_moves.proofs.InOrder.{told-op, acts-in-order}
-use Rattle.run_moves.proofs.ItemViews.{IsAmong, found, absent, find-call, decided-last}
-use Rattle.run_moves.proofs.Orders.{each-in, ended-is}
+use Rattle.run_moves.proofs.ItemViews.{IsAmong, found, absent, decided-last, found-call}
+use Rattle.run_moves.proofs.Orders.{ended-is}
 use Rattle.run_moves.proofs.SameItems.{items-same, untold-same, SettlingOpen, open-settling}
 use Rattle.run_moves.proofs.Standing.{items-at, home-is, since-of, no-act}
 
@@ -102,8 +102,7 @@ module _ (s : Setup) (setup : IsSetup s) (cs : List Choice) (old : World) (e : w
     (e_after : world_after s (c ∷ cs) ≡ Some (after old c next.is.step)) (timely_after : IsTimely (after old c next.is.step)) (known_after : IsKnown s (after old c next.is.step)) (legal : IsLegal s.opening (history_in s old))
     (quiet : told_by next.is.step.note ≡ [])
     (keeps : (p : ProcName) → IsProc p.number → (b : BegunOp) (k : Asked) → doing_of old p ≡ asking b k → IsSettling k.ask → (r : OpenOp) × (doing_of (after old c next.is.step) p ≡ Some r) × (r.began ≡ b)) where
-  abbrev step : Stepped
-  step = next.is.step
+  open event s old c new next use {step}
 
   abbrev so_far : List Told
   so_far = all_told old.trace
@@ -193,7 +192,7 @@ module _ (s : Setup) (setup : IsSetup s) (cs : List Choice) (old : World) (e : w
         ∙ ap (λ ds. let b : Before = record { opening = s.opening; past = store_effects (deeds items); told = ds } in b) (sym (known.deeds c.node p proc))
 
     allowed : IsAllowed (before_op s.opening items me) me op reply
-    allowed = subst (λ b. IsAllowed b me op reply) same-before (subst (IsDeskReply s old.trace) noted (known_after.desks [] old.trace _ refl))
+    allowed = subst (λ b. IsAllowed b me op reply) same-before (subst (IsOneStoreNote s old.trace) noted (known_after.desks [] old.trace _ refl))
 
     pub does-moves : doing_of old me ≡ None → pending_to then_world s.opening.nodes ≡ pends → Result
     does-moves none same =
@@ -249,7 +248,7 @@ module _ (s : Setup) (setup : IsSetup s) (cs : List Choice) (old : World) (e : w
       -- for an operation that a fault left open
       module _ (t : Told) (is : ended_by who i so_far ≡ Some t) (named : t.proc ≡ who) (number : t.number ≡ i) (among : IsAmong t so_far) where
         fault-told : is_fault t.reply ≡ true
-        fault-told = elim (each-in (IsToldOf old.trace) t so_far (heard-are s setup (setup-procs s setup) cs old e timely).decided among) [
+        fault-told = elim (EachOf-at (IsToldByDecision old.trace) t so_far (heard-are s setup (setup-procs s setup) cs old e timely).decided among) [
           | inl fault ↦ fault
           | inr was ↦ absurd (others-not who i old.trace first-now (subst (λ z. WasDecided old.trace z i) named (subst (λ z. WasDecided old.trace t.proc z) number was)))
         ]
@@ -274,7 +273,7 @@ module _ (s : Setup) (setup : IsSetup s) (cs : List Choice) (old : World) (e : w
           left-by = elim (faults-are t.reply fault-told) [
             | inr doubt ↦ doubt
             | inl kept ↦ absurd (
-                let without : IsKeptWithout s then_world t = each-in (IsKeptWithout s then_world) t (all_told then_world.trace) (kept-without s setup (c ∷ cs) then_world e_after timely_after) among-now in
+                let without : IsKeptWithout s then_world t = EachOf-at (IsKeptWithout s then_world) t (all_told then_world.trace) (kept-without s setup (c ∷ cs) then_world e_after timely_after) among-now in
                 let none = subst (EachOf (λ y. IsActOf t.proc t.begun y → ⊥)) (items-now ∙ ap (λ is. is ++ items) (ap (items_of then_world so_far x) noted ∙ gives-act (Some reply) change)) (without kept) in
                 none.0 (refl, refl))
           ]
@@ -326,7 +325,7 @@ module _ (s : Setup) (setup : IsSetup s) (cs : List Choice) (old : World) (e : w
             let agrees = subst (Agrees (old.nodes n).desk q (proc_of (old.nodes n) q).last) was ((next.kept.nodes n node).agrees q proc) in
             let at = subst IsOpenAtHome was (opens-at-homes s setup cs old e timely n node q proc) in
             let own_ask : settled_op k.home k.ask ≡ Some b.op = calling-own (old.nodes n).desk q b.op k.home k.ask at.1 agrees.1.0 open_now.settling in
-            some-is b.op op (sym own_ask ∙ (ap (λ h. settled_op h k.ask) open_now.of ∙ (ap (settled_op x.node) open_now.asks ∙ of)))
+            same_Some b.op op (sym own_ask ∙ (ap (λ h. settled_op h k.ask) open_now.of ∙ (ap (settled_op x.node) open_now.asks ∙ of)))
 
         gives-open : (change : Option Reply) → change_reply answer ≡ change → items_of then_world so_far x (Note.Decided who i ask answer) ≡ act_item x b.begun who b.op change
         gives-open change same_change = decided-as None is ∙ (ap (open_item x who op answer) open_now.doing ∙ (ap (act_item x b.begun who op) same_change ∙ ap (λ z. act_item x b.begun who z change) (sym same-op)))
@@ -351,7 +350,7 @@ module _ (s : Setup) (setup : IsSetup s) (cs : List Choice) (old : World) (e : w
       settled-moves : Result
       settled-moves =
           let last = decided-last s setup (c ∷ cs) then_world e_after timely_after x who i ask answer settling decided-now in
-          elim (find-call who i so_far) [
+          elim (found-call who i so_far) [
             | found t is named number among ↦ left-moves t is named number among (change_reply answer) refl
             | absent is none ↦ open-moves is last.0 (elim last.1 [ inl mine ↦ mine | inr gone ↦ absurd (none (subst (λ ts. SomeOf (λ (t : Told). (t.proc ≡ who) × (t.number ≡ i)) (ts ++ so_far)) quiet gone)) ]) (change_reply answer) refl
           ]

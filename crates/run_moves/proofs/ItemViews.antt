@@ -1,11 +1,12 @@
 -- What the items of a run's history are: each is of one note, and of what was told or is open.
 use Rattle.std.proofs.Common.{◌≡◌, ℕ, Bool, true, false, List, [], ◌∷◌, Option, Some, None, inl, inr, refl, sym, ap, subst, ◌∙◌}
-use Rattle.std.specs.Prelude.{◌==◌, ◌&&◌, if◌then◌else◌}
 use Rattle.std.proofs.lemmas.Bool.{eq-eqb}
+use Rattle.std.specs.Prelude.{◌==◌, ◌&&◌, if◌then◌else◌}
 use Rattle.uid_names.proofs.ListLemmas.{by_cases}
-use Rattle.uid_names.proofs.Orders.{same_proc_is}
+use Rattle.uid_names.proofs.Orders.{same_proc_is, same_proc-itself}
 use Rattle.uid_names.specs.Names.{ProcName, same_proc}
 use Rattle.uid_names.specs.declared.ids.Place.{Place}
+use Rattle.uid_names.proofs.Passed.{left-true, right-true, equal}
 use Rattle.dom_history.specs.declared.op.Op.{Op}
 use Rattle.dom_history.specs.declared.op.Reply.{Reply}
 use Rattle.dom_history.specs.Histories.{Item, Answered, Acted, SomeOf, same_place}
@@ -18,12 +19,11 @@ use Rattle.node_runs.specs.Runs.{World, Noted, Choice, world_after}
 use Rattle.node_runs.specs.RunHistories.{is_fault, settled_op, change_reply, act_item, entry_at, all_told, fault_item, begun_item, told_item, open_item, settled_item, decided_item, doing_of, ended_at, ended_by, items_of, items_from}
 use Rattle.node_runs.specs.CallsKeep.{EachOf}
 use Rattle.node_runs.specs.DecidedCalls.{IsDecided}
-use Rattle.node_runs.proofs.Bools.{left-true, right-true, equal}
 use Rattle.node_runs.proofs.Receiving.{EachOf-more}
 use Rattle.run_calls.specs.DecidedReplies.{proc_at}
 use Rattle.run_calls.specs.LastCalls.{HasNumber, IsOpenNumber, IsOpenOrTold}
 use Rattle.run_calls.specs.Progress.{IsSettling}
-use Rattle.run_calls.proofs.Slots.{settles, place-is, same_proc-refl}
+use Rattle.run_calls.proofs.Slots.{settles, place-is}
 use Rattle.run_calls.proofs.Following.{EachOf-append}
 use Rattle.run_calls.proofs.Lasting.{last-calls-are, calls-of-procs}
 use Rattle.fault_handler.specs.Invariant.{IsProc}
@@ -36,15 +36,15 @@ pub data FoundCall (p : ProcName) (number : ℕ) (ts : List Told) : Type 0 where
   found : (t : Told) → ended_by p number ts ≡ Some t → t.proc ≡ p → t.number ≡ number → IsAmong t ts → FoundCall p number ts
   absent : ended_by p number ts ≡ None → (SomeOf (λ (t : Told). (t.proc ≡ p) × (t.number ≡ number)) ts → ⊥) → FoundCall p number ts
 
-pub find-call : (p : ProcName) (number : ℕ) (ts : List Told) → FoundCall p number ts
-find-call p number [] = absent refl (λ none. none)
-find-call p number (t ∷ ts) = by_cases (same_proc t.proc p && (t.number == number)) (FoundCall p number (t ∷ ts))
+pub found-call : (p : ProcName) (number : ℕ) (ts : List Told) → FoundCall p number ts
+found-call p number [] = absent refl (λ none. none)
+found-call p number (t ∷ ts) = by_cases (same_proc t.proc p && (t.number == number)) (FoundCall p number (t ∷ ts))
     (λ h. found t (ap (λ b. if b then Some t else ended_by p number ts) h) (same_proc_is t.proc p (left-true _ _ h)) (equal t.number number (right-true (same_proc t.proc p) _ h)) (inl refl))
-    (λ h. elim (find-call p number ts) [
+    (λ h. elim (found-call p number ts) [
       | found u is named same some ↦ found u (ap (λ b. if b then Some t else ended_by p number ts) h ∙ is) named same (inr some)
       | absent is none ↦ absent (ap (λ b. if b then Some t else ended_by p number ts) h ∙ is) (λ some. elim some [
         | inl here ↦
-            (let e : (same_proc t.proc p && (t.number == number)) ≡ true = ap (λ b. b && (t.number == number)) (subst (λ q. same_proc t.proc q ≡ true) here.0 (same_proc-refl t.proc)) ∙ eq-eqb t.number number here.1 in
+            (let e : (same_proc t.proc p && (t.number == number)) ≡ true = ap (λ b. b && (t.number == number)) (subst (λ q. same_proc t.proc q ≡ true) here.0 (same_proc-itself t.proc)) ∙ eq-eqb t.number number here.1 in
             absurd (let f : true ≡ false = sym e ∙ h in cc))
         | inr there ↦ none there
       ])
@@ -85,7 +85,7 @@ module _ (s : Setup) (setup : IsSetup s) (cs : List Choice) (w : World) (e : wor
   decided-last x p number ask answer settling decided =
       let proc = calls-of-procs s setup cs w e timely p.node p.number number x.node ask decided.1 in (
         proc,
-        subst (λ q. IsOpenOrTold q number (proc_of (w.nodes p.node) p.number) so_far) (same_proc_is (proc_at p.node p.number) p (same_proc-refl p))
+        subst (λ q. IsOpenOrTold q number (proc_of (w.nodes p.node) p.number) so_far) (same_proc_is (proc_at p.node p.number) p (same_proc-itself p))
             (last-calls-are s setup cs w e timely p.node p.number proc number x.node ask decided.1 settling),
       )
 
@@ -107,7 +107,7 @@ module _ (s : Setup) (setup : IsSetup s) (cs : List Choice) (w : World) (e : wor
 
   settled-view : (j : Noted) (p : ProcName) (number : ℕ) (ask : Ask) (answer : Answer) (op : Op) → j.note ≡ Note.Decided p number ask answer → settled_op j.place.node ask ≡ Some op → IsOpenOrTold p number (proc_of (w.nodes p.node) p.number) so_far
       → Views j (settled_item j.place p op answer (ended_by p number so_far) (doing_of w p))
-  settled-view j p number ask answer op is of last = by (find-call p number so_far)
+  settled-view j p number ask answer op is of last = by (found-call p number so_far)
     where
       named_so : (t : Told) → t.proc ≡ p → t.number ≡ number → j.note ≡ Note.Decided t.proc t.number ask answer
       named_so t named same = subst (λ q. j.note ≡ Note.Decided q t.number ask answer) (sym named) (subst (λ k. j.note ≡ Note.Decided p k ask answer) (sym same) is)

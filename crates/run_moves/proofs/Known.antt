@@ -2,10 +2,10 @@
 use Rattle.node_runs.specs.Setups.{Setup, IsSetup}
 use Rattle.run_effects.proofs.NotedEffects.{effects-noted}
 use Rattle.run_effects.proofs.NotedDeeds.{deeds-told}
-use Rattle.run_told.proofs.States.{states-told}
-use Rattle.run_stores.proofs.StoresAre.{reads-are}
-use Rattle.run_replies.proofs.DeskReplies.{desks-reply}
-use Rattle.run_replies.proofs.HomeReplies.{homes-reply}
+use Rattle.run_effects.proofs.States.{states-told}
+use Rattle.run_contents.proofs.StoresAre.{reads-are}
+use Rattle.run_moves.proofs.DeskReplies.{desks-reply}
+use Rattle.run_moves.proofs.HomeReplies.{homes-reply}
 use Rattle.run_moves.specs.KnownRuns.{IsAlwaysKnown}
 
 pub known-always : (s : Setup) → IsSetup s → IsAlwaysKnown s

@@ -1,3 +1,16 @@
+pub mod ReplyMoving
+pub mod AskedRooms
+pub mod ShownObjects
+pub mod PresentRooms
+pub mod HomeReplies
+pub mod PartBytes
+pub mod DeskTurns
+pub mod MapTurns
+pub mod HomeBegins
+pub mod Elsewhere
+pub mod DeskLike
+pub mod CameTurns
+pub mod DeskReplies
 pub mod Cuts
 pub mod Alone
 pub mod ItemViews

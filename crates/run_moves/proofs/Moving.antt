@@ -3,7 +3,8 @@ use Rattle.std.proofs.Common.{◌≡◌, ◌≢◌, ℕ, ◌≤◌, Bool, true, 
 use Rattle.std.specs.Prelude.{map}
 use Rattle.std.proofs.lemmas.Bool.{cases_eq}
 use Rattle.std.proofs.lemmas.Bool.Decides.{nat_tests}
-use Rattle.uid_names.proofs.Orders.{same_proc_is}
+use Rattle.std.proofs.lemmas.Option.{same_Some}
+use Rattle.uid_names.proofs.Orders.{same_proc_is, same_proc-itself}
 use Rattle.uid_names.specs.Names.{ProcName, same_proc}
 use Rattle.uid_names.specs.Openings.{Start}
 use Rattle.uid_names.specs.declared.ids.Place.{Place}
@@ -13,7 +14,7 @@ use Rattle.dom_history.specs.declared.op.Want.TheVariants.{Do}
 use Rattle.dom_history.specs.Events.{Happening}
 use Rattle.dom_history.specs.Histories.{Pending}
 use Rattle.dom_history.specs.Legal.{IsLegal}
-use Rattle.history_moves.specs.Moves.{history}
+use Rattle.history_moves.specs.HistoryMoves.{history}
 use Rattle.history_moves.proofs.Moving.{legal-moved}
 use Rattle.fault_handler.specs.Invariant.{IsProc}
 use Rattle.fault_handler.proofs.Fours.{by_proc}
@@ -23,7 +24,6 @@ use Rattle.node_runs.specs.Dones.{asking}
 use Rattle.node_runs.specs.Doings.{noticed_call, ticked}
 use Rattle.node_runs.specs.Following.{IsWanted}
 use Rattle.node_runs.specs.Notes.{Note}
-use Rattle.node_runs.specs.Outcomes.{Stepped}
 use Rattle.node_runs.specs.NodesKeep.{IsTimely}
 use Rattle.node_runs.specs.Runs.{World, Choice, choice_of, first_world, then_next, world_after, world_of}
 use Rattle.node_runs.specs.RunHistories.{told_by, doing_of, items_of, all_told, pending_to, pending_in, history_in, history_if, history_of}
@@ -32,14 +32,12 @@ use Rattle.node_runs.proofs.Calls.{calls-are, put-same, put-other}
 use Rattle.node_runs.proofs.Decisions.{decisions-are}
 use Rattle.node_runs.proofs.Running.{run-keeps}
 use Rattle.node_runs.proofs.SettingUp.{setup-procs}
-use Rattle.node_runs.proofs.Somes.{some-is}
 use Rattle.node_runs.proofs.Ticks.{step_of-tick}
 use Rattle.node_runs.proofs.Worlds.{IsNext, place_at, next-is}
 use Rattle.run_calls.specs.DecidedReplies.{proc_at}
 use Rattle.run_calls.specs.Progress.{IsSettling, IsPart, IsPartDoing, Progress, opens, goes_on, again, did, told, pauses, is_done, IsApart, rests, comes}
-use Rattle.run_calls.proofs.HearingRuns.{IsKeptNext, proc-step, heard-are}
+use Rattle.run_calls.proofs.HearingRuns.{IsKeptNext, proc-step, heard-are, event}
 use Rattle.run_calls.proofs.Replies.{replies-are}
-use Rattle.run_calls.proofs.Slots.{same_proc-refl}
 use Rattle.run_moves.specs.KnownRuns.{IsKnown, IsAlwaysKnown}
 use Rattle.run_moves.specs.MovedHistories.{IsMovedOrSame, stays, moves}
 use Rattle.run_moves.proofs.Cuts.{AreCut, pending-same, pending-cut, pending-each}
@@ -53,8 +51,7 @@ KeepsOpen old now = (p : ProcName) → IsProc p.number → (b : BegunOp) (k : As
 
 module _ (s : Setup) (setup : IsSetup s) (cs : List Choice) (old : World) (e : world_after s cs ≡ Some old) (timely : IsTimely old) (known : IsKnown s old) (c : Choice) (new : World) (next : IsKeptNext s old c new)
     (e_after : world_after s (c ∷ cs) ≡ Some (after old c next.is.step)) (timely_after : IsTimely (after old c next.is.step)) (known_after : IsKnown s (after old c next.is.step)) (legal : IsLegal s.opening (history_in s old)) where
-  abbrev step : Stepped
-  step = next.is.step
+  open event s old c new next use {step}
 
   abbrev then_world : World
   then_world = after old c step
@@ -84,7 +81,7 @@ module _ (s : Setup) (setup : IsSetup s) (cs : List Choice) (old : World) (e : w
         nothing-stays s setup cs old e timely known c new next e_after timely_after known_after legal (ap told_by is) rest-keeps (ap (items_of then_world (all_told old.trace) (place_at c step)) is) same-pends
     rest-moves (Note.Decided q i ask answer) is apart =
         decided-moves s setup cs old e timely known c new next e_after timely_after known_after legal (ap told_by is) rest-keeps q.node q.number i ask answer
-        (is ∙ ap (λ z. Note.Decided z i ask answer) (sym (same_proc_is (proc_at q.node q.number) q (same_proc-refl q)))) same-pends (same-doing q.node q.number)
+        (is ∙ ap (λ z. Note.Decided z i ask answer) (sym (same_proc_is (proc_at q.node q.number) q (same_proc-itself q)))) same-pends (same-doing q.node q.number)
     rest-moves (Note.Began q op) is apart = absurd apart
     rest-moves (Note.Did q phase op reply) is apart = absurd apart
     rest-moves (Note.Ended t) is apart = absurd apart
@@ -154,7 +151,7 @@ module _ (s : Setup) (setup : IsSetup s) (cs : List Choice) (old : World) (e : w
         (ap (λ t. let y : Place = record { tick = t; node = c.node } in y) (step_of-tick (given s c.node) (old.nodes c.node) c.what next.is.incoming c.dropped step next.is.steps)) noted none (cut-at None _ none doing)
     come-moves (goes_on o a b part was doing awaits same noted) = quiet-moves _ _ was doing refl (part-kept a o part was) noted
     come-moves (again o k was doing last same noted) =
-        quiet-moves _ _ was doing refl (come-keeps (λ b j at settling. (record { began = o; awaits = Await.Answer (noticed_call k) }, doing, ap (λ (x : OpenOp). x.began) (some-is _ (record { began = b; awaits = Await.Answer j }) (sym was ∙ at))))) noted
+        quiet-moves _ _ was doing refl (come-keeps (λ b j at settling. (record { began = o; awaits = Await.Answer (noticed_call k) }, doing, ap (λ (x : OpenOp). x.began) (same_Some _ (record { began = b; awaits = Await.Answer j }) (sym was ∙ at))))) noted
     come-moves (did op reply part asks end noted) = desk-moves (proc_of m p).doing refl part op reply asks end.doing noted
     come-moves (told o k reply asks was end noted tells) =
         end-moves s setup cs old e timely known c new next e_after timely_after legal p proc o k reply was noted others-doing (cut-at (asking o k) None was end.doing)
@@ -227,7 +224,7 @@ module _ (s : Setup) (setup : IsSetup s) (known : IsAlwaysKnown s) where
 
   -- in every run
   pub legal-runs : (cs : List Choice) (w : World) → world_after s cs ≡ Some w → IsTimely w → IsLegal s.opening (history_in s w)
-  legal-runs [] w e timely = subst (λ (x : World). IsLegal s.opening (history_in s x)) (some-is (first_world s) w e) legal-first
+  legal-runs [] w e timely = subst (λ (x : World). IsLegal s.opening (history_in s x)) (same_Some (first_world s) w e) legal-first
   legal-runs (c ∷ cs) w e timely = one (world_after s cs) refl (λ old is was. legal-runs cs old is was)
     where
       one : (o : Option World) → world_after s cs ≡ o → ((old : World) → world_after s cs ≡ Some old → IsTimely old → IsLegal s.opening (history_in s old)) → IsLegal s.opening (history_in s w)

@@ -2,9 +2,10 @@
 use Rattle.std.proofs.Common.{◌≡◌, ℕ, ◌<◌, true, false, List, [], ◌∷◌, ◌++◌, Some, inl, inr, refl, sym, ap, subst, ◌∙◌, arith}
 use Rattle.std.specs.Prelude.{◌&&◌, if◌then◌else◌}
 use Rattle.uid_names.proofs.ListLemmas.{by_cases}
-use Rattle.uid_names.proofs.Orders.{same_proc_is}
+use Rattle.uid_names.proofs.Orders.{same_proc_is, same_proc-itself}
 use Rattle.uid_names.specs.Names.{ProcName, same_proc}
 use Rattle.uid_names.specs.declared.ids.Place.{Place}
+use Rattle.uid_names.proofs.Passed.{left-true, right-true}
 use Rattle.dom_history.specs.declared.deed.Deed.{Deed}
 use Rattle.dom_history.specs.declared.op.Op.{Op}
 use Rattle.dom_history.specs.Histories.{SomeOf, place_lt, same_place}
@@ -14,15 +15,15 @@ use Rattle.node_runs.specs.Runs.{Noted}
 use Rattle.node_runs.specs.RunHistories.{is_fault, told_by, all_told, ended_at}
 use Rattle.node_runs.specs.CallsKeep.{EachOf}
 use Rattle.node_runs.specs.DecidedCalls.{IsOther, IsFirst, AreDecidedOnce}
-use Rattle.node_runs.proofs.Bools.{left-true, right-true}
 use Rattle.node_runs.proofs.Receiving.{EachOf-more}
+use Rattle.node_runs.proofs.EachOf.{EachOf-at}
 use Rattle.run_calls.specs.DecidedReplies.{IsDecisionOf}
 use Rattle.run_calls.specs.Placed.{AreRisingNotes, IsDecidedBehind, IsEndOf, IsPlaced, AreEndsPlaced}
-use Rattle.run_calls.proofs.Slots.{place-is, same_place-refl, same_proc-refl}
+use Rattle.run_calls.proofs.Slots.{place-is, same_place-refl}
 use Rattle.run_calls.proofs.Walks.{first-other, other-not, others-not, settled-decides, SomeOf-more}
 use Rattle.run_calls.proofs.HearingRuns.{SomeOf-both}
-use Rattle.run_phases.specs.DecisionOrder.{IsDecidedBelow, IsDecidedAbove, AreDecisionsRising}
-use Rattle.run_phases.specs.SingleActs.{IsToldLater, AreToldRising}
+use Rattle.run_calls.specs.DecisionOrder.{IsDecidedBelow, IsDecidedAbove, AreDecisionsRising}
+use Rattle.run_calls.specs.SingleActs.{IsToldLater, AreToldRising}
 use Rattle.run_effects.specs.NotedDeeds.{note_deeds}
 use Rattle.run_moves.proofs.ItemViews.{IsAmong}
 use Rattle.run_moves.proofs.Alone.{Alone, here, later, IsAloneEnd, AreAloneEnds}
@@ -39,12 +40,6 @@ pub note-split : (P : Noted → Type 0) (notes : List Noted) → SomeOf P notes 
 note-split P [] some = absurd some
 note-split P (j ∷ notes) (inl is) = record { newer = []; it = j; older = notes; parts = refl; is = is }
 note-split P (j ∷ notes) (inr some) = let r = note-split P notes some in record { newer = j ∷ r.newer; it = r.it; older = r.older; parts = ap (λ js. j ∷ js) r.parts; is = r.is }
-
--- what holds of each holds of one of them, of the one in the middle, and of a part
-pub each-in : {A : Type 0} (P : A → Type 0) (x : A) (xs : List A) → EachOf P xs → SomeOf (λ y. y ≡ x) xs → P x
-each-in P x [] each some = absurd some
-each-in P x (y ∷ xs) each (inl same) = subst P same each.0
-each-in P x (y ∷ xs) each (inr some) = each-in P x xs each.1 some
 
 pub each-middle : {A : Type 0} (P : A → Type 0) (xs : List A) (y : A) (ys : List A) → EachOf P (xs ++ y ∷ ys) → P y
 each-middle P [] y ys each = each.0
@@ -101,9 +96,9 @@ pub told-earlier : (t u : Told) → u.proc ≡ t.proc → u.number < t.number �
 told-earlier t u named less [] rising is other = absurd is
 told-earlier t u named less (v ∷ ts) rising (inl same) (inl at) = absurd (let e = ap (λ (x : Told). x.number) (sym same ∙ at) in omega (arith, e, less))
 told-earlier t u named less (v ∷ ts) rising (inl same) (inr other) =
-    (subst (λ z. u.proc ≡ z.proc → (u.begun.tick < z.begun.tick) × (u.number < z.number)) same (each-in (IsToldLater v) u ts rising.0 other) named).0
+    (subst (λ z. u.proc ≡ z.proc → (u.begun.tick < z.begun.tick) × (u.number < z.number)) same (EachOf-at (IsToldLater v) u ts rising.0 other) named).0
 told-earlier t u named less (v ∷ ts) rising (inr is) (inl at) = absurd (
-    let f = (subst (λ z. t.proc ≡ z.proc → (t.begun.tick < z.begun.tick) × (t.number < z.number)) at (each-in (IsToldLater v) t ts rising.0 is) (sym named)).1 in
+    let f = (subst (λ z. t.proc ≡ z.proc → (t.begun.tick < z.begun.tick) × (t.number < z.number)) at (EachOf-at (IsToldLater v) t ts rising.0 is) (sym named)).1 in
     omega (arith, f, less))
 told-earlier t u named less (v ∷ ts) rising (inr is) (inr other) = told-earlier t u named less ts rising.1 is other
 
@@ -112,13 +107,13 @@ pub ended-is : (t : Told) (ts : List Told) → AreToldRising ts → IsAmong t ts
 ended-is t [] rising is = absurd is
 ended-is t (v ∷ ts) rising (inl same) =
     subst (λ z. ended_at t.proc t.begun (z ∷ ts) ≡ Some t) (sym same)
-    (let h : (same_proc t.proc t.proc && same_place t.begun t.begun) ≡ true = ap (λ z. z && same_place t.begun t.begun) (same_proc-refl t.proc) ∙ same_place-refl t.begun in
+    (let h : (same_proc t.proc t.proc && same_place t.begun t.begun) ≡ true = ap (λ z. z && same_place t.begun t.begun) (same_proc-itself t.proc) ∙ same_place-refl t.begun in
     ap (λ z. if z then Some t else ended_at t.proc t.begun ts) h)
 ended-is t (v ∷ ts) rising (inr is) = by_cases (same_proc v.proc t.proc && same_place v.begun t.begun) (ended_at t.proc t.begun (v ∷ ts) ≡ Some t)
     (λ h. absurd (
     let same_p = same_proc_is v.proc t.proc (left-true _ _ h) in
     let same_x = ap (λ (x : Place). x.tick) (place-is v.begun t.begun (right-true (same_proc v.proc t.proc) _ h)) in
-    let f = (each-in (IsToldLater v) t ts rising.0 is (sym same_p)).0 in
+    let f = (EachOf-at (IsToldLater v) t ts rising.0 is (sym same_p)).0 in
     omega (arith, same_x, f)))
     (λ h. ap (λ z. if z then Some v else ended_at t.proc t.begun ts) h ∙ ended-is t ts rising.1 is)
 
@@ -156,7 +151,7 @@ module _ (u : Told) (none : is_fault u.reply ≡ false) where
       by rest (Note.Ended v) quiet (inr some) = rest some
       by rest (Note.Ended v) quiet (inl same) =
           let d : Deed = record { proc = v.proc; op = v.op; reply = v.reply } in
-          let h : same_proc v.proc p ≡ true = subst (λ q. same_proc v.proc q ≡ true) (ap (λ (x : Told). x.proc) same ∙ named) (same_proc-refl v.proc) in
+          let h : same_proc v.proc p ≡ true = subst (λ q. same_proc v.proc q ≡ true) (ap (λ (x : Told). x.proc) same ∙ named) (same_proc-itself v.proc) in
           absurd (let f : d ∷ [] ≡ [] = sym (ap (λ z. if z then d ∷ [] else []) h) ∙ quiet in cc)
 
   pub told-before-begin : (t : Told) → u.proc ≡ t.proc → u.number < t.number → (notes : List Noted) → AreEndsPlaced notes → AreAloneEnds notes → AreRisingNotes notes → AreToldRising (all_told notes) → IsAmong t (all_told notes) → IsAmong u (all_told notes) → Below t.begun notes
@@ -171,6 +166,6 @@ module _ (u : Told) (none : is_fault u.reply ≡ false) where
       by rest (Note.Ended v) alone_end told (inl same) (inl at) = absurd (let f = ap (λ (x : Told). x.number) (sym same ∙ at) in omega (arith, f, less))
       by rest (Note.Ended v) alone_end told (inl same) (inr other) = inr (alone-order t.proc t.op t.begun named older (subst (λ (z : Told). Alone z.proc z.op z.begun older) same alone_end) ends.1 rising.1 other)
       by rest (Note.Ended v) alone_end told (inr is) (inl at) = absurd (
-          let f = (subst (λ z. t.proc ≡ z.proc → (t.begun.tick < z.begun.tick) × (t.number < z.number)) at (each-in (IsToldLater v) t (all_told older) told.0 is) (sym named)).1 in
+          let f = (subst (λ z. t.proc ≡ z.proc → (t.begun.tick < z.begun.tick) × (t.number < z.number)) at (EachOf-at (IsToldLater v) t (all_told older) told.0 is) (sym named)).1 in
           omega (arith, f, less))
       by rest (Note.Ended v) alone_end told (inr is) (inr other) = rest told.1 is other

@@ -22,17 +22,15 @@ use Rattle.node_runs.specs.NodeStates.{BegunOp, NodeState, proc_of, name_of}
 use Rattle.node_runs.specs.Incomings.{Incoming}
 use Rattle.node_runs.specs.Notes.{Note}
 use Rattle.node_runs.specs.Outcomes.{Stage, Stepped, end_note, open_note}
-use Rattle.node_runs.specs.SentFrames.{IsFrame, IsIncoming}
 use Rattle.node_runs.specs.NodesKeep.{IsTimely}
 use Rattle.node_runs.specs.Runs.{World, Noted, Choice, world_after}
 use Rattle.node_runs.specs.CallsKeep.{EachOf}
 use Rattle.node_runs.specs.Doings.{ticked}
-use Rattle.node_runs.proofs.Receiving.{incoming-is}
-use Rattle.node_runs.proofs.SettingUp.{setup-gives, setup-procs}
+use Rattle.node_runs.proofs.SettingUp.{setup-procs}
 use Rattle.run_calls.specs.Progress.{IsApart}
 use Rattle.run_calls.proofs.HearingRuns.{IsKeptNext, every-kept-run}
-use Rattle.run_nodes.specs.DeskSteps.{IsStageOf, IsHomeBegin, IsHomeTurn, OpMove, apart, moves, turn_note, NodeMove, still, moved}
-use Rattle.run_nodes.proofs.DeskSteps.{step-desk}
+use Rattle.run_desks.specs.DeskSteps.{IsStageOf, IsHomeBegin, IsHomeTurn, OpMove, apart, moves, turn_note, NodeMove, still, moved}
+use Rattle.run_desks.proofs.EventMoves.{desk-moves}
 
 abbrev pub IsRefusal : Start → Op → Reply → Type 0
 IsRefusal opening (ops.New home kind room) reply = (is_node opening home && nat_le room opening.greatest) ≡ false
@@ -162,7 +160,6 @@ refusals-are s setup = every-kept-run s setup (setup-procs s setup) (AreRefusals
     step : (cs : List Choice) (old : World) (c : Choice) (new : World) → world_after s cs ≡ Some old → IsTimely old → IsKeptNext s old c new → AreRefusals s old → AreRefusals s new
     step cs old c new e timely next are = subst (AreRefusals s) (sym next.is.world) (
       node-refusal (given s c.node) (ticked (old.nodes c.node) next.is.incoming) (next.kept.nodes c.node next.is.node).own.nodes next.is.incoming next.is.step
-          (step-desk (given s c.node) (old.nodes c.node) c.what next.is.incoming c.dropped next.is.step (setup-gives s setup c.node next.is.node) (next.kept.nodes c.node next.is.node)
-          (incoming-is IsIncoming tt (λ number tick. tt) (λ tick. tt) IsFrame (λ x is. is) old c.node (λ from. next.kept.frames from c.node) c.what next.is.incoming next.is.comes) next.is.steps),
+          (desk-moves s setup old c new next),
       are,
     )

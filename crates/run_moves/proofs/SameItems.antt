@@ -4,9 +4,10 @@ use Rattle.std.proofs.Common.{◌≡◌, ℕ, true, false, List, [], ◌∷◌, 
 use Rattle.std.specs.Prelude.{◌==◌, ◌&&◌, if◌then◌else◌}
 use Rattle.std.proofs.lemmas.Bool.{eq-eqb}
 use Rattle.uid_names.proofs.ListLemmas.{by_cases}
-use Rattle.uid_names.proofs.Orders.{same_proc_is}
+use Rattle.uid_names.proofs.Orders.{same_proc_is, same_proc-itself}
 use Rattle.uid_names.specs.Names.{ProcName, same_proc}
 use Rattle.uid_names.specs.declared.ids.Place.{Place}
+use Rattle.uid_names.proofs.Passed.{left-true, right-true, equal}
 use Rattle.dom_history.specs.declared.op.Op.{Op}
 use Rattle.dom_history.specs.Histories.{same_place}
 use Rattle.ring_messages.specs.Bodies.{Ask, Answer}
@@ -20,15 +21,14 @@ use Rattle.node_runs.specs.Runs.{World, Noted, Choice, numbered, world_after}
 use Rattle.node_runs.specs.RunHistories.{is_fault, settled_op, change_reply, act_item, entry_at, all_told, fault_item, begun_item, told_item, open_item, settled_item, decided_item, doing_of, ended_at, ended_by, items_of, items_from}
 use Rattle.node_runs.specs.CallsKeep.{IsCallAt, IsOpenAt, EachOf}
 use Rattle.node_runs.specs.DecidedCalls.{IsDecided}
-use Rattle.node_runs.proofs.Bools.{left-true, right-true, equal}
 use Rattle.node_runs.proofs.Calls.{calls-are}
 use Rattle.node_runs.proofs.SettingUp.{setup-procs}
 use Rattle.run_calls.specs.LastCalls.{HasNumber, IsOpenNumber}
 use Rattle.run_calls.specs.Progress.{IsSettling}
-use Rattle.run_calls.proofs.Slots.{IsSlot, IsNew, settles, place-is, same_place-refl, same_proc-refl}
+use Rattle.run_calls.proofs.Slots.{IsSlot, IsNew, settles, place-is, same_place-refl}
 use Rattle.run_calls.proofs.HearingRuns.{same-ask}
 use Rattle.run_homes.proofs.HomeEffects.{same-home}
-use Rattle.run_moves.proofs.ItemViews.{FoundCall, found, absent, find-call, decided-last}
+use Rattle.run_moves.proofs.ItemViews.{FoundCall, found, absent, decided-last, found-call}
 
 -- the items of a trace that is cut in two
 pub items-append : (w : World) (ts : List Told) (newer older : List Noted) → items_from w ts (newer ++ older) ≡ items_from w ts newer ++ items_from w ts older
@@ -112,7 +112,7 @@ module _ (s : Setup) (setup : IsSetup s) (cs : List Choice) (w : World) (e : wor
     untold-same x (Note.Ended t) decided = refl
     untold-same x (Note.Decided p number ask answer) decided = elim (settles x.node ask) [
       | inl none ↦ none-same v so_far x p number ask answer none
-      | inr some ↦ some-same v so_far x p number ask answer some.1.0 some.1.1 (by some.1.0 some.0 (find-call p number so_far))
+      | inr some ↦ some-same v so_far x p number ask answer some.1.0 some.1.1 (by some.1.0 some.0 (found-call p number so_far))
     ]
       where
         by : (op : Op) → IsSettling ask → FoundCall p number so_far → settled_item x p op answer (ended_by p number so_far) (doing_of v p) ≡ settled_item x p op answer (ended_by p number so_far) (doing_of w p)
@@ -187,7 +187,7 @@ module _ (s : Setup) (setup : IsSetup s) (cs : List Choice) (w : World) (e : wor
             (λ h. by_cases (is_fault t.reply) (SettlesSame x p k answer op)
             (λ f. left-same x p k ask answer op h f)
             (λ f. absurd (off (sym (same_proc_is t.proc p (left-true _ _ h)), sym (equal t.number k (right-true (same_proc t.proc p) _ h)), settling, f))))
-            (λ h. beside op settling h (ap (λ z. if z then Some t else ended_by p k so_far) h) (find-call p k so_far))
+            (λ h. beside op settling h (ap (λ z. if z then Some t else ended_by p k so_far) h) (found-call p k so_far))
 
     -- the note at which it has its entry
     pub fault-was : (x : Place) (op : Op) → x ≡ t.begun → items_of w so_far x (Note.Began t.proc op) ≡ []
@@ -195,7 +195,7 @@ module _ (s : Setup) (setup : IsSetup s) (cs : List Choice) (w : World) (e : wor
 
     pub fault-is : (x : Place) (op : Op) → x ≡ t.begun → is_fault t.reply ≡ true → items_of v now x (Note.Began t.proc op) ≡ entry_at x t ∷ []
     fault-is x op at f =
-        let h : (same_proc t.proc t.proc && same_place t.begun x) ≡ true = ap (λ z. z && same_place t.begun x) (same_proc-refl t.proc) ∙ subst (λ y. same_place t.begun y ≡ true) (sym at) (same_place-refl t.begun) in
+        let h : (same_proc t.proc t.proc && same_place t.begun x) ≡ true = ap (λ z. z && same_place t.begun x) (same_proc-itself t.proc) ∙ subst (λ y. same_place t.begun y ≡ true) (sym at) (same_place-refl t.begun) in
         ap (begun_item x) (ap (λ z. if z then Some t else ended_at t.proc x so_far) h) ∙ ap (λ z. fault_item z x t) f
 
     pub answer-was : (x : Place) (ask : Ask) (answer : Answer) (op : Op) → settled_op x.node ask ≡ Some op → items_of w so_far x (Note.Decided t.proc t.number ask answer) ≡ act_item x t.begun t.proc op (change_reply answer)
@@ -206,6 +206,6 @@ module _ (s : Setup) (setup : IsSetup s) (cs : List Choice) (w : World) (e : wor
 
     pub answer-is : (x : Place) (ask : Ask) (answer : Answer) (op : Op) → settled_op x.node ask ≡ Some op → is_fault t.reply ≡ false → items_of v now x (Note.Decided t.proc t.number ask answer) ≡ entry_at x t ∷ []
     answer-is x ask answer op of f =
-        let h : (same_proc t.proc t.proc && (t.number == t.number)) ≡ true = ap (λ z. z && (t.number == t.number)) (same_proc-refl t.proc) ∙ eq-eqb t.number t.number refl in
+        let h : (same_proc t.proc t.proc && (t.number == t.number)) ≡ true = ap (λ z. z && (t.number == t.number)) (same_proc-itself t.proc) ∙ eq-eqb t.number t.number refl in
         ap (λ o. decided_item x t.proc o answer (ended_by t.proc t.number now) (doing_of v t.proc)) of
         ∙ (ap (λ o. settled_item x t.proc op answer o (doing_of v t.proc)) (ap (λ z. if z then Some t else ended_by t.proc t.number so_far) h) ∙ ap (λ z. told_item z x op answer t) f)

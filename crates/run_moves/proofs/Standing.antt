@@ -1,12 +1,13 @@
 -- Where the items of a run's history stand, and which acts stand where an operation is open or was left open.
 use Rattle.std.proofs.Common.{◌≡◌, ℕ, ◌<◌, List, Some, sym, ap, subst, ◌∙◌, arith}
+use Rattle.std.proofs.lemmas.Option.{same_Some}
 use Rattle.uid_names.specs.Names.{ProcName}
 use Rattle.uid_names.specs.declared.ids.Place.{Place}
 use Rattle.dom_history.specs.declared.op.Op.{Op}
 use Rattle.dom_history.specs.declared.op.Op.TheVariants as ops
 use Rattle.dom_history.specs.Histories.{Item, Pending, SomeOf, place_of}
 use Rattle.dom_history.specs.Legal.{home_of}
-use Rattle.history_moves.specs.Moves.{IsNoActOf, IsNoneAtHome}
+use Rattle.history_moves.specs.HistoryMoves.{IsNoActOf, IsNoneAtHome}
 use Rattle.ring_messages.specs.Bodies.{Ask, Answer}
 use Rattle.fault_handler.specs.Invariant.{IsProc}
 use Rattle.node_runs.specs.Setups.{Setup, IsSetup}
@@ -18,30 +19,30 @@ use Rattle.node_runs.specs.Runs.{World, Noted, Choice, world_after}
 use Rattle.node_runs.specs.RunHistories.{settled_op, all_told, doing_of, items_from}
 use Rattle.node_runs.specs.CallsKeep.{EachOf}
 use Rattle.node_runs.specs.DecidedCalls.{IsDecided, IsOther}
-use Rattle.node_runs.proofs.Somes.{some-is}
 use Rattle.node_runs.proofs.SettingUp.{setup-procs}
+use Rattle.node_runs.proofs.EachOf.{EachOf-at}
 use Rattle.run_calls.specs.DecidedReplies.{proc_at, IsDecisionOf}
 use Rattle.run_calls.specs.Heard.{IsOpenSince, IsDoingSince}
 use Rattle.run_calls.specs.LastCalls.{HasNumber}
 use Rattle.run_calls.proofs.Walks.{other-not}
 use Rattle.run_calls.proofs.HearingRuns.{heard-are}
-use Rattle.run_nodes.specs.AskedHomes.{IsAtHome}
-use Rattle.run_nodes.proofs.AskedHomes.{calls-at-homes}
+use Rattle.run_desks.specs.AskedHomes.{IsAtHome}
+use Rattle.run_desks.proofs.AskedHomes.{calls-at-homes}
 use Rattle.run_homes.proofs.HistoryHomes.{meant-at}
 use Rattle.run_homes.proofs.HomeRows.{IsMeantAt}
-use Rattle.run_phases.specs.DecisionOrder.{IsDecidedBelow}
+use Rattle.run_calls.specs.DecisionOrder.{IsDecidedBelow}
 use Rattle.run_moves.proofs.ItemViews.{IsAmong, IsItemAt, did, faulted, answered, left_open, opened, each-item}
-use Rattle.run_moves.proofs.Orders.{each-in, IsDecidedAfter}
+use Rattle.run_moves.proofs.Orders.{IsDecidedAfter}
 
 settled-at : (home : ℕ) (ask : Ask) (op : Op) → IsAtHome home ask → settled_op home ask ≡ Some op → home_of op ≡ Some home
 settled-at home (Ask.PageIn u k) op at e = absurd (cc)
 settled-at home (Ask.PageOut u k grant base bytes) op at e = absurd (cc)
 settled-at home (Ask.AttrOut u n grant base) op at e = absurd (cc)
-settled-at home (Ask.Lock u m) op at e = ap home_of (sym (some-is (ops.Lock u m) op e)) ∙ ap (λ h. Some h) (sym at)
-settled-at home (Ask.Unlock u) op at e = ap home_of (sym (some-is (ops.Unlock u) op e)) ∙ ap (λ h. Some h) (sym at)
-settled-at home (Ask.Remove u) op at e = ap home_of (sym (some-is (ops.Delete u) op e)) ∙ ap (λ h. Some h) (sym at)
-settled-at home (Ask.Make kind room) op at e = ap home_of (sym (some-is (ops.New home kind room) op e))
-settled-at home (Ask.ListLocks after) op at e = ap home_of (sym (some-is (ops.List home after) op e))
+settled-at home (Ask.Lock u m) op at e = ap home_of (sym (same_Some (ops.Lock u m) op e)) ∙ ap (λ h. Some h) (sym at)
+settled-at home (Ask.Unlock u) op at e = ap home_of (sym (same_Some (ops.Unlock u) op e)) ∙ ap (λ h. Some h) (sym at)
+settled-at home (Ask.Remove u) op at e = ap home_of (sym (same_Some (ops.Delete u) op e)) ∙ ap (λ h. Some h) (sym at)
+settled-at home (Ask.Make kind room) op at e = ap home_of (sym (same_Some (ops.New home kind room) op e))
+settled-at home (Ask.ListLocks after) op at e = ap home_of (sym (same_Some (ops.List home after) op e))
 
 module _ (s : Setup) (setup : IsSetup s) (cs : List Choice) (w : World) (e : world_after s cs ≡ Some w) (timely : IsTimely w) where
   abbrev so_far : List Told
@@ -55,11 +56,11 @@ module _ (s : Setup) (setup : IsSetup s) (cs : List Choice) (w : World) (e : wor
   items-at Q notes decided each = each-item s setup cs w e timely (λ i. Q (place_of i)) notes decided by
     where
       by : (j : Noted) → SomeOf (λ i. i ≡ j) notes → (i : Item) → IsItemAt w j i → Q (place_of i)
-      by j some _ (did p phase op reply note) = each-in (λ (j : Noted). Q j.place) j notes each some
-      by j some _ (faulted t op note place fault among) = each-in (λ (j : Noted). Q j.place) j notes each some
-      by j some _ (answered t op ask answer note of none among) = each-in (λ (j : Noted). Q j.place) j notes each some
-      by j some _ (left_open t op ask answer reply note of change fault among) = each-in (λ (j : Noted). Q j.place) j notes each some
-      by j some _ (opened p number op ask answer reply o note of change doing has) = each-in (λ (j : Noted). Q j.place) j notes each some
+      by j some _ (did p phase op reply note) = EachOf-at (λ (j : Noted). Q j.place) j notes each some
+      by j some _ (faulted t op note place fault among) = EachOf-at (λ (j : Noted). Q j.place) j notes each some
+      by j some _ (answered t op ask answer note of none among) = EachOf-at (λ (j : Noted). Q j.place) j notes each some
+      by j some _ (left_open t op ask answer reply note of change fault among) = EachOf-at (λ (j : Noted). Q j.place) j notes each some
+      by j some _ (opened p number op ask answer reply o note of change doing has) = EachOf-at (λ (j : Noted). Q j.place) j notes each some
 
   -- the home of an operation that a note settles is that note's node
   pub home-is : (j : Noted) (p : ProcName) (k : ℕ) (ask : Ask) (answer : Answer) (op : Op) → IsDecided w j.place j.note → j.note ≡ Note.Decided p k ask answer → settled_op j.place.node ask ≡ Some op → home_of op ≡ Some j.place.node
@@ -81,13 +82,13 @@ module _ (s : Setup) (setup : IsSetup s) (cs : List Choice) (w : World) (e : wor
     since = since-of n k proc b (Await.Answer c) doing
 
     pub told-below : (t : Told) → IsAmong t so_far → t.proc ≡ me → t.begun.tick < b.begun.tick
-    told-below t among named = each-in (λ (t : Told). t.proc ≡ me → t.begun.tick < b.begun.tick) t so_far since.behind among named
+    told-below t among named = EachOf-at (λ (t : Told). t.proc ≡ me → t.begun.tick < b.begun.tick) t so_far since.behind among named
 
     pub told-less : (t : Told) → IsAmong t so_far → t.proc ≡ me → t.number < c.waiting.number
-    told-less t among named = each-in (λ (t : Told). t.proc ≡ me → t.number < c.waiting.number) t so_far since.call.1 among named
+    told-less t among named = EachOf-at (λ (t : Told). t.proc ≡ me → t.number < c.waiting.number) t so_far since.call.1 among named
 
     same-open : (o : OpenOp) → doing_of w me ≡ Some o → (number : ℕ) → HasNumber number o.awaits → c.waiting.number ≡ number
-    same-open o is number has = subst (λ (x : OpenOp). HasNumber number x.awaits) (sym (some-is (record { began = b; awaits = Await.Answer c }) o (sym doing ∙ is))) has
+    same-open o is number has = subst (λ (x : OpenOp). HasNumber number x.awaits) (sym (same_Some (record { began = b; awaits = Await.Answer c }) o (sym doing ∙ is))) has
 
     -- where its call is not decided it has no act
     pub no-act : (notes : List Noted) → AreDecidedAll notes → EachOf (λ (j : Noted). IsOther me c.waiting.number j.note) notes → EachOf (IsNoActOf mine) (items_from w so_far notes)
@@ -100,7 +101,7 @@ module _ (s : Setup) (setup : IsSetup s) (cs : List Choice) (w : World) (e : wor
         by j some _ (left_open t op ask answer reply note of change fault among) = λ is.
             absurd (let less = told-below t among (sym is.1) in let f = ap (λ (x : Place). x.tick) is.0 in omega (arith, less, f))
         by j some _ (opened p number op ask answer reply o note of change open_now has) = λ is.
-            other-not me c.waiting.number j.note (each-in (λ (j : Noted). IsOther me c.waiting.number j.note) j notes others some)
+            other-not me c.waiting.number j.note (EachOf-at (λ (j : Noted). IsOther me c.waiting.number j.note) j notes others some)
             (subst (IsDecisionOf me c.waiting.number) (sym note) (sym is.1, sym (same-open o (subst (λ q. doing_of w q ≡ Some o) (sym is.1) open_now) number has)))
 
     -- behind the decision of its call its home did nothing for the process
@@ -112,9 +113,9 @@ module _ (s : Setup) (setup : IsSetup s) (cs : List Choice) (w : World) (e : wor
         above : (j : Noted) → SomeOf (λ i. i ≡ j) notes → (p : ProcName) (number : ℕ) (ask : Ask) (answer : Answer) (op : Op) → j.note ≡ Note.Decided p number ask answer → settled_op j.place.node ask ≡ Some op → p ≡ me → home_of op ≡ home_of b.op → c.waiting.number < number
         above j some p number other_ask other_answer op note of named same =
             let home_it : home_of b.op ≡ Some m.place.node = home-is m me c.waiting.number ask answer b.op decided_it note_it of_it in
-            let home_j : home_of op ≡ Some j.place.node = home-is j p number other_ask other_answer op (each-in (λ (j : Noted). IsDecided w j.place j.note) j notes decided some) note of in
-            let same_node : m.place.node ≡ j.place.node = some-is m.place.node j.place.node (sym home_it ∙ (sym same ∙ home_j)) in
-            let below : IsDecidedBelow p number m.note = (subst (IsDecidedAfter m j.place) note (each-in (λ (j : Noted). IsDecidedAfter m j.place j.note) j notes after some)) same_node in
+            let home_j : home_of op ≡ Some j.place.node = home-is j p number other_ask other_answer op (EachOf-at (λ (j : Noted). IsDecided w j.place j.note) j notes decided some) note of in
+            let same_node : m.place.node ≡ j.place.node = same_Some m.place.node j.place.node (sym home_it ∙ (sym same ∙ home_j)) in
+            let below : IsDecidedBelow p number m.note = (subst (IsDecidedAfter m j.place) note (EachOf-at (λ (j : Noted). IsDecidedAfter m j.place j.note) j notes after some)) same_node in
             (subst (IsDecidedBelow p number) note_it below) (sym named)
 
         by : (j : Noted) → SomeOf (λ i. i ≡ j) notes → (i : Item) → IsItemAt w j i → IsNoneAtHome mine i

@@ -14,8 +14,9 @@ use Rattle.dom_history.specs.Locks.{state}
 use Rattle.dom_history.specs.Objects.{is_node}
 use Rattle.dom_history.specs.Replies.{may_write}
 use Rattle.dom_history.specs.StoreEffects.{own, store_effect, store_effects}
+use Rattle.dom_history.proofs.Places.{place_lt-trans, place_lt-not_self}
 use Rattle.history_moves.specs.Asking.{HomeSays, MayAsk}
-use Rattle.history_moves.specs.Moves.{history, entry_of, act_of, told_to, IsNoActOf, IsNoneAtHome, faults, is_told, hears}
+use Rattle.history_moves.specs.HistoryMoves.{history, entry_of, act_of, told_to, IsNoActOf, IsNoneAtHome, faults, is_told, hears}
 use Rattle.history_moves.proofs.Lists.{All-without}
 use Rattle.history_moves.proofs.Standing.{asked-allowed}
 use Rattle.ring_messages.specs.Bodies.{Ask, Answer}
@@ -26,17 +27,16 @@ use Rattle.node_runs.specs.NodeStates.{Asked, Await, BegunOp, proc_of}
 use Rattle.node_runs.specs.Dones.{asking}
 use Rattle.node_runs.specs.Doings.{ticked}
 use Rattle.node_runs.specs.Notes.{Told, Note}
-use Rattle.node_runs.specs.Outcomes.{Stepped}
 use Rattle.node_runs.specs.NodesKeep.{IsTimely}
-use Rattle.node_runs.specs.SentFrames.{IsFrame, IsIncoming}
 use Rattle.node_runs.specs.Runs.{World, Noted, Choice, world_after}
 use Rattle.node_runs.specs.RunHistories.{is_fault, settled_op, change_reply, act_item, all_told, told_by, doing_of, items_of, items_from, pending_to, history_in}
 use Rattle.node_runs.specs.CallsKeep.{IsCallAt, EachOf}
 use Rattle.node_runs.specs.DecidedCalls.{IsDecided, IsOther, AreDecidedOnce}
 use Rattle.node_runs.proofs.Worlds.{place_at}
-use Rattle.node_runs.proofs.Receiving.{EachOf-more, incoming-is}
+use Rattle.node_runs.proofs.Receiving.{EachOf-more}
 use Rattle.node_runs.proofs.Decisions.{decisions-are}
 use Rattle.node_runs.proofs.SettingUp.{setup-gives, setup-procs}
+use Rattle.node_runs.proofs.EachOf.{EachOf-behind}
 use Rattle.run_calls.specs.DecidedReplies.{proc_at, IsDecisionOf}
 use Rattle.run_calls.specs.Placed.{AreRisingNotes, IsSettledBy, IsDecidedBehind, IsEndOf, IsPlaced}
 use Rattle.run_calls.specs.Progress.{IsSettling, told_of}
@@ -45,31 +45,30 @@ use Rattle.run_calls.proofs.Walks.{settled-decides, SomeOf-more}
 use Rattle.run_calls.proofs.Hearing.{new-told}
 use Rattle.run_calls.specs.NotedEntries.{noted_entries}
 use Rattle.run_calls.proofs.HistoryEntries.{history-entries}
-use Rattle.run_calls.proofs.HearingRuns.{IsKeptNext}
+use Rattle.run_calls.proofs.HearingRuns.{IsKeptNext, event, event-incoming}
 use Rattle.run_calls.proofs.Following.{EachOf-append}
 use Rattle.run_calls.proofs.Placing.{ends-placed}
 use Rattle.run_calls.proofs.Rising.{notes-rise, history-rises}
-use Rattle.run_phases.specs.DecisionOrder.{AreDecisionsRising}
-use Rattle.run_phases.specs.SingleActs.{IsActOf}
-use Rattle.run_phases.proofs.DecisionOrder.{decisions-rise}
-use Rattle.run_nodes.specs.KeptLocks.{IsKeptWithout}
-use Rattle.run_nodes.specs.ToldAnswers.{Tells, IsFaultOf, IsSettled, IsEnded, IsToldBy, IsTold}
-use Rattle.run_nodes.specs.WaitingReleases.{IsOpenRelease}
-use Rattle.run_nodes.proofs.EndedOps.{step-ended}
-use Rattle.run_nodes.proofs.KeptLocks.{kept-without}
-use Rattle.run_nodes.proofs.ToldAnswers.{told-are}
-use Rattle.run_nodes.proofs.WaitingReleases.{runs-release}
-use Rattle.run_homes.proofs.HistoryHomes.{each-behind}
+use Rattle.run_calls.specs.DecisionOrder.{AreDecisionsRising}
+use Rattle.run_calls.specs.SingleActs.{IsActOf}
+use Rattle.run_calls.proofs.DecisionOrder.{decisions-rise}
+use Rattle.run_desks.specs.KeptLocks.{IsKeptWithout}
+use Rattle.run_desks.specs.ToldAnswers.{TellsReply, IsFaultOf, IsSettled, IsEnded, IsToldBy, IsTold}
+use Rattle.run_desks.specs.WaitingReleases.{IsOpenRelease}
+use Rattle.run_desks.proofs.EndedOps.{step-ended}
+use Rattle.run_desks.proofs.KeptLocks.{kept-without}
+use Rattle.run_desks.proofs.ToldAnswers.{told-are}
+use Rattle.run_desks.proofs.WaitingReleases.{runs-release}
 use Rattle.run_effects.specs.NotedEffects.{noted_past}
 use Rattle.run_effects.specs.NotedDeeds.{noted_deeds}
-use Rattle.run_replies.specs.HomeReplies.{IsHomeReply}
+use Rattle.run_moves.specs.HomeReplies.{IsHomeReply}
 use Rattle.run_moves.specs.KnownRuns.{IsKnown}
 use Rattle.run_moves.specs.MovedHistories.{IsMovedOrSame, moves}
 use Rattle.run_moves.proofs.Alone.{Alone, here, later, IsAloneDoing, alone-are}
 use Rattle.run_moves.proofs.Answers.{tells-change, tells-none, fault-faulty, faults-are, asked_of, kept-writes}
 use Rattle.run_moves.proofs.Begins.{BeginSplit, begin-split, WritesKept, fault-may, began-may, began-asks, told-then}
 use Rattle.run_moves.proofs.Cuts.{AreCut, all-of, pending-each}
-use Rattle.run_moves.proofs.Events.{after, items-cut, moved-history, lt-irreflexive, lt-trans}
+use Rattle.run_moves.proofs.Events.{after, items-cut, moved-history}
 use Rattle.run_moves.proofs.InOrder.{told-op}
 use Rattle.run_moves.proofs.ItemViews.{IsAmong}
 use Rattle.run_moves.proofs.Orders.{NoteSplit, note-split, each-middle, each-front, once-around, once-each, rising-around, above-around}
@@ -93,9 +92,9 @@ one-place notes newer m older parts above below = subst (EachOf (λ (j : Noted).
     by [] above = (
       (λ same. refl),
       EachOf-more (λ (j : Noted). place_lt j.place m.place ≡ true) (λ (j : Noted). j.place ≡ m.place → j.note ≡ m.note) older
-          (λ j below same. absurd (lt-irreflexive m.place (subst (λ x. place_lt x m.place ≡ true) same below))) below,
+          (λ j below same. absurd (place_lt-not_self m.place (subst (λ x. place_lt x m.place ≡ true) same below))) below,
     )
-    by (j ∷ newer) above = ((λ same. absurd (lt-irreflexive m.place (subst (λ x. place_lt m.place x ≡ true) same above.0))), by newer above.1)
+    by (j ∷ newer) above = ((λ same. absurd (place_lt-not_self m.place (subst (λ x. place_lt m.place x ≡ true) same above.0))), by newer above.1)
 
 module _ (s : Setup) (setup : IsSetup s) (cs : List Choice) (old : World) (e : world_after s cs ≡ Some old) (timely : IsTimely old) (known : IsKnown s old) (c : Choice) (new : World) (next : IsKeptNext s old c new)
     (e_after : world_after s (c ∷ cs) ≡ Some (after old c next.is.step)) (timely_after : IsTimely (after old c next.is.step)) (legal : IsLegal s.opening (history_in s old))
@@ -103,8 +102,7 @@ module _ (s : Setup) (setup : IsSetup s) (cs : List Choice) (old : World) (e : w
     (noted : next.is.step.note ≡ Note.Ended (told_of (proc_at c.node p) (proc_of (old.nodes c.node) p) o k.waiting.number reply))
     (others : (q : ProcName) → IsProc q.number → same_proc (proc_at c.node p) q ≡ false → doing_of (after old c next.is.step) q ≡ doing_of old q)
     (cut : AreCut ((let o : Pending = record { begun = o.begun; proc = proc_at c.node p; op = o.op } in o) ∷ []) [] (pending_to old s.opening.nodes) (pending_to (after old c next.is.step) s.opening.nodes)) where
-  abbrev step : Stepped
-  step = next.is.step
+  open event s old c new next use {step}
 
   abbrev so_far : List Told
   so_far = all_told old.trace
@@ -157,7 +155,7 @@ module _ (s : Setup) (setup : IsSetup s) (cs : List Choice) (old : World) (e : w
     decided-newer = each-front (λ (j : Noted). IsDecided old j.place j.note) newer (it ∷ older) decided-parts
 
     decided-older : EachOf (λ (j : Noted). IsDecided old j.place j.note) older
-    decided-older = (each-behind (λ (j : Noted). IsDecided old j.place j.note) newer (it ∷ older) decided-parts).1
+    decided-older = (EachOf-behind (λ (j : Noted). IsDecided old j.place j.note) newer (it ∷ older) decided-parts).1
 
     items-is : (x : Item) → items_of then_world (t ∷ so_far) it.place it.note ≡ x ∷ [] → (history_in s then_world).items ≡ behind ++ x ∷ before
     items-is x is =
@@ -199,11 +197,11 @@ module _ (s : Setup) (setup : IsSetup s) (cs : List Choice) (old : World) (e : w
 
     fault_newer : EachOf (λ (j : Noted). IsSlot t j.place j.note → ⊥) split.newer
     fault_newer = EachOf-more (λ (j : Noted). place_lt split.it.place j.place ≡ true) (λ (j : Noted). IsSlot t j.place j.note → ⊥) split.newer
-        (λ j above. fault-off j (λ same. lt-irreflexive split.it.place (subst (λ x. place_lt split.it.place x ≡ true) (same ∙ sym split.place) above))) fault_around.0
+        (λ j above. fault-off j (λ same. place_lt-not_self split.it.place (subst (λ x. place_lt split.it.place x ≡ true) (same ∙ sym split.place) above))) fault_around.0
 
     fault_older : EachOf (λ (j : Noted). IsSlot t j.place j.note → ⊥) split.older
     fault_older = EachOf-more (λ (j : Noted). place_lt j.place split.it.place ≡ true) (λ (j : Noted). IsSlot t j.place j.note → ⊥) split.older
-        (λ j below. fault-off j (λ same. lt-irreflexive split.it.place (subst (λ x. place_lt x split.it.place ≡ true) (same ∙ sym split.place) below))) fault_around.1
+        (λ j below. fault-off j (λ same. place_lt-not_self split.it.place (subst (λ x. place_lt x split.it.place ≡ true) (same ∙ sym split.place) below))) fault_around.1
 
     abbrev fault_late : List Item
     fault_late = items_from old so_far split.newer
@@ -238,7 +236,7 @@ module _ (s : Setup) (setup : IsSetup s) (cs : List Choice) (old : World) (e : w
     ended : IsSettled (given s c.node) (ticked (old.nodes c.node) next.is.incoming) next.is.incoming t
     ended = subst (IsEnded (given s c.node) (ticked (old.nodes c.node) next.is.incoming) next.is.incoming) noted
         (step-ended (given s c.node) (old.nodes c.node) c.what next.is.incoming c.dropped step (setup-gives s setup c.node next.is.node) (next.kept.nodes c.node next.is.node)
-        (incoming-is IsIncoming tt (λ number tick. tt) (λ tick. tt) IsFrame (λ x is. is) old c.node (λ from. next.kept.frames from c.node) c.what next.is.incoming next.is.comes) next.is.steps)
+        (event-incoming s old c new next) next.is.steps)
 
     same_call : ended.call ≡ k
     same_call = ap (asked_of k) (sym ended.doing ∙ (ap (λ i. (proc_of (old.nodes c.node) i).doing) (ap (λ (q : ProcName). q.number) (sym ended.named)) ∙ was))
@@ -355,10 +353,10 @@ module _ (s : Setup) (setup : IsSetup s) (cs : List Choice) (old : World) (e : w
 
     above-begin : EachOf (λ i. place_lt o.begun (place_of i) ≡ true) late
     above-begin = items-at s setup cs old e timely (λ y. place_lt o.begun y ≡ true) decided-at.newer (decided-newer decided-at.newer decided-at.it decided-at.older decided-at.parts off_newer off_older)
-        (EachOf-more (λ (j : Noted). place_lt x j.place ≡ true) (λ (j : Noted). place_lt o.begun j.place ≡ true) decided-at.newer (λ j is. lt-trans o.begun x j.place decided-at.is.1 is) around.0)
+        (EachOf-more (λ (j : Noted). place_lt x j.place ≡ true) (λ (j : Noted). place_lt o.begun j.place ≡ true) decided-at.newer (λ j is. place_lt-trans o.begun x j.place decided-at.is.1 is) around.0)
 
     -- the decision, and what its answer tells
-    module _ (ask : Ask) (answer : Answer) (note : decided-at.it.note ≡ Note.Decided me k.waiting.number ask answer) (settling : IsSettling ask) (tells : Tells o.op reply answer) where
+    module _ (ask : Ask) (answer : Answer) (note : decided-at.it.note ≡ Note.Decided me k.waiting.number ask answer) (settling : IsSettling ask) (tells : TellsReply o.op reply answer) where
       decided-it : IsDecided old x decided-at.it.note
       decided-it = each-middle (λ (j : Noted). IsDecided old j.place j.note) decided-at.newer decided-at.it decided-at.older (decided-parts decided-at.newer decided-at.it decided-at.older decided-at.parts off_newer off_older)
 
@@ -414,7 +412,7 @@ module _ (s : Setup) (setup : IsSetup s) (cs : List Choice) (old : World) (e : w
       told-fact =
           let parts : old.trace ≡ (decided-at.newer ++ decided-at.it ∷ []) ++ decided-at.older = decided-at.parts ∙ sym (append_assoc decided-at.newer (decided-at.it ∷ []) decided-at.older) in
           let above : EachOf (λ (j : Noted). place_lt o.begun j.place ≡ true) (decided-at.newer ++ decided-at.it ∷ []) = EachOf-append (λ (j : Noted). place_lt o.begun j.place ≡ true) decided-at.newer (decided-at.it ∷ [])
-          (EachOf-more (λ (j : Noted). place_lt x j.place ≡ true) (λ (j : Noted). place_lt o.begun j.place ≡ true) decided-at.newer (λ j is. lt-trans o.begun x j.place decided-at.is.1 is) around.0) (decided-at.is.1, tt) in
+          (EachOf-more (λ (j : Noted). place_lt x j.place ≡ true) (λ (j : Noted). place_lt o.begun j.place ≡ true) decided-at.newer (λ j is. place_lt-trans o.begun x j.place decided-at.is.1 is) around.0) (decided-at.is.1, tt) in
           let alone : Alone me o.op o.begun old.trace = subst (IsAloneDoing me old.trace) was ((alone-are s setup cs old e timely).opened c.node p proc) in
           early-told (act_item x o.begun me o.op (change_reply answer)) (gave (change_reply answer) refl) (EachOf-append (λ i. place_lt o.begun (place_of i) ≡ true) late (act_item x o.begun me o.op (change_reply answer)) above-begin (act-above (change_reply answer)))
           ∙ (sym split.same ∙ (ap (λ js. own me (noted_deeds js)) parts ∙ alone-quiet me o.op o.begun (decided-at.newer ++ decided-at.it ∷ []) decided-at.older (subst (Alone me o.op o.begun) parts alone) above))
@@ -468,7 +466,7 @@ module _ (s : Setup) (setup : IsSetup s) (cs : List Choice) (old : World) (e : w
       by-answer = elim (tells-change o.op reply answer tells) [ inl change ↦ told-moves change | inr none ↦ hears-moves none.0 (none.1 me) ]
 
     -- the decision is one of its call
-    with-answer : (R : Type 0) → ((ask : Ask) (answer : Answer) → decided-at.it.note ≡ Note.Decided me k.waiting.number ask answer → IsSettling ask → Tells o.op reply answer → R) → R
+    with-answer : (R : Type 0) → ((ask : Ask) (answer : Answer) → decided-at.it.note ≡ Note.Decided me k.waiting.number ask answer → IsSettling ask → TellsReply o.op reply answer → R) → R
     with-answer R gives-it = by decided-at.it.note refl decided-at.is.0 told-at
       where
         by : (note : Note) → decided-at.it.note ≡ note → IsSettledBy me k.waiting.number note → IsToldBy t note → R

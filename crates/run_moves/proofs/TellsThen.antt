@@ -10,6 +10,7 @@ use Rattle.dom_history.specs.declared.op.Entry.{Entry}
 use Rattle.dom_history.specs.Histories.{told, place_lt}
 use Rattle.dom_history.specs.Follows.{entries_of}
 use Rattle.dom_history.specs.StoreEffects.{own}
+use Rattle.dom_history.proofs.Places.{place_lt-not_self}
 use Rattle.node_runs.specs.Notes.{Told}
 use Rattle.node_runs.specs.Runs.{Noted, World}
 use Rattle.node_runs.specs.RunHistories.{is_fault, all_told}
@@ -19,7 +20,6 @@ use Rattle.run_calls.specs.DecidedReplies.{IsDecisionOf}
 use Rattle.run_effects.specs.NotedDeeds.{note_deeds, noted_deeds}
 use Rattle.run_moves.proofs.Alone.{Alone, here, later}
 use Rattle.run_moves.proofs.Begins.{own-append}
-use Rattle.run_moves.proofs.Events.{lt-irreflexive}
 
 -- the notes of a run, cut at the decision of which the process was told
 pub record ToldThen (w : World) (t : Told) : Type 0 where
@@ -46,6 +46,6 @@ own-told p (e ∷ es) =
 -- behind the Begin of its open operation a process is told nothing
 pub alone-quiet : (p : ProcName) (op : Op) (begun : Place) (newer older : List Noted) → Alone p op begun (newer ++ older) → EachOf (λ (j : Noted). place_lt begun j.place ≡ true) newer → own p (noted_deeds (newer ++ older)) ≡ own p (noted_deeds older)
 alone-quiet p op begun [] older alone above = refl
-alone-quiet p op begun (j ∷ newer) older (here place note) above = absurd (lt-irreflexive begun (subst (λ x. place_lt begun x ≡ true) place above.0))
+alone-quiet p op begun (j ∷ newer) older (here place note) above = absurd (place_lt-not_self begun (subst (λ x. place_lt begun x ≡ true) place above.0))
 alone-quiet p op begun (j ∷ newer) older (later quiet alone) above =
     own-append p (note_deeds j.note) (noted_deeds (newer ++ older)) ∙ (ap (λ ds. ds ++ own p (noted_deeds (newer ++ older))) quiet ∙ alone-quiet p op begun newer older alone above.1)

@@ -1,26 +1,27 @@
 -- In every run each process that was told an answer had been told, where its home decided, what the notes up to there say.
 use Rattle.std.proofs.Common.{◌≡◌, ◌≢◌, ℕ, Bool, true, false, List, [], ◌∷◌, ◌++◌, Option, Some, None, inl, inr, refl, sym, ap, subst, ◌∙◌}
+use Rattle.std.proofs.lemmas.Option.{same_Some}
 use Rattle.uid_names.proofs.Orders.{same_proc_is}
 use Rattle.uid_names.specs.Names.{same_proc}
 use Rattle.uid_names.specs.declared.ids.Place.{Place}
 use Rattle.dom_history.specs.Histories.{SomeOf, told, place_lt}
 use Rattle.dom_history.specs.Legal.{IsLegal}
 use Rattle.dom_history.specs.StoreEffects.{own}
+use Rattle.dom_history.proofs.Places.{place_lt-trans, place_lt-not_self}
 use Rattle.fault_handler.specs.Invariant.{IsProc}
 use Rattle.node_runs.specs.Setups.{Setup, IsSetup, given}
 use Rattle.node_runs.specs.NodeStates.{Await, proc_of, name_of}
 use Rattle.node_runs.specs.Dones.{asking}
 use Rattle.node_runs.specs.Doings.{ticked}
 use Rattle.node_runs.specs.Notes.{Told, Note}
-use Rattle.node_runs.specs.Outcomes.{Stepped}
 use Rattle.node_runs.specs.NodesKeep.{IsTimely}
 use Rattle.node_runs.specs.Runs.{World, Noted, Choice, first_world, then_next, world_after}
 use Rattle.node_runs.specs.RunHistories.{is_fault, told_by, all_told, history_in}
 use Rattle.node_runs.specs.CallsKeep.{EachOf}
 use Rattle.node_runs.proofs.Decisions.{decisions-are}
 use Rattle.node_runs.proofs.SettingUp.{setup-procs}
-use Rattle.node_runs.proofs.Somes.{some-is}
 use Rattle.node_runs.proofs.Worlds.{place_at}
+use Rattle.node_runs.proofs.EachOf.{EachOf-at, EachOf-behind}
 use Rattle.run_calls.specs.DecidedReplies.{proc_at, IsDecisionOf}
 use Rattle.run_calls.specs.NotedEntries.{noted_entries, entries_at}
 use Rattle.run_calls.specs.Placed.{AreRisingNotes, IsEndOf, IsPlaced}
@@ -28,18 +29,17 @@ use Rattle.run_calls.specs.Progress.{told_of, Progress, opens, goes_on, again, d
 use Rattle.run_calls.proofs.Slots.{IsSlot, IsNew, off-slot}
 use Rattle.run_calls.proofs.Walks.{others-noted}
 use Rattle.run_calls.proofs.Hearing.{new-told}
-use Rattle.run_calls.proofs.HearingRuns.{IsKeptNext, proc-step, heard-are}
+use Rattle.run_calls.proofs.HearingRuns.{IsKeptNext, proc-step, heard-are, event}
 use Rattle.run_calls.proofs.Placing.{ends-placed}
 use Rattle.run_calls.proofs.Rising.{notes-rise}
-use Rattle.run_phases.specs.SingleActs.{IsToldLater, AreToldRising}
-use Rattle.run_phases.proofs.ToldRising.{told-rises}
-use Rattle.run_homes.proofs.HistoryHomes.{each-behind}
+use Rattle.run_calls.specs.SingleActs.{IsToldLater, AreToldRising}
+use Rattle.run_calls.proofs.ToldRising.{told-rises}
 use Rattle.run_moves.specs.KnownRuns.{IsKnown, IsAlwaysKnown}
 use Rattle.run_moves.proofs.Alone.{alone-are}
-use Rattle.run_moves.proofs.Events.{after, lt-irreflexive, lt-trans}
+use Rattle.run_moves.proofs.Events.{after}
 use Rattle.run_moves.proofs.ItemViews.{IsAmong}
 use Rattle.run_moves.proofs.Moving.{others-doing, cut-at, kept-next, was_timely, e_after, timely_after, legal-runs}
-use Rattle.run_moves.proofs.Orders.{each-in, each-middle, once-each, rising-around, told-before-begin}
+use Rattle.run_moves.proofs.Orders.{each-middle, once-each, rising-around, told-before-begin}
 use Rattle.run_moves.proofs.Standing.{since-of}
 use Rattle.run_moves.proofs.TellsThen.{ToldThen, AreToldThen, own-told}
 use Rattle.run_moves.proofs.Telling.{answer-told}
@@ -56,8 +56,7 @@ off-entries t ts is_new (j ∷ notes) off =
 
 module _ (s : Setup) (setup : IsSetup s) (cs : List Choice) (old : World) (e : world_after s cs ≡ Some old) (timely : IsTimely old) (known : IsKnown s old) (c : Choice) (new : World) (next : IsKeptNext s old c new)
     (e_now : world_after s (c ∷ cs) ≡ Some (after old c next.is.step)) (timely_now : IsTimely (after old c next.is.step)) (known_now : IsKnown s (after old c next.is.step)) (legal : IsLegal s.opening (history_in s old)) (was_so : AreToldThen old) where
-  abbrev step : Stepped
-  step = next.is.step
+  open event s old c new next use {step}
 
   abbrev then_world : World
   then_world = after old c step
@@ -104,7 +103,7 @@ module _ (s : Setup) (setup : IsSetup s) (cs : List Choice) (old : World) (e : w
     module _ (t : Told) (among : IsAmong t so_far) (none : is_fault t.reply ≡ false) (was : ToldThen old t) (named : t.proc ≡ u.proc) where
       it-below : place_lt was.it.place u.begun ≡ true
       it-below =
-          let less = (each-in (IsToldLater u) t so_far u_later among named).1 in
+          let less = (EachOf-at (IsToldLater u) t so_far u_later among named).1 in
           let below = told-before-begin t none u named less then_world.trace (ends-placed s setup (c ∷ cs) then_world e_now timely_now) (alone-are s setup (c ∷ cs) then_world e_now timely_now).ended (notes-rise s (c ∷ cs) then_world e_now).rising
           (told-rises s setup (c ∷ cs) then_world e_now timely_now) u_among (among-now t among) in
           let each = (once-each t.proc t.number (λ (j : Noted). place_lt j.place u.begun ≡ true) then_world.trace (decisions-are s (setup-procs s setup) (c ∷ cs) then_world e_now).once below).1 in
@@ -115,19 +114,19 @@ module _ (s : Setup) (setup : IsSetup s) (cs : List Choice) (old : World) (e : w
       older-below = (rising-around was.newer was.it was.older (subst AreRisingNotes was.parts (notes-rise s cs old e).rising)).1
 
       older-behind : EachOf (λ (j : Noted). IsDecisionOf u.proc u.number j.note → place_lt u.begun j.place ≡ true) was.older
-      older-behind = (each-behind (λ (j : Noted). IsDecisionOf u.proc u.number j.note → place_lt u.begun j.place ≡ true) was.newer (was.it ∷ was.older)
+      older-behind = (EachOf-behind (λ (j : Noted). IsDecisionOf u.proc u.number j.note → place_lt u.begun j.place ≡ true) was.newer (was.it ∷ was.older)
           (subst (EachOf (λ (j : Noted). IsDecisionOf u.proc u.number j.note → place_lt u.begun j.place ≡ true)) was.parts u_end.behind)).1
 
       off : (x : Place) (note : Note) → place_lt x was.it.place ≡ true → (IsDecisionOf u.proc u.number note → place_lt u.begun x ≡ true) → IsSlot u x note → ⊥
       off x Note.Nothing below behind is = is
       off x (Note.Did q ph op r) below behind is = is
       off x (Note.Ended v) below behind is = is
-      off x (Note.Began q op) below behind is = lt-irreflexive x (lt-trans x was.it.place x below (subst (λ y. place_lt was.it.place y ≡ true) (sym is.1) it-below))
-      off x (Note.Decided q i ask answer) below behind is = lt-irreflexive x (lt-trans x was.it.place x below (lt-trans was.it.place u.begun x it-below (behind (is.0, is.1))))
+      off x (Note.Began q op) below behind is = place_lt-not_self x (place_lt-trans x was.it.place x below (subst (λ y. place_lt was.it.place y ≡ true) (sym is.1) it-below))
+      off x (Note.Decided q i ask answer) below behind is = place_lt-not_self x (place_lt-trans x was.it.place x below (place_lt-trans was.it.place u.begun x it-below (behind (is.0, is.1))))
 
       off-older : EachOf (λ (j : Noted). IsSlot u j.place j.note → ⊥) was.older
       off-older = each-with (λ (j : Noted). place_lt j.place was.it.place ≡ true) (λ (j : Noted). IsSlot u j.place j.note → ⊥) was.older
-          (λ j some below. off j.place j.note below (each-in (λ (j : Noted). IsDecisionOf u.proc u.number j.note → place_lt u.begun j.place ≡ true) j was.older older-behind some)) older-below
+          (λ j some below. off j.place j.note below (EachOf-at (λ (j : Noted). IsDecisionOf u.proc u.number j.note → place_lt u.begun j.place ≡ true) j was.older older-behind some)) older-below
 
     same-own : (t : Told) → IsAmong t so_far → is_fault t.reply ≡ false → (was : ToldThen old t) → own t.proc (told (noted_entries (u ∷ so_far) was.older)) ≡ own t.proc (told (noted_entries so_far was.older))
     same-own t among none was = by (same_proc u.proc t.proc) refl
@@ -179,7 +178,7 @@ module _ (s : Setup) (setup : IsSetup s) (cs : List Choice) (old : World) (e : w
 -- in every run
 module _ (s : Setup) (setup : IsSetup s) (known : IsAlwaysKnown s) where
   pub told-always : (cs : List Choice) (w : World) → world_after s cs ≡ Some w → IsTimely w → AreToldThen w
-  told-always [] w e timely = subst AreToldThen (some-is (first_world s) w e) tt
+  told-always [] w e timely = subst AreToldThen (same_Some (first_world s) w e) tt
   told-always (c ∷ cs) w e timely = one (world_after s cs) refl (λ old is was. told-always cs old is was)
     where
       one : (o : Option World) → world_after s cs ≡ o → ((old : World) → world_after s cs ≡ Some old → IsTimely old → AreToldThen old) → AreToldThen w

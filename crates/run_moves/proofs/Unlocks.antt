@@ -3,6 +3,7 @@ use Rattle.std.proofs.Common.{◌≡◌, ℕ, true, false, List, [], ◌∷◌, 
 use Rattle.std.specs.Prelude.{if◌then◌else◌, map}
 use Rattle.std.specs.Option.{option_map}
 use Rattle.std.proofs.lemmas.Bool.Decides.{nat_tests}
+use Rattle.std.proofs.lemmas.Option.{same_Some}
 use Rattle.uid_names.proofs.ListLemmas.{by_cases}
 use Rattle.uid_names.specs.Names.{ObjectName}
 use Rattle.uid_names.specs.declared.ids.Place.{Place}
@@ -15,6 +16,7 @@ use Rattle.dom_history.specs.Histories.{Item, Answered, SomeOf, place_of, deed_o
 use Rattle.dom_history.specs.Locks.{is_held, state}
 use Rattle.dom_history.specs.Objects.{is_node}
 use Rattle.dom_history.specs.StoreEffects.{own, store_effects}
+use Rattle.dom_history.proofs.Places.{place_lt-irrefl}
 use Rattle.history_moves.proofs.Lists.{SomeOf-right}
 use Rattle.object_store.specs.HomeStates.{HomeState, attr_of}
 use Rattle.ring_messages.specs.Bodies.{Ask, Answer}
@@ -31,8 +33,8 @@ use Rattle.node_runs.proofs.Decisions.{decisions-are}
 use Rattle.node_runs.proofs.Receiving.{EachOf-more}
 use Rattle.node_runs.proofs.Replaying.{replays-are}
 use Rattle.node_runs.proofs.SettingUp.{setup-procs}
-use Rattle.node_runs.proofs.Somes.{some-is}
 use Rattle.node_runs.proofs.Worlds.{IsNext, next-is, place_at, initial-run}
+use Rattle.node_runs.proofs.EachOf.{EachOf-at, EachOf-behind}
 use Rattle.run_calls.specs.DecidedReplies.{IsDecisionOf}
 use Rattle.run_calls.specs.NotedEntries.{noted_entries}
 use Rattle.run_calls.specs.Placed.{AreRisingNotes}
@@ -40,21 +42,19 @@ use Rattle.run_calls.proofs.Following.{EachOf-append}
 use Rattle.run_calls.proofs.HistoryEntries.{history-entries}
 use Rattle.run_calls.proofs.Rising.{notes-rise}
 use Rattle.run_calls.proofs.Walks.{SomeOf-more}
-use Rattle.run_nodes.specs.ToldAnswers.{IsDeskReply, IsAtDesk}
-use Rattle.run_nodes.proofs.ToldAnswers.{told-are}
+use Rattle.run_desks.specs.ToldAnswers.{IsLocalReply, IsAtDesk}
+use Rattle.run_desks.proofs.ToldAnswers.{told-are}
 use Rattle.run_homes.specs.HistoryHomes.{held_then}
-use Rattle.run_homes.proofs.HistoryHomes.{each-behind}
 use Rattle.run_effects.specs.NotedEffects.{noted_past}
 use Rattle.run_effects.specs.NotedDeeds.{noted_deeds}
-use Rattle.run_stores.specs.Releases.{IsUnlocked, IsGivenBack}
-use Rattle.run_stores.proofs.StoresAre.{whole-are}
+use Rattle.run_contents.specs.Releases.{IsUnlocked, IsGivenBack}
+use Rattle.run_contents.proofs.StoresAre.{whole-are}
 use Rattle.run_moves.specs.KnownRuns.{IsAlwaysKnown}
 use Rattle.run_moves.specs.HomesAtUnlocks.{HomesHaveAll}
 use Rattle.run_moves.proofs.Alone.{alone-are}
-use Rattle.run_moves.proofs.Events.{lt-irreflexive}
 use Rattle.run_moves.proofs.InOrder.{told-op}
 use Rattle.run_moves.proofs.ItemViews.{IsAmong, IsItemAt, did, faulted, answered, left_open, opened, each-item}
-use Rattle.run_moves.proofs.Orders.{each-in, each-middle, each-front, once-each, rising-around}
+use Rattle.run_moves.proofs.Orders.{each-middle, each-front, once-each, rising-around}
 use Rattle.run_moves.proofs.SameItems.{items-append}
 use Rattle.run_moves.proofs.Standing.{items-at}
 use Rattle.run_moves.proofs.TellsThen.{ToldThen}
@@ -72,12 +72,9 @@ before-cut x (i ∷ xs) ys above below = ap (λ b. if b then i ∷ (xs ++ ys) el
 not-below : (x y : Place) → place_lt x y ≡ true → place_lt y x ≡ false
 not-below x y is = by_cases (place_lt y x) (place_lt y x ≡ false) (λ h. absurd (let f : true ≡ false = grind (arith, nat_tests, is, h) in cc)) (λ h. h)
 
-not-itself : (x : Place) → place_lt x x ≡ false
-not-itself x = by_cases (place_lt x x) (place_lt x x ≡ false) (λ h. absurd (lt-irreflexive x h)) (λ h. h)
-
 -- the ask of an unlock
 unlock-ask : (home : ℕ) (u : ObjectName) (ask : Ask) → settled_op home ask ≡ Some (ops.Unlock u) → ask ≡ Ask.Unlock u
-unlock-ask home u (Ask.Unlock v) e = ap (λ (o : Op). named_in o) (some-is (ops.Unlock v) (ops.Unlock u) e)
+unlock-ask home u (Ask.Unlock v) e = ap (λ (o : Op). named_in o) (same_Some (ops.Unlock v) (ops.Unlock u) e)
   where
     named_in : Op → Ask
     named_in (ops.Unlock w) = Ask.Unlock w
@@ -100,7 +97,7 @@ module _ (s : Setup) where
   then-here : (ev : Happening) (es : List Happening) (w : World) (it : Noted) (older : List Noted) → world_of s (ev ∷ es) ≡ Some w → it.place ≡ ev.place → w.trace ≡ it ∷ older → WorldThen s (ev ∷ es) it older
   then-here ev es w it older e at parts = record {
     world = w;
-    is = ap (λ b. world_of s (until_by b ev es (until it.place es))) (subst (λ y. place_lt it.place y ≡ false) at (not-itself it.place)) ∙ e;
+    is = ap (λ b. world_of s (until_by b ev es (until it.place es))) (subst (λ y. place_lt it.place y ≡ false) at (place_lt-irrefl it.place)) ∙ e;
     trace = parts;
   }
 
@@ -108,7 +105,7 @@ module _ (s : Setup) where
   then-before ev es it older above found = record { world = found.world; is = ap (λ b. world_of s (until_by b ev es (until it.place es))) above ∙ found.is; trace = found.trace }
 
   until-world : (es : List Happening) (w : World) → IsRun s es → world_of s es ≡ Some w → (newer : List Noted) (it : Noted) (older : List Noted) → w.trace ≡ newer ++ it ∷ older → WorldThen s es it older
-  until-world [] w run e newer it older parts = absurd (none newer (subst (λ (x : World). x.trace ≡ newer ++ it ∷ older) (sym (some-is (first_world s) w e)) parts))
+  until-world [] w run e newer it older parts = absurd (none newer (subst (λ (x : World). x.trace ≡ newer ++ it ∷ older) (sym (same_Some (first_world s) w e)) parts))
     where
       none : (newer : List Noted) → [] ≡ newer ++ it ∷ older → ⊥
       none [] f = absurd (cc)
@@ -116,7 +113,7 @@ module _ (s : Setup) where
   until-world (ev ∷ es) w run e newer it older parts = one (world_of s es) refl (λ old is newer parts. until-world es old (initial-run s ev es run) is newer it older parts)
     where
       done : w.done ≡ ev ∷ es
-      done = some-is w.done (ev ∷ es) (ap (λ o. option_map (λ (x : World). x.done) o) (sym e) ∙ run)
+      done = same_Some w.done (ev ∷ es) (ap (λ o. option_map (λ (x : World). x.done) o) (sym e) ∙ run)
 
       head-place : (x : Place) (a : Happening) (rest : List Happening) → a ∷ rest ≡ ev ∷ es → a.place ≡ x → x ≡ ev.place
       head-place x a rest same at = sym at ∙ ap (λ (xs : List Happening). first_place xs) same
@@ -174,9 +171,9 @@ module _ (s : Setup) (setup : IsSetup s) (known : IsAlwaysKnown s) (es : List Ha
     before-is =
         let reparts : w.trace ≡ (newer ++ it ∷ []) ++ older = parts ∙ sym (append_assoc newer (it ∷ []) older) in
         let decided_front = each-front (λ (j : Noted). IsDecided w j.place j.note) (newer ++ it ∷ []) older (subst (EachOf (λ (j : Noted). IsDecided w j.place j.note)) reparts decided) in
-        let decided_older = (each-behind (λ (j : Noted). IsDecided w j.place j.note) newer (it ∷ older) decided-parts).1 in
+        let decided_older = (EachOf-behind (λ (j : Noted). IsDecided w j.place j.note) newer (it ∷ older) decided-parts).1 in
         let front = EachOf-append (λ (j : Noted). place_lt j.place it.place ≡ false) newer (it ∷ [])
-        (EachOf-more (λ (j : Noted). place_lt it.place j.place ≡ true) (λ (j : Noted). place_lt j.place it.place ≡ false) newer (λ j is. not-below it.place j.place is) around.0) (not-itself it.place, tt) in
+        (EachOf-more (λ (j : Noted). place_lt it.place j.place ≡ true) (λ (j : Noted). place_lt j.place it.place ≡ false) newer (λ j is. not-below it.place j.place is) around.0) (place_lt-irrefl it.place, tt) in
         ap (before it.place) (ap (items_from w so_far) reparts ∙ items-append w so_far (newer ++ it ∷ []) older)
         ∙ before-cut it.place (items_from w so_far (newer ++ it ∷ [])) (items_from w so_far older)
         (items-at s setup cs w e timely (λ y. place_lt y it.place ≡ false) (newer ++ it ∷ []) decided_front front)
@@ -187,13 +184,13 @@ module _ (s : Setup) (setup : IsSetup s) (known : IsAlwaysKnown s) (es : List Ha
     module _ (t : Told) (other : Op) (ask : Ask) (answer : Answer) (j : Noted) (some : SomeOf (λ i. i ≡ j) w.trace) (note : j.note ≡ Note.Decided t.proc t.number ask answer) (of : settled_op j.place.node ask ≡ Some other)
         (none : is_fault t.reply ≡ false) (among : IsAmong t so_far) (place : j.place ≡ x.place) (proc : t.proc ≡ x.proc) (top : t.op ≡ x.op) (treply : t.reply ≡ x.reply) where
       abbrev was : ToldThen w t
-      was = each-in (λ (t : Told). is_fault t.reply ≡ false → ToldThen w t) t so_far (told-always s setup known cs w e timely) among none
+      was = EachOf-at (λ (t : Told). is_fault t.reply ≡ false → ToldThen w t) t so_far (told-always s setup known cs w e timely) among none
 
       it-is : j ≡ was.it
       it-is =
           let there : SomeOf (λ (i : Noted). IsDecisionOf t.proc t.number i.note × (i ≡ was.it)) w.trace = subst (SomeOf (λ (i : Noted). IsDecisionOf t.proc t.number i.note × (i ≡ was.it))) (sym was.parts)
           (SomeOf-right (λ (i : Noted). IsDecisionOf t.proc t.number i.note × (i ≡ was.it)) was.newer (was.it ∷ was.older) (inl (was.decides, refl))) in
-          each-in (λ (i : Noted). IsDecisionOf t.proc t.number i.note → i ≡ was.it) j w.trace (once-each t.proc t.number (λ i. i ≡ was.it) w.trace (decisions-are s (setup-procs s setup) cs w e).once there) some
+          EachOf-at (λ (i : Noted). IsDecisionOf t.proc t.number i.note → i ≡ was.it) j w.trace (once-each t.proc t.number (λ i. i ≡ was.it) w.trace (decisions-are s (setup-procs s setup) cs w e).once there) some
           (subst (IsDecisionOf t.proc t.number) (sym note) (refl, refl))
 
       at-x : was.it.place ≡ x.place
@@ -203,7 +200,7 @@ module _ (s : Setup) (setup : IsSetup s) (known : IsAlwaysKnown s) (es : List Ha
       note-it = ap (λ (i : Noted). i.note) (sym it-is) ∙ note
 
       decided-it : IsDecided w j.place j.note
-      decided-it = each-in (λ (j : Noted). IsDecided w j.place j.note) j w.trace decided some
+      decided-it = EachOf-at (λ (j : Noted). IsDecided w j.place j.note) j w.trace decided some
 
       asks : ask ≡ Ask.Unlock u
       asks =
@@ -248,8 +245,8 @@ module _ (s : Setup) (setup : IsSetup s) (known : IsAlwaysKnown s) (es : List Ha
     by-item j some _ (did p phase other r note) same = absurd (
         let is_op : other ≡ ops.Unlock u = ap (λ i. (deed_of i).op) same ∙ op in
         let is_reply : r ≡ replies.Fine = ap (λ i. (deed_of i).reply) same ∙ reply in
-        let desk : IsDeskReply other r = subst IsAtDesk note (each-in (λ (j : Noted). IsAtDesk j.note) j w.trace (told-are s setup cs w e timely).desks some) in
-        let not_held : replies.Fine ≡ replies.NotHeld = subst (λ z. IsDeskReply (ops.Unlock u) z) is_reply (subst (λ z. IsDeskReply z r) is_op desk) in cc)
+        let desk : IsLocalReply other r = subst IsAtDesk note (EachOf-at (λ (j : Noted). IsAtDesk j.note) j w.trace (told-are s setup cs w e timely).desks some) in
+        let not_held : replies.Fine ≡ replies.NotHeld = subst (λ z. IsLocalReply (ops.Unlock u) z) is_reply (subst (λ z. IsLocalReply z r) is_op desk) in cc)
     by-item j some _ (faulted t other note place fault among) same = absurd (
         let f : true ≡ false = sym fault ∙ ap is_fault (ap (λ i. (deed_of i).reply) same ∙ reply) in cc)
     by-item j some _ (answered t other ask answer note of none among) same =
@@ -258,7 +255,7 @@ module _ (s : Setup) (setup : IsSetup s) (known : IsAlwaysKnown s) (es : List Ha
     by-item j some _ (opened p number other ask answer r o note of change doing has) same = absurd (cc)
 
     has-item : SomeOf (λ i. i ≡ Answered x) items → Result
-    has-item there = each-in (λ i. i ≡ Answered x → Result) (Answered x) items (each-item s setup cs w e timely (λ i. i ≡ Answered x → Result) w.trace decided by-item) there refl
+    has-item there = EachOf-at (λ i. i ≡ Answered x → Result) (Answered x) items (each-item s setup cs w e timely (λ i. i ≡ Answered x → Result) w.trace decided by-item) there refl
 
   pub homes-have-all : HomesHaveAll s es
   homes-have-all x u is =

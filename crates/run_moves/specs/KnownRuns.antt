@@ -6,9 +6,9 @@ use Rattle.node_runs.specs.NodesKeep.{IsTimely}
 use Rattle.node_runs.specs.Runs.{World, Choice, world_after}
 use Rattle.run_effects.specs.NotedEffects.{AreEffectsNoted}
 use Rattle.run_effects.specs.NotedDeeds.{AreDeedsTold}
-use Rattle.run_told.specs.States.{AreStatesTold}
-use Rattle.run_replies.specs.DeskReplies.{AreDeskReplies}
-use Rattle.run_replies.specs.HomeReplies.{AreHomeReplies}
+use Rattle.run_effects.specs.States.{AreStatesTold}
+use Rattle.run_moves.specs.DeskReplies.{AreDeskReplies}
+use Rattle.run_moves.specs.HomeReplies.{AreHomeReplies}
 
 pub record IsKnown (s : Setup) (w : World) : Type 0 where
   pub effects : AreEffectsNoted w

@@ -3,14 +3,27 @@ ghost use Rattle.std.specs.Prelude.{◌≡◌, ◌^◌, Some, List, ◌∷◌};
 ghost use Rattle.dom_history.specs.Events.{Happening};
 ghost use Rattle.dom_history.specs.Legal.{IsLegal};
 ghost use Rattle.node_runs.specs.Setups.{Setup, IsSetup};
-ghost use Rattle.node_runs.specs.NodesKeep.{IsTimely};
+ghost use Rattle.node_runs.specs.NodesKeep.{IsTimely, InEveryRun};
 ghost use Rattle.node_runs.specs.Runs.{Choice, World, world_after, world_of, IsRun};
 ghost use Rattle.node_runs.specs.RunHistories.{history_in, history_of};
 ghost use Rattle.node_runs.specs.Deliveries.{IsPlanned};
 ghost use Rattle.world_runs.specs.Picked.{IsPicked};
-ghost use Rattle.run_moves.specs.DoubtfulRun as doubtful;
 ghost use Rattle.run_moves.specs.MovedHistories.{IsMovedOrSame};
 ghost use Rattle.run_moves.specs.HomesAtUnlocks.{HomesHaveAll};
+ghost use Rattle.run_moves.specs.DeskReplies.{AreDeskReplies};
+ghost use Rattle.run_moves.specs.HomeReplies.{AreHomeReplies};
+ghost use Rattle.run_moves.specs.DoubtfulRun as doubtful;
+
+/// In every run in which no tick is above 2^40: what is done at a desk is answered as one store answers it, over what was done and told
+/// before; and an operation that begins and is not done is one that its home may be asked, or an access that one store would do.
+pub fn desks_reply_as_one_store_does()
+    ensures { InEveryRun AreDeskReplies }
+{}
+
+/// And what a home decides is what one store says there; what it changes may be changed.
+pub fn homes_reply_as_one_store_does()
+    ensures { InEveryRun AreHomeReplies }
+{}
 
 /// In every run in which no tick is above 2^40 each event leaves the history as it was, or moves it by one of the seven changes that keep
 /// it one of one store.

@@ -1,4 +1,4 @@
-//! Each event of a run moves its history as one store allows, so that every run is one store.
+//! Laws of replies and of histories: desks and homes reply as one store does, and each event moves the history as one store allows.
 #![tactic(auto)]
 
 pub mod laws;

@@ -1,6 +1,6 @@
 -- Arguments of commands: what the test of their form leaves, and what they give a command.
 use Rattle.std.proofs.Common.{◌≡◌, ◌≤◌, ◌<◌, ◌+◌, ◌-◌, ◌*◌, lit≤, ℕ, zero, suc, Bool, true, false, List, [], ◌∷◌, ◌++◌, length, length-append, map, get_or, drop, drop-cons, add-one, Option, Some, None, refl, ap, sym, subst, ◌∙◌, append_assoc, append-nil, arith, rules}
-use Rattle.std.specs.Prelude.{◌&&◌, ◌↔◌, bytes_eq, not, nat_le, nat_lt, is_some, unwrap_or, if◌then◌else◌, IfSome, IsTrue, All}
+use Rattle.std.specs.Prelude.{◌&&◌, ◌↔◌, bytes_eq, nat_le, nat_lt, is_some, unwrap_or, if◌then◌else◌, IfSome, IsTrue, All}
 use Rattle.std.specs.List.{AllByRecursion, list_all, position_or_len, slice_get}
 use Rattle.std.proofs.lemmas.List.Folds.{list_all-map}
 use Rattle.std.proofs.lemmas.List.{drop_all}
@@ -9,6 +9,7 @@ use Rattle.std.specs.Option.{option_map}
 use Rattle.std.specs.Slice.{IsItemAt}
 use Rattle.std.specs.Borrow.{Bor}
 use Rattle.std.proofs.Math.Seq.{drop-nil, get_or-append_seam}
+use Rattle.std.proofs.lemmas.Bool.{not-true, and_parts}
 use Rattle.uid_names.specs.Names.{ProcName}
 use Rattle.uid_names.specs.Rooms.{IsRoom}
 use Rattle.uid_names.specs.declared.limits.TheConstants.{MAX_ROOM, PAGE_BYTES, WRITTEN_ROOM}
@@ -43,16 +44,12 @@ use Rattle.script_reader.specs.declared.words.Verb.TheVariants as verb
 use Rattle.script_reader.proofs.Decisions.{passes_all}
 use Rattle.script_reader.proofs.Kept.{name_text}
 
-pub and_true : (a b : Bool) → (a && b) ≡ true → (a ≡ true) × (b ≡ true)
-and_true true b h = (refl, h)
-and_true false b h = absurd cc
-
 -- a number that was found is in its range
 pub within_is : (low high : ℕ) (found : Option ℕ) → IfSome (within low high found) (λ n. (low ≤ n) × (n ≤ high))
 within_is low high None = tt
 within_is low high (Some n) = by_test (nat_le low n && nat_le n high) refl where
   by_test : (t : Bool) → (nat_le low n && nat_le n high) ≡ t → IfSome (if t then Some n else None) (λ m. (low ≤ m) × (m ≤ high))
-  by_test true e = let both = and_true (nat_le low n) (nat_le n high) e in (search (rules, both.0), search (rules, both.1))
+  by_test true e = let both = and_parts (nat_le low n) (nat_le n high) e in (search (rules, both.0), search (rules, both.1))
   by_test false e = tt
 
 -- a room that can be written is one that an object can have, and so is an offset
@@ -311,7 +308,7 @@ argument_is nodes (Room found) h number named known = found_is IsRoom found h nu
 argument_is nodes (Offset found) h number named known = found_is IsOffset found h number
 argument_is nodes (Count found) h number named known = found_is IsCount found h number
 argument_is nodes (Address found) h number named known = found_is IsAddress found h number
-argument_is nodes (Text text) h number named known = let both = and_true (nat_le 1 (length text)) (nat_le (length text) PAGE_BYTES) number in (search (rules, both.0), search (rules, both.1))
+argument_is nodes (Text text) h number named known = let both = and_parts (nat_le 1 (length text)) (nat_le (length text) PAGE_BYTES) number in (search (rules, both.0), search (rules, both.1))
 argument_is nodes (Mode mode) h number named known = tt
 argument_is nodes (Home name) h number named known = home_is nodes name
 argument_is nodes (HomeNode name) h number named known = node_is nodes name known
@@ -322,9 +319,9 @@ argument_is nodes (OptionalPath path) h number named known = optional_path_is pa
 arguments_are : (nodes : List NodeRow) (arguments : List Said) → AllByRecursion IsFound arguments → list_all has_number arguments ≡ true → list_all has_name arguments ≡ true → list_all (names_node nodes) arguments ≡ true → AllByRecursion (IsArgument (length nodes)) (map (given nodes) arguments)
 arguments_are nodes [] h numbers names nodes_known = tt
 arguments_are nodes (a ∷ rest) h numbers names nodes_known =
-    let number = and_true (has_number a) (list_all has_number rest) numbers in
-    let name = and_true (has_name a) (list_all has_name rest) names in
-    let known = and_true (names_node nodes a) (list_all (names_node nodes) rest) nodes_known in
+    let number = and_parts (has_number a) (list_all has_number rest) numbers in
+    let name = and_parts (has_name a) (list_all has_name rest) names in
+    let known = and_parts (names_node nodes a) (list_all (names_node nodes) rest) nodes_known in
     (argument_is nodes a h.0 number.0 name.0 known.0, arguments_are nodes rest h.1 number.1 name.1 known.1)
 
 pub command_is : (nodes : List NodeRow) (v : Verb) (arguments : List Said) → AreFormed (shape_of v) arguments → list_all has_number arguments ≡ true → list_all has_name arguments ≡ true → list_all (names_node nodes) arguments ≡ true → IsCommand (length nodes) (command_said nodes v arguments)
@@ -339,17 +336,13 @@ node_known s proc _ known = refl
 pub nodes_known : (s : Content) (proc : ProcName) (arguments : List Said) → list_all (is_known s proc) arguments ≡ true → list_all (names_node s.nodes) arguments ≡ true
 nodes_known s proc [] known = refl
 nodes_known s proc (a ∷ rest) known =
-    let k = and_true (is_known s proc a) (list_all (is_known s proc) rest) known in
+    let k = and_parts (is_known s proc a) (list_all (is_known s proc) rest) known in
     rw (node_known s proc a k.0) (nodes_known s proc rest k.1)
-
-pub not_true : (b : Bool) → not b ≡ true → b ≡ false
-not_true true h = absurd cc
-not_true false h = refl
 
 -- an argument of which the process may speak
 argument_spoken : (s : Content) (proc : ProcName) (a : Said) → is_known s proc a ≡ true → is_fresh s a ≡ true → MaySpeakOf s.objects s.commands proc (given s.nodes a)
 argument_spoken s proc (Var name) known fresh = known
-argument_spoken s proc (NewVar name) known fresh = not_true (is_declared s.objects name) fresh
+argument_spoken s proc (NewVar name) known fresh = not-true (is_declared s.objects name) fresh
 argument_spoken s proc (Room found) known fresh = tt
 argument_spoken s proc (Offset found) known fresh = tt
 argument_spoken s proc (Count found) known fresh = tt
@@ -365,8 +358,8 @@ argument_spoken s proc (OptionalPath path) known fresh = tt
 arguments_spoken : (s : Content) (proc : ProcName) (arguments : List Said) → list_all (is_known s proc) arguments ≡ true → list_all (is_fresh s) arguments ≡ true → AllByRecursion (MaySpeakOf s.objects s.commands proc) (map (given s.nodes) arguments)
 arguments_spoken s proc [] known fresh = tt
 arguments_spoken s proc (a ∷ rest) known fresh =
-    let k = and_true (is_known s proc a) (list_all (is_known s proc) rest) known in
-    let f = and_true (is_fresh s a) (list_all (is_fresh s) rest) fresh in
+    let k = and_parts (is_known s proc a) (list_all (is_known s proc) rest) known in
+    let f = and_parts (is_fresh s a) (list_all (is_fresh s) rest) fresh in
     (argument_spoken s proc a k.0 f.0, arguments_spoken s proc rest k.1 f.1)
 
 pub command_spoken : (s : Content) (proc : ProcName) (v : Verb) (arguments : List Said) → map kind_of arguments ≡ shape_of v → list_all (is_known s proc) arguments ≡ true → list_all (is_fresh s) arguments ≡ true → IsSpoken s.objects s.commands proc (command_said s.nodes v arguments)

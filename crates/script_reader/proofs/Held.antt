@@ -3,7 +3,6 @@ use Rattle.std.proofs.Common.{◌≡◌, ◌≢◌, ◌≤◌, ◌<◌, ◌+◌,
 use Rattle.std.specs.Prelude.{◌&&◌, ◌||◌, ◌==◌, if◌then◌else◌, replicate, sum_by}
 use Rattle.std.specs.Prelude.{bytes_eq}
 use Rattle.std.proofs.lemmas.Bool.{false≢true, eqb-true, eqb-false, ne_eqb}
-use Rattle.std.proofs.lemmas.Bool.Decides.{nat_tests}
 use Rattle.std.proofs.lemmas.List.{get_or-replicate, get_or-set_other, length-set}
 use Rattle.std.proofs.lemmas.Grind.{get_or-set_at}
 use Rattle.std.proofs.lemmas.List.Elements.{All-push, All-head, All-tail, All-weaker, filter-append}
@@ -11,7 +10,7 @@ use Rattle.std.proofs.lemmas.List.Folds.{list_any-append}
 use Rattle.std.proofs.lemmas.List.Quantifiers.{all_pairs_push}
 use Rattle.std.proofs.lemmas.List.Sums.{sum_by-append, sum_by-cons}
 use Rattle.uid_names.specs.Names.{ProcName, ObjectName, place_of_process, same_proc, same_uid}
-use Rattle.uid_names.proofs.Orders.{same_proc_is}
+use Rattle.uid_names.proofs.Orders.{same_proc_is, same_proc-itself, proc_by_parts}
 use Rattle.uid_names.specs.Openings.{IsDeclarable}
 use Rattle.uid_names.specs.declared.opening.Object.{Object}
 use Rattle.uid_names.specs.declared.limits.TheConstants.{ENTRY_ROOM, MAX_NODES, MAX_ROOM, VOLUME_ROOM}
@@ -34,19 +33,12 @@ also_decides P Q R true b h k l = (λ p. refl, λ yes. h.1 (inl (k.1 refl)))
 also_decides P Q R false true h k l = (λ p. refl, λ yes. h.1 (inr (l.1 refl)))
 also_decides P Q R false false h k l = (λ p. ⊎_elim k.0 l.0 (h.0 p), λ no. absurd (false≢true no))
 
--- a process is its node and its number there
-same_name : (p q : ProcName) → p.node ≡ q.node → p.number ≡ q.number → p ≡ q
-same_name p q node number = ap (λ n. record { node = n; number = p.number }) node ∙ ap (λ m. record { node = q.node; number = m }) number
-
 -- the processes have places of their own
 pub one_place : (p q : ProcName) → IsProcName p → IsProcName q → place_of_process p ≡ place_of_process q → p ≡ q
 one_place p q h k e =
     let node : p.node ≡ q.node = omega (arith, h.node.0, k.node.0, h.number.0, k.number.0, h.number.1, k.number.1, e) in
     let number : p.number ≡ q.number = omega (arith, h.node.0, k.node.0, h.number.0, k.number.0, h.number.1, k.number.1, e, node) in
-    same_name p q node number
-
-pub same_proc-refl : (p : ProcName) → same_proc p p ≡ true
-same_proc-refl p = grind (arith, nat_tests)
+    proc_by_parts p q node number
 
 -- a command that names no variable more
 pub named-other : (sets : List (List (List ℕ))) (commands : List CommandRow) (row : CommandRow) → HoldsNamed sets commands → ((var : List ℕ) → makes var row.command ≡ false) → HoldsNamed sets (commands ++ row ∷ [])
@@ -75,7 +67,7 @@ named-new old new commands row name h is made own others proc good var =
           let also : HasAlso (get_or old (place_of_process proc) []) (get_or new (place_of_process proc) []) name = subst (λ k. HasAlso (get_or old k []) (get_or new k []) name) slot own in
           rw (made var) (also_decides (Contains (get_or new (place_of_process proc) []) var) (Contains (get_or old (place_of_process proc) []) var) (name ≡ var) (is_named commands proc var) (bytes_eq name var) (also var) (h proc good var) (bytes_eq-refl name var, bytes_eq-true name var))
       by_proc false e =
-          let other : place_of_process proc ≢ place_of_process row.proc = λ slot. false≢true (sym e ∙ ap (λ p. same_proc row.proc p) (one_place proc row.proc good is slot) ∙ same_proc-refl row.proc) in
+          let other : place_of_process proc ≢ place_of_process row.proc = λ slot. false≢true (sym e ∙ ap (λ p. same_proc row.proc p) (one_place proc row.proc good is slot) ∙ same_proc-itself row.proc) in
           rw (others (place_of_process proc) other) (also_decides (Contains (get_or old (place_of_process proc) []) var) (Contains (get_or old (place_of_process proc) []) var) ⊥ (is_named commands proc var) false (inl, ⊎_elim (λ x. x) (λ no. absurd no)) (h proc good var) (λ no. absurd no, λ no. absurd (false≢true no)))
 
 -- the objects of a home, with one more

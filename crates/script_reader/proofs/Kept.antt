@@ -1,5 +1,5 @@
 -- Each kind of line leaves a draft.
-use Rattle.std.proofs.Common.{◌≡◌, ◌≢◌, ◌≤◌, ◌<◌, ◌+◌, ℕ, zero, suc, Bool, true, false, List, [], ◌∷◌, ◌++◌, length, get_or, Some, None, refl, ap, sym, subst, ◌∙◌, append-nil, append_assoc, length-append, arith, rules}
+use Rattle.std.proofs.Common.{◌≡◌, ◌≢◌, ◌≤◌, ◌<◌, ◌+◌, ℕ, zero, suc, Bool, true, false, List, [], ◌∷◌, ◌++◌, length, get_or, Some, None, refl, ap, sym, subst, ◌∙◌, append-nil, append_assoc, arith, rules}
 use Rattle.std.specs.Prelude.{nat_le, nat_lt, is_some, if◌then◌else◌}
 use Rattle.std.specs.Prelude.{bytes_eq}
 use Rattle.std.specs.List.{AllByRecursion, list_all, list_any, position_or_len}
@@ -11,6 +11,7 @@ use Rattle.std.proofs.lemmas.List.Sums.{AllPass-from_list_all}
 use Rattle.uid_names.specs.Names.{ProcName, IsName}
 use Rattle.uid_names.specs.declared.limits.TheConstants.{MAX_NODES, MAX_PHASES}
 use Rattle.uid_names.specs.NameTexts.{IsNameText, is_name_byte}
+use Rattle.uid_names.proofs.ListLemmas.{length-push}
 use Rattle.dom_history.specs.Plans.{IsPlan}
 use Rattle.dom_history.specs.declared.plan.FateRow.{FateRow}
 use Rattle.script_reader.specs.Scripts.{Content, IsDraft, IsNode, IsObject}
@@ -27,10 +28,6 @@ use Rattle.script_reader.specs.declared.script.NodeRow.{NodeRow}
 use Rattle.script_reader.specs.declared.script.VarRow.{VarRow}
 use Rattle.script_reader.specs.declared.script.CommandRow.{CommandRow}
 use Rattle.script_reader.proofs.Decisions.{bytes_eq-refl}
-
--- one more
-longer : {X : Type 0} (xs : List X) (x : X) → length (xs ++ x ∷ []) ≡ length xs + 1
-longer xs x = length-append xs (x ∷ [])
 
 -- what the test of a name decides
 pub name_text : (word : List ℕ) → is_name word ≡ true → IsNameText word
@@ -97,7 +94,7 @@ row_wider m n p q nodes phases row h = record {
 -- a node more
 pub IsDraft-node : (s : Content) (name : List ℕ) (frames : ℕ) → IsDraft s → is_name name ≡ true → 5 ≤ frames → frames ≤ 256 → is_node_name s.nodes name ≡ false → length s.nodes < MAX_NODES → IsDraft (with_node s name frames)
 IsDraft-node s name frames h named few many new room =
-    let more = longer s.nodes (record { name = name; frames = frames }) in
+    let more = length-push s.nodes (record { name = name; frames = frames }) in
     let wide : length s.nodes ≤ length (s.nodes ++ record { name = name; frames = frames } ∷ []) = omega (arith, more) in record {
       few_nodes = omega (arith, more);
       nodes = All-push IsNode s.nodes (record { name = name; frames = frames }) h.nodes (record { name = name_text name named; few = few; many = many });
@@ -193,7 +190,7 @@ AreSpoken-push objects before (x ∷ done) row h spoken = (h.0, AreSpoken-push o
 pub IsDraft-command : (s : Content) (proc : ProcName) (command : Command) → IsDraft s → IsProcName proc → proc.node ≤ length s.nodes → IsCommand (length s.nodes) command → IsSpoken s.objects s.commands proc command → length s.commands < 20000 → IsDraft (with_command s proc command)
 IsDraft-command s proc command h is node range spoken room =
     let row : CommandRow = record { proc = proc; phase = s.phases; command = command } in
-    let more = longer s.commands row in record {
+    let more = length-push s.commands row in record {
       few_nodes = h.few_nodes;
       nodes = h.nodes;
       names_apart = h.names_apart;

@@ -10,5 +10,3 @@ pub mod Ranges
 pub mod Begun
 pub mod Declaring
 pub mod Placing
-pub mod Adding
-pub mod Generating

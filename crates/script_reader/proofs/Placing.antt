@@ -4,12 +4,12 @@ use Rattle.std.specs.Prelude.{if◌then◌else◌}
 use Rattle.std.proofs.lemmas.Bool.{false≢true}
 use Rattle.std.proofs.lemmas.List.Elements.{All-nil, All-cons}
 use Rattle.uid_names.specs.Names.{ProcName, place_of_process, same_proc}
-use Rattle.uid_names.proofs.Orders.{same_proc_is}
+use Rattle.uid_names.proofs.Orders.{same_proc_is, same_proc-itself}
 use Rattle.dom_history.specs.Ranges.{IsProcName}
 use Rattle.script_reader.specs.Places.{places_of}
 use Rattle.script_reader.specs.Walk.Placed.{HoldsPlaces}
 use Rattle.script_reader.specs.declared.script.CommandRow.{CommandRow}
-use Rattle.script_reader.proofs.Held.{one_place, same_proc-refl}
+use Rattle.script_reader.proofs.Held.{one_place}
 
 -- a command behind the others
 places-push : (n : ℕ) (proc : ProcName) (rows : List CommandRow) (row : CommandRow) → places_of n proc (rows ++ row ∷ []) ≡ places_of n proc rows ++ (if same_proc row.proc proc then (n + length rows) ∷ [] else [])
@@ -36,7 +36,7 @@ HoldsPlaces-push old new rows row h is own others proc good = rw (places-push 0 
       let same = same_proc_is row.proc proc e in
       subst (λ p. get_or new (place_of_process p) [] ≡ get_or old (place_of_process p) [] ++ length rows ∷ []) same own ∙ (ap (λ places. places ++ length rows ∷ []) (h proc good) ∙ ap (λ k. places_of 0 proc rows ++ k ∷ []) (sym first))
   by_proc false e =
-      let other : place_of_process proc ≢ place_of_process row.proc = λ slot. false≢true (sym e ∙ ap (λ p. same_proc row.proc p) (one_place proc row.proc good is slot) ∙ same_proc-refl row.proc) in
+      let other : place_of_process proc ≢ place_of_process row.proc = λ slot. false≢true (sym e ∙ ap (λ p. same_proc row.proc p) (one_place proc row.proc good is slot) ∙ same_proc-itself row.proc) in
       others (place_of_process proc) other ∙ (h proc good ∙ sym (append-nil (places_of 0 proc rows)))
 
 -- places stand among the commands

@@ -21,10 +21,6 @@ both_true true true h = (refl, refl)
 both_true true false h = absurd cc
 both_true false b h = absurd cc
 
-pub is_true : (b : Bool) → not b ≡ false → b ≡ true
-is_true true h = refl
-is_true false h = absurd cc
-
 -- a node that was found
 pub node_is : (nodes : List NodeRow) (name : List ℕ) (found : Option ℕ) (node : ℕ) → IsNodeOf nodes name found → found ≡ Some node → (node ≡ node_number nodes name) × (1 ≤ node) × (node ≤ length nodes)
 node_is nodes name found node h e = (subst (λ f. IfSome f (λ n. n ≡ node_number nodes name)) e h.value, subst (λ f. IfSome f (λ n. 1 ≤ n)) e h.least, subst (λ f. IfSome f (λ n. n ≤ length nodes)) e h.within)

@@ -5,7 +5,7 @@ use Rattle.uid_names.specs.NameTexts.{IsNameText}
 use Rattle.uid_names.specs.Rooms.{IsRoom}
 use Rattle.uid_names.specs.declared.limits.TheConstants.{MAX_LENGTH, PAGE_BYTES}
 use Rattle.dom_history.specs.Ranges.{IsProcName}
-use Rattle.naming_tree.specs.Paths.{route_of}
+use Rattle.dir_records.specs.Paths.{route_of}
 use Rattle.script_reader.specs.Arguments.{Given, Var, NewVar, Room, Offset, Count, Address, Text, Mode, Home, HomeNode, OptionalRoom, Path, OptionalPath}
 use Rattle.script_reader.specs.declared.command.Command.{Command}
 use Rattle.script_reader.specs.declared.command.Command.TheVariants.{New, Lock, Unlock, Delete, Load, Store, Length, Map, Unmap, Loadat, Storeat, Bind, Crf, Crd, Crl, Dlf, Catf, Lnf, Apf, Cpf, Ld, Wd, Llkob}

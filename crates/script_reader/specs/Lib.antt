@@ -21,6 +21,4 @@ pub mod After
 pub mod Judging
 pub mod Grammar
 pub mod Faults
-pub mod Draws
-pub mod Generated
 pub mod Walk

@@ -1,7 +1,7 @@
 -- `name`: where a line asks for the name of a node or of a variable, or for a path.
 use Rattle.std.specs.Prelude.{Bool, true, false, not, ◌&&◌, is_some, Some}
 use Rattle.std.specs.List.{list_all}
-use Rattle.naming_tree.specs.Paths.{route_of}
+use Rattle.dir_records.specs.Paths.{route_of}
 use Rattle.script_reader.specs.Words.{is_name}
 use Rattle.script_reader.specs.Arguments.{Said, Var, NewVar, Home, HomeNode, Path, OptionalPath}
 use Rattle.script_reader.specs.Sayings.{Saying, Node, Object, Fault, Phase, Does}

@@ -10,5 +10,3 @@ pub mod Starts
 pub mod Drafts
 pub mod Inside
 pub mod Results
-pub mod Begun
-pub mod Drawing

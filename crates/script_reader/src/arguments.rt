@@ -14,8 +14,8 @@ ghost use Rattle.script_reader.specs.Words.{mode_of_word};
 use crate::numbers::{address, count, offset, room};
 use crate::words::{Kind, is_name};
 use arrayvec::ArrayVec;
+use dir_records::is_path;
 use dom_text::TokenRef;
-use naming_tree::is_path;
 use std::alloc::Global;
 use uid_names::{ByteList, Mode, NoMemory, PAGE_BYTES};
 

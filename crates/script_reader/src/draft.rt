@@ -56,7 +56,7 @@ const FIRST_COUNTER: u64 = 2;
 /// `counts` and `pages` say of each home how many objects are declared there, and how many pages they
 /// take with the entry directory, so that no test goes over all rows.
 #[derive(Drop)]
-pub(crate) struct Draft {
+pub struct Draft {
     nodes: Vec<NodeRow>,
     starts: Vec<Object>,
     objects: Vec<VarRow>,
@@ -90,7 +90,7 @@ struct LineNodes {
 
 impl Draft {
     /// Nothing was said.
-    pub(crate) fn new(alloc: Global) -> Result<Draft, NoMemory>
+    pub fn new(alloc: Global) -> Result<Draft, NoMemory>
         ensures { IfOk result (λ draft. draft ≡ nothing) }
     {
         let named = NamedVars::new(alloc)?;
@@ -305,7 +305,7 @@ impl Draft {
     }
 
     /// Begins a phase.
-    pub(crate) fn add_phase(&mut self)
+    pub fn add_phase(&mut self)
         requires { self.old.phases < MAX_PHASES }
         ensures { self.new ≡ record self.old { phases = self.old.phases + 1 } }
     {
@@ -329,12 +329,7 @@ impl Draft {
     }
 
     /// Declares a node.
-    pub(crate) fn add_node(
-        &mut self,
-        alloc: Global,
-        name: &[u8],
-        frames: u16,
-    ) -> Result<(), NoMemory>
+    pub fn add_node(&mut self, alloc: Global, name: &[u8], frames: u16) -> Result<(), NoMemory>
         requires name { is_name name.now ≡ true }
         requires few { 5 ≤ frames }
         requires many { frames ≤ 256 }
@@ -348,7 +343,7 @@ impl Draft {
     }
 
     /// Declares an object. Where there is no memory for all that is noted of it, nothing is noted.
-    pub(crate) fn add_object(
+    pub fn add_object(
         &mut self,
         alloc: Global,
         var: &[u8],
@@ -387,7 +382,7 @@ impl Draft {
     }
 
     /// Adds a command of the last phase. Where there is no memory for all that is noted of it, nothing is noted.
-    pub(crate) fn add_command(
+    pub fn add_command(
         &mut self,
         alloc: Global,
         proc: ProcId,
@@ -433,7 +428,7 @@ impl Draft {
     }
 
     /// The script, where a node was declared.
-    pub(crate) fn finish(self, alloc: Global) -> Result<Script, NoMemory>
+    pub fn finish(self, alloc: Global) -> Result<Script, NoMemory>
         requires { 1 ≤ length self.nodes }
         ensures { IfOk result (λ script. script ≡ self) }
     {

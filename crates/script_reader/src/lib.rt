@@ -1,13 +1,11 @@
-//! Reads scripts: from bytes to nodes, objects, a fault plan and commands, or to the first bad line. Makes scripts of seeds.
+//! Reads scripts: from bytes to nodes, objects, a fault plan and commands, or to the first bad line.
 #![tactic(auto)]
 
 mod arguments;
 pub mod cause;
 pub mod command;
-mod draft;
-mod draws;
+pub mod draft;
 mod forms;
-mod generator;
 mod index;
 pub mod laws;
 mod line;
@@ -21,6 +19,6 @@ mod words;
 
 pub use cause::{Cause, ScriptFault};
 pub use command::Command;
-pub use generator::generate;
+pub use draft::Draft;
 pub use reader::read_script;
 pub use script::{CommandRow, NodeRow, Script, VarRow};

@@ -25,11 +25,7 @@ told_is (Generated seed) s run = refl
 pub due_of_source : (origin : Origin) (left : Option (List ℕ)) (s : Content) (turns : ℕ) (r : Result Due RunEnd) → IsScriptFrom origin left s → IfOk r (IsDueOf origin s turns) → IfOk r (IsDueText origin left turns)
 due_of_source origin left s turns (Err e) source due = tt
 due_of_source origin left s turns (Ok (Refusal text)) source due = absurd due
-due_of_source origin left s turns (Ok (Run text lines)) source due = record {
-  run = record { script = s; source = source; events = due.events; run = due.run; one_store = due.one_store };
-  told = due.told;
-  written = due.written;
-}
+due_of_source origin left s turns (Ok (Run text lines)) source due = (record { script = s; source = source; is = due.0 }, due.1, due.2)
 
 pub limit_of_source : (origin : Origin) (left : Option (List ℕ)) (s : Content) (turns : ℕ) (r : Result Due RunEnd) → IsScriptFrom origin left s → IfErr r (IsEndOf s turns) → IsErrOf r TickLimit → LimitOfSource origin left turns
 limit_of_source origin left s turns (Ok due) source end is = absurd (search (rules, is))
@@ -53,9 +49,9 @@ module _ (words : List (List ℕ)) (left : Option (List ℕ)) (origin : Origin) 
         origin = origin;
         turns = turns;
         asked = asked;
-        run = texts.run;
-        told = told ∙ ap (append_known out.before) texts.told;
-        written = written ∙ ap (append_known journal.before) texts.written;
+        run = texts.0;
+        told = told ∙ ap (append_known out.before) texts.1;
+        written = written ∙ ap (append_known journal.before) texts.2;
       }
 
   pub journal_cut : (out journal : Held) → Adds out.before out.after text → AppendsPrefix journal.before journal.after lines → AddsPartOfRun words left out journal
@@ -64,11 +60,11 @@ module _ (words : List (List ℕ)) (left : Option (List ℕ)) (origin : Origin) 
         origin = origin;
         turns = turns;
         asked = asked;
-        run = texts.run;
-        told = told ∙ ap (append_known out.before) texts.told;
-        part = subst (AppendsPrefix journal.before journal.after) texts.written part;
+        run = texts.0;
+        told = told ∙ ap (append_known out.before) texts.1;
+        part = subst (AppendsPrefix journal.before journal.after) texts.2 part;
       }
 
   pub text_cut : (out : Held) → AppendsPrefix out.before out.after text → AddsPart words left out
   text_cut out part =
-      record { origin = origin; turns = turns; asked = asked; text = text; due = inl (record { run = texts.run; written = texts.told }); part = part }
+      record { origin = origin; turns = turns; asked = asked; text = text; due = inl (texts.0, texts.1); part = part }

@@ -3,6 +3,5 @@ pub mod Sourced
 pub mod Due
 pub mod Asking
 pub mod Judged
-pub mod PlanRows
 pub mod FirstNodes
 pub mod RanNodes

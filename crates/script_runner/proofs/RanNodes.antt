@@ -27,8 +27,8 @@ use Rattle.world_runs.specs.Draws.{ComesToLast}
 use Rattle.world_runs.specs.ByPlace.{by_place}
 use Rattle.world_runs.specs.Picked.{IsPicked}
 use Rattle.world_runs.specs.NamedNodes.{NamesNodes, NamesNodesIn}
-use Rattle.world_core.specs.declared.run.RunFault.{RunFault}
-use Rattle.world_core.specs.declared.run.RunFault.TheVariants.{TickLimit, NoMemory}
+use Rattle.node_core.specs.declared.fault.RunFault.{RunFault}
+use Rattle.node_core.specs.declared.fault.RunFault.TheVariants.{TickLimit, NoMemory}
 use Rattle.world_core.specs.declared.world.World.{World as Whole}
 use Rattle.world_core.specs.Ended.{named}
 use Rattle.world_core.specs.Stands as worlds
@@ -42,7 +42,7 @@ use Rattle.script_runner.specs.declared.run.AnswerRow.{AnswerRow}
 use Rattle.script_runner.specs.Answered.{answers_by, row_in}
 use Rattle.script_runner.specs.Faults.{IsFaultOf}
 use Rattle.script_runner.specs.Nodes.{made_shell}
-use Rattle.script_runner.specs.Reports.{IsRan, answers_in}
+use Rattle.script_runner.specs.Reports.{RunOf, IsRan, answers_in}
 use Rattle.script_runner.proofs.FirstNodes.{shell_found}
 
 -- each process of a script is one of its nodes
@@ -162,13 +162,9 @@ module _ (s : Content) (content : IsContent s) (start : IsStart s.opening) (seed
   -- what came of the script
   pub ran_is : AreAsOneStore → ((p : ProcName) (heard : Heard) → shell_answers (program_after shell_after (shell_of s p) heard) ≡ answers s p heard)
       → (procs : List ProcName) → procs ≡ processes_of s.commands → (rows : List AnswerRow) → map answers_in rows ≡ map (row_in programs) procs → IsRan s seed last (record { events = events; answers = rows })
-  ran_is one_store answered procs are rows same = record {
-    events = by_place ended.world.done;
-    run = run_of;
-    one_store = one_store s seed last content start most (by_place ended.world.done) run_of;
-    by_place = ended.events_are;
-    answers = same ∙ rows_are s content seed last events programs ended answered procs are;
-  }
+  ran_is one_store answered procs are rows same =
+      let all : RunOf s seed last = record { events = by_place ended.world.done; run = run_of; one_store = one_store s seed last content start most (by_place ended.world.done) run_of } in
+      (all, ended.events_are, same ∙ rows_are s content seed last events programs ended answered procs are)
 
   -- each node that an event names has a name
   pub names_are : NameTheirNodes → All (Names (names_of s)) events

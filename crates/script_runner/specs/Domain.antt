@@ -7,15 +7,14 @@ use Rattle.script_reader.specs.declared.cause.Cause.{Cause}
 use Rattle.script_reader.specs.Causes.{cause_text}
 use Rattle.script_reader.specs.Scripts.{Content}
 use Rattle.script_reader.specs.Grammar.{IsScript, IsBad}
-use Rattle.script_reader.specs.Generated.{generated}
+use Rattle.script_maker.specs.Generated.{generated}
 use Rattle.script_runner.specs.declared.words.Origin.{Origin}
 use Rattle.script_runner.specs.declared.words.Origin.TheVariants.{Read, Generated}
 use Rattle.script_runner.specs.Words.{AskFor}
 use Rattle.script_runs.specs.Runs.{IsRunOf, ComesToTick, last_tick}
 use Rattle.script_runs.specs.Reports.{report_of}
 use Rattle.script_runs.specs.Summaries.{summary_of}
-use Rattle.script_runs.specs.Histories.{IsAsOneStore}
-use Rattle.script_runner.specs.Reports.{journal_of}
+use Rattle.script_runner.specs.Reports.{RunOf, journal_of}
 
 -- the exit statuses
 abbrev pub is_status : ℕ → Bool
@@ -43,15 +42,11 @@ abbrev pub IsScriptFrom : Origin → Option (List ℕ) → Content → Type 0
 IsScriptFrom Read left script = IsSourceOf left script
 IsScriptFrom (Generated seed) left script = script ≡ generated seed
 
--- a run of a script, the one that the number of its turns picks; it is as one store would have it: all nodes have ended, the history is one of
--- one store, which holds each process's commands once and in order to their end, in phases that never overlap, with the replies that its
--- program heard; and at each unlock of a held lock every page that the holder modified is at its home
+-- the run of the script that is run
 pub record RunOfSource (origin : Origin) (left : Option (List ℕ)) (turns : ℕ) : Type 0 where
   pub script : Content
   pub source : IsScriptFrom origin left script
-  pub events : List Happening
-  pub run : IsRunOf script turns last_tick events
-  pub one_store : IsAsOneStore script events run.picked.world
+  pub is : RunOf script turns last_tick
 
 -- the turns of this number give a node of the script the last tick
 pub record LimitOfSource (origin : Origin) (left : Option (List ℕ)) (turns : ℕ) : Type 0 where
@@ -66,10 +61,10 @@ text_of Read s run = report_of s run
 text_of (Generated seed) s run = summary_of seed s run
 
 abbrev pub text_in : (origin : Origin) {left : Option (List ℕ)} {turns : ℕ} → RunOfSource origin left turns → List ℕ
-text_in origin r = text_of origin r.script r.run
+text_in origin r = text_of origin r.script r.is.run
 
 abbrev pub journal_in : {origin : Origin} {left : Option (List ℕ)} {turns : ℕ} → RunOfSource origin left turns → List ℕ
-journal_in r = journal_of r.script r.events
+journal_in r = journal_of r.script r.is.events
 
 -- the bytes of a source are bad at this line, for this cause
 pub record IsBadSource (left : Option (List ℕ)) (line : ℕ) (cause : Cause) : Type 0 where
@@ -90,9 +85,8 @@ IsRefusalFrom Read left text = IsRefusalOfSource left text
 IsRefusalFrom (Generated seed) left text = ⊥
 
 -- the text is what is told of the run that the number of turns picks
-pub record IsTextOfSource (origin : Origin) (left : Option (List ℕ)) (turns : ℕ) (text : List ℕ) : Type 0 where
-  pub run : RunOfSource origin left turns
-  pub written : text ≡ text_in origin run
+abbrev pub IsTextOfSource : Origin → Option (List ℕ) → ℕ → List ℕ → Type 0
+IsTextOfSource origin left turns text = (r : RunOfSource origin left turns) × (text ≡ text_in origin r)
 
 -- the text that is due: what is told of the run, or what is said of the first bad line
 abbrev pub IsDue : Origin → Option (List ℕ) → ℕ → List ℕ → Type 0
@@ -106,6 +100,9 @@ Adds before after text = after ≡ append_known before text
 pub record Held : Type 0 where
   pub before : Option (List ℕ)
   pub after : Option (List ℕ)
+
+abbrev pub from_to : Option (List ℕ) → Option (List ℕ) → Held
+from_to before after = record { before = before; after = after }
 
 -- the text and the journal of one run were added, each to its sink; the words ask for its script and its turns
 pub record AddsRun (words : List (List ℕ)) (left : Option (List ℕ)) (out journal : Held) : Type 0 where

@@ -7,12 +7,10 @@ use Rattle.script_runner.specs.declared.domain.Due.TheVariants.{Run, Refusal}
 use Rattle.script_runner.specs.declared.domain.RunEnd.{RunEnd}
 use Rattle.script_runner.specs.declared.domain.RunEnd.TheVariants.{ReadFault, TickLimit, NoMemory}
 use Rattle.script_reader.specs.Scripts.{Content}
-use Rattle.dom_history.specs.Events.{Happening}
-use Rattle.script_runs.specs.Runs.{IsRunOf, ComesToTick, last_tick}
+use Rattle.script_runs.specs.Runs.{ComesToTick, last_tick}
 use Rattle.script_runs.specs.Reports.{ProcAnswers, lines_of}
 use Rattle.script_runs.specs.Summaries.{summary, all_answers}
-use Rattle.script_runs.specs.Histories.{IsAsOneStore}
-use Rattle.script_runner.specs.Reports.{journal_of}
+use Rattle.script_runner.specs.Reports.{RunOf, journal_of}
 use Rattle.script_runner.specs.Domain.{RunOfSource, text_of, text_in, journal_in, IsRefusalFrom}
 
 -- what is told of these answers, at nodes of these names
@@ -20,19 +18,13 @@ abbrev pub told_of : Origin → List (List ℕ) → List ProcAnswers → List �
 told_of Read names rows = lines_of names rows
 told_of (Generated seed) names rows = summary seed (all_answers rows)
 
--- the texts are what is told of the run that the number of turns picks, and its journal
-pub record AreTexts (origin : Origin) (s : Content) (turns : ℕ) (text lines : List ℕ) : Type 0 where
-  pub events : List Happening
-  pub run : IsRunOf s turns last_tick events
-  pub one_store : IsAsOneStore s events run.picked.world
-  pub told : text ≡ text_of origin s run
-  pub written : lines ≡ journal_of s events
+-- the texts are what is told of the script's run, and its journal
+abbrev pub AreTexts : Origin → Content → ℕ → List ℕ → List ℕ → Type 0
+AreTexts origin s turns text lines = (r : RunOf s turns last_tick) × (text ≡ text_of origin s r.run) × (lines ≡ journal_of s r.events)
 
--- the same of the script of an origin
-pub record AreTextsOfSource (origin : Origin) (left : Option (List ℕ)) (turns : ℕ) (text lines : List ℕ) : Type 0 where
-  pub run : RunOfSource origin left turns
-  pub told : text ≡ text_in origin run
-  pub written : lines ≡ journal_in run
+-- those of the run of the script that is run
+abbrev pub AreTextsOfSource : Origin → Option (List ℕ) → ℕ → List ℕ → List ℕ → Type 0
+AreTextsOfSource origin left turns text lines = (r : RunOfSource origin left turns) × (text ≡ text_in origin r) × (lines ≡ journal_in r)
 
 -- what is due for a script
 abbrev pub IsDueOf : Origin → Content → ℕ → Due → Type 0

@@ -1,8 +1,8 @@
 -- Why a script has no run.
 use Rattle.std.specs.Prelude.{ℕ}
 use Rattle.script_reader.specs.Scripts.{Content}
-use Rattle.world_core.specs.declared.run.RunFault.{RunFault}
-use Rattle.world_core.specs.declared.run.RunFault.TheVariants.{TickLimit, NoMemory}
+use Rattle.node_core.specs.declared.fault.RunFault.{RunFault}
+use Rattle.node_core.specs.declared.fault.RunFault.TheVariants.{TickLimit, NoMemory}
 use Rattle.script_runs.specs.Runs.{ComesToTick}
 
 abbrev pub IsFaultOf : Content → ℕ → ℕ → RunFault → Type 0

@@ -17,11 +17,14 @@ answers_in row = record { proc = row.proc; answers = row.answers }
 abbrev pub journal_of : Content → List Happening → List ℕ
 journal_of s events = journal (names_of s) (reverse events)
 
--- what came of a script: the events of the run that the seed picks, by rising place, and the answers over what each program
--- heard in it; the run is as one store would have it
-pub record IsRan (s : Content) (seed last : ℕ) (ran : Ran) : Type 0 where
+-- a run of a script, the one that the number of its turns picks, in which no node comes to the last tick; it is as one store would have it: all
+-- nodes have ended, the history is one of one store, which holds each process's commands once and in order to their end, in phases that never
+-- overlap, with the replies that its program heard; and at each unlock of a held lock every page that the holder modified is at its home
+pub record RunOf (s : Content) (turns last : ℕ) : Type 0 where
   pub events : List Happening
-  pub run : IsRunOf s seed last events
+  pub run : IsRunOf s turns last events
   pub one_store : IsAsOneStore s events run.picked.world
-  pub by_place : ran.events ≡ reverse events
-  pub answers : map answers_in ran.answers ≡ rows_of s (heard_in run.picked.world)
+
+-- what came of a script: the events of such a run by rising place, and the answers over what each program heard in it
+abbrev pub IsRan : Content → ℕ → ℕ → Ran → Type 0
+IsRan s turns last ran = (r : RunOf s turns last) × (ran.events ≡ reverse r.events) × (map answers_in ran.answers ≡ rows_of s (heard_in r.run.picked.world))

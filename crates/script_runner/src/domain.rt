@@ -8,7 +8,7 @@ ghost use Rattle.script_reader.specs.Grammar.{IsScript};
 ghost use Rattle.script_runner.specs.declared.words.Origin.TheVariants.{Read, Generated};
 ghost use Rattle.script_runner.specs.Words.{IsTaken, AskToRead, AskToGenerate, seed_of};
 ghost use Rattle.script_runner.specs.Reports.{answers_in};
-ghost use Rattle.script_runner.specs.Domain.{is_status, usage as usage_text, refusal as refusal_text, Adds, AddsRun, AddsPartOfRun, AddsRefusal, AddsPart, ComesToTheLimit, LimitOfSource};
+ghost use Rattle.script_runner.specs.Domain.{is_status, usage as usage_text, refusal as refusal_text, from_to, Adds, AddsRun, AddsPartOfRun, AddsRefusal, AddsPart, ComesToTheLimit, LimitOfSource};
 ghost use Rattle.script_runner.specs.DueTexts.{told_of, IsDueText, IsDueOf, IsEndOf};
 
 use crate::names::names_of;
@@ -19,12 +19,13 @@ use crate::summary::summary;
 use crate::words::{Asked, Origin, words_asked};
 use dom_io::{ReadEnd, Sink, Source, read_all, write_all};
 use dom_text::put_decimal;
+use node_core::RunFault;
+use script_maker::generate;
 use script_reader::laws::scripts_have_one_reading;
-use script_reader::{Cause, NodeRow, Script, ScriptFault, generate, read_script};
+use script_reader::{Cause, NodeRow, Script, ScriptFault, read_script};
 use std::alloc::Global;
 use thiserror::Error;
 use uid_names::{ByteList, NoMemory, SCRIPT_BYTES};
-use world_core::RunFault;
 
 const USAGE: &[u8; 60] = b"usage: domain run [--turns N] | domain gen SEED [--turns N]\n";
 
@@ -225,12 +226,12 @@ pub fn run_domain<S: Source, O: Sink, J: Sink>(
     // exactly its answers. And at each unlock of a held lock every page that the holder modified is at its home. Where the words
     // ask for the script of a seed it is the generated one, and in place of the report stands the line that sums up its answers.
     ensures run { result ≡ 0 → AddsRun (map string_bytes words.now) (S.left script.old)
-        (record { before = O.held out.old; after = O.held out.new }) (record { before = J.held journal.old; after = J.held journal.new }) }
+        (from_to (O.held out.old) (O.held out.new)) (from_to (J.held journal.old) (J.held journal.new)) }
 
     // Words, and then bytes, that are refused; both yield to a write fault.
     ensures words_refused { (IsTaken (map string_bytes words.now) → ⊥) → (result ≡ 2) ⊎ (result ≡ 5) }
     ensures usage { result ≡ 2 → (IsTaken (map string_bytes words.now) → ⊥) × Adds (O.held out.old) (O.held out.new) usage_text }
-    ensures bytes_refused { result ≡ 3 → AskToRead (map string_bytes words.now) × AddsRefusal (S.left script.old) (record { before = O.held out.old; after = O.held out.new }) }
+    ensures bytes_refused { result ≡ 3 → AskToRead (map string_bytes words.now) × AddsRefusal (S.left script.old) (from_to (O.held out.old) (O.held out.new)) }
 
     // A node comes to the last tick only where the turns of the words give it that tick.
     ensures limit { result ≡ 8 → ComesToTheLimit (map string_bytes words.now) (S.left script.old) }
@@ -240,10 +241,9 @@ pub fn run_domain<S: Source, O: Sink, J: Sink>(
     ensures write_fault { result ≡ 5 → CountRose (O.faults out.old) (O.faults out.new) }
     ensures journal_fault { result ≡ 6 → CountRose (J.faults journal.old) (J.faults journal.new) }
     ensures usage_cut { result ≡ 5 → (IsTaken (map string_bytes words.now) → ⊥) → AppendsPrefix (O.held out.old) (O.held out.new) usage_text }
-    ensures text_cut { result ≡ 5 → IsTaken (map string_bytes words.now) → AddsPart (map string_bytes words.now) (S.left script.old)
-        (record { before = O.held out.old; after = O.held out.new }) }
+    ensures text_cut { result ≡ 5 → IsTaken (map string_bytes words.now) → AddsPart (map string_bytes words.now) (S.left script.old) (from_to (O.held out.old) (O.held out.new)) }
     ensures journal_cut { result ≡ 6 → AddsPartOfRun (map string_bytes words.now) (S.left script.old)
-        (record { before = O.held out.old; after = O.held out.new }) (record { before = J.held journal.old; after = J.held journal.new }) }
+        (from_to (O.held out.old) (O.held out.new)) (from_to (J.held journal.old) (J.held journal.new)) }
 
     // What stays as it was.
     ensures nothing_written { (result ≡ 4) ⊎ ((result ≡ 7) ⊎ (result ≡ 8)) → out.new ≡ out.old }

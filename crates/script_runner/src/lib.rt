@@ -4,14 +4,11 @@
 mod domain;
 mod names;
 mod nodes;
-mod plans;
 mod processes;
 mod report;
 pub mod run;
 mod run_journal;
 mod summary;
-#[cfg(test)]
-mod tests;
 mod words;
 
 pub use domain::run_domain;

@@ -13,11 +13,11 @@ ghost use Rattle.script_runner.specs.Reports.{IsRan, answers_in};
 ghost use Rattle.script_runner.specs.Faults.{IsFaultOf};
 
 use crate::nodes::nodes_of;
-use crate::plans::copy_of;
 use crate::processes::processes_in;
 use aegis_shell::Shell;
 use aegis_shell::laws::shells_go_by_all_they_heard;
 use dom_history::{EventList, MergedLogs};
+use node_core::RunFault;
 use script_reader::Script;
 use script_runs::laws::{
     a_seed_picks_one_run_of_a_script, runs_of_scripts_are_as_one_store,
@@ -25,7 +25,7 @@ use script_runs::laws::{
 };
 use std::alloc::Global;
 use uid_names::{ByteList, ItemList, NoMemory, ProcId};
-use world_core::{RunFault, World};
+use world_core::World;
 
 /// A process, and the answers of its commands in order.
 #[derive(Drop, Debug)]
@@ -110,7 +110,7 @@ fn run_nodes(
     ensures limit { IfErr result (IsFaultOf script.now turns last_tick) }
 {
     let nodes = nodes_of(alloc, script)?;
-    let plan = copy_of(alloc, script.plan())?;
+    let plan = script.plan().copy(alloc)?;
     let world = World::new(alloc, nodes, plan)?;
     world.run_merged(alloc, turns, last_tick)
 }

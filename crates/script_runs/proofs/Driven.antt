@@ -23,7 +23,7 @@ use Rattle.aegis_shell.specs.Asking.{ask, reach}
 use Rattle.node_runs.specs.Doings.{node_numbers}
 use Rattle.node_runs.specs.Setups.{given}
 use Rattle.node_runs.specs.Incomings.{has_program}
-use Rattle.run_phases.specs.Paced.{is_driven}
+use Rattle.run_calls.specs.Paced.{is_driven}
 use Rattle.script_runs.specs.Processes.{procs_with, processes_of}
 use Rattle.script_runs.specs.Setups.{numbers_at, programs_of, setup_of}
 use Rattle.script_runs.proofs.ProcsWith.{procs_from}
@@ -55,7 +55,7 @@ procs_with-any : (f : ProcName → Bool) (p : ProcName) (procs : List ProcName) 
 procs_with-any f p [] = refl
 procs_with-any f p (q ∷ procs) = any-put f p q procs (procs_with p procs) (proc_lt q p) (same_proc q p) refl (procs_with-any f p procs)
 
-procs_from-any : (f : ProcName → Bool) (procs : List ProcName) (rows : List CommandRow) → list_any f (procs_from procs rows) ≡ (list_any f procs || list_any (λ row. f row.proc) rows)
+pub procs_from-any : (f : ProcName → Bool) (procs : List ProcName) (rows : List CommandRow) → list_any f (procs_from procs rows) ≡ (list_any f procs || list_any (λ row. f row.proc) rows)
 procs_from-any f procs [] = sym (or-false (list_any f procs))
 procs_from-any f procs (row ∷ rows) =
     procs_from-any f (procs_with row.proc procs) rows

@@ -12,10 +12,11 @@ use Rattle.dom_history.specs.declared.op.Reply.{Reply}
 use Rattle.dom_history.specs.declared.op.Reply.TheVariants as replies
 use Rattle.dom_history.specs.declared.deed.LockState.{LockState}
 use Rattle.dom_history.specs.Events.{Happening}
-use Rattle.dom_history.specs.Histories.{Item, Answered, Acted, Pending, SomeOf, deeds, told, entries, same_place}
+use Rattle.dom_history.specs.Histories.{Item, Answered, Acted, Pending, SomeOf, told, entries, same_place}
 use Rattle.dom_history.specs.Legal.{IsAllowed, AreLegal, Belongs, IsLeftOpen}
 use Rattle.dom_history.specs.Replies.{Before, before_of, may_write, reply_of, link_faults, unlock_state}
 use Rattle.dom_history.specs.Runs.{AreAnswered, IsEntry}
+use Rattle.dom_history.proofs.Items.{deeds-no_acts}
 use Rattle.ring_messages.specs.Bodies.{Answer}
 use Rattle.node_runs.specs.NodeStates.{OpenOp}
 use Rattle.node_runs.specs.Notes.{Told, Note}
@@ -160,17 +161,11 @@ no-acts opening (Acted a ∷ past) legal each = by legal.0.belongs
     by (inl some) = absurd (none-left a.begun a.deed.proc a.deed.op past each.1 some)
     by (inr open_one) = absurd open_one
 
--- without acts all that was decided was told
-decided-told : (items : List Item) → All IsEntry items → deeds items ≡ told (entries items)
-decided-told [] is = refl
-decided-told (Answered e ∷ past) is = ap (λ ds. record { proc = e.proc; op = e.op; reply = e.reply } ∷ ds) (decided-told past (All-tail IsEntry (Answered e) past is))
-decided-told (Acted a ∷ past) is = absurd (All-head IsEntry (Acted a) past is)
-
 answered-all : (opening : Start) (pending : List Pending) (items : List Item) → AreLegal opening pending items → All IsEntry items → EachOf IsFaultlessItem items → AreAnswered opening (told (entries items))
 answered-all opening pending [] legal is each = tt
 answered-all opening pending (Answered e ∷ past) legal is each =
     let rest = All-tail IsEntry (Answered e) past is in
-    let allowed : IsAllowed (before_of opening (told (entries past)) e.proc) e.proc e.op e.reply = rw (decided-told past rest) at legal.0 in
+    let allowed : IsAllowed (before_of opening (told (entries past)) e.proc) e.proc e.op e.reply = rw (deeds-no_acts past rest) at legal.0 in
     (stores-reply (before_of opening (told (entries past)) e.proc) e.proc e.op e.reply allowed each.0, answered-all opening pending past legal.1 rest each.1)
 answered-all opening pending (Acted a ∷ past) legal is each = absurd (All-head IsEntry (Acted a) past is)
 

@@ -8,7 +8,6 @@ use Rattle.uid_names.specs.Names.{ProcName, same_proc}
 use Rattle.dom_history.specs.declared.op.Op.{Op}
 use Rattle.dom_history.specs.declared.op.Reply.{Reply}
 use Rattle.dom_history.specs.declared.op.Entry.{Entry}
-use Rattle.dom_history.specs.declared.op.Want.{Want}
 use Rattle.dom_history.specs.declared.op.Want.TheVariants.{Do, Phase, Done}
 use Rattle.dom_history.specs.Follows.{Heard, Reaches, starts, answered, passed}
 use Rattle.dom_history.specs.Programs.{program_after, asked_by}
@@ -19,12 +18,12 @@ use Rattle.script_reader.specs.Variables.{declared_object}
 use Rattle.aegis_shell.specs.declared.work.Job.{Job}
 use Rattle.aegis_shell.specs.Work.{Part, job_of, part_of, jobs_of}
 use Rattle.aegis_shell.specs.Asking.{ask}
-use Rattle.aegis_shell.specs.declared.outcome.Outcome.{Outcome}
+use Rattle.command_talks.specs.declared.outcome.Outcome.{Outcome}
 use Rattle.aegis_shell.specs.declared.stage.Stage.{Stage}
 use Rattle.aegis_shell.specs.declared.stage.Stage.TheVariants.{Between, First, Second, Talks as Talking, Lists as Listing}
 use Rattle.aegis_shell.specs.States.{State, beginning, left, ops_at, object_at_job, op_in, Going, Goes, Comes, begins, goes_on, on_going, want_by, want_in, want_left, settle, settled_at, finished, heard_at, hear, step}
 use Rattle.aegis_shell.specs.Shells.{Shelled, shell_of, state_after, shell_after, want_when, shell_wants}
-use Rattle.run_phases.specs.Paced.{ArePaced}
+use Rattle.run_calls.specs.Paced.{ArePaced}
 use Rattle.script_runs.specs.Setups.{setup_of}
 use Rattle.script_runs.proofs.Driven.{wants-nothing}
 

@@ -2,12 +2,11 @@
 use Rattle.std.proofs.Common.{◌≡◌, ℕ, ◌≤◌, true, List, Option, Some, refl, sym, ap, subst, ◌∙◌, arith}
 use Rattle.std.specs.Prelude.{◌^◌, map}
 use Rattle.uid_names.specs.Names.{ProcName}
-use Rattle.uid_names.proofs.Orders.{same_proc_is}
+use Rattle.uid_names.proofs.Orders.{same_proc_is, same_proc-itself}
 use Rattle.dom_history.specs.declared.op.Entry.{Entry}
 use Rattle.dom_history.specs.Events.{Happening}
 use Rattle.dom_history.specs.Histories.{entries}
 use Rattle.dom_history.specs.Follows.{Reaches, entries_of}
-use Rattle.dom_history.proofs.Names.{same_proc-refl}
 use Rattle.script_reader.specs.Scripts.{Content}
 use Rattle.aegis_shell.specs.Asking.{ask}
 use Rattle.node_runs.specs.NodeStates.{NodeState, proc_of, is_ended}
@@ -61,7 +60,7 @@ module _ (s : Content) (seed last : ℕ) (most : last ≤ 2 ^ 40) (events : List
   led-ended ended n node = subst (λ (x : NodeState). is_ended (given (setup_of s) n) x ≡ true) (led.2.nodes n) (ended n node)
 
   name : (p : ProcName) → proc_at p.node p.number ≡ p
-  name p = same_proc_is (proc_at p.node p.number) p (same_proc-refl p)
+  name p = same_proc_is (proc_at p.node p.number) p (same_proc-itself p)
 
   heard-is : (p : ProcName) → (proc_of (led.0.nodes p.node) p.number).heard ≡ heard_in run.picked.world p
   heard-is p = ap (λ (x : NodeState). (proc_of x p.number).heard) (sym (led.2.nodes p.node))

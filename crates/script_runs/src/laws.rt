@@ -9,17 +9,19 @@ ghost use Rattle.world_runs.specs.ByPlace.{by_place};
 ghost use Rattle.world_runs.specs.Draws.{EndsIn};
 ghost use Rattle.world_runs.specs.Picked.{IsPicked};
 ghost use Rattle.world_runs.specs.NamedNodes.{NamesNodes};
-ghost use Rattle.run_phases.specs.Paced.{ArePaced};
+ghost use Rattle.run_calls.specs.Paced.{ArePaced};
 ghost use Rattle.script_runs.specs.Setups.{setup_of};
 ghost use Rattle.script_runs.specs.Runs.{IsRunOf, ComesToTick};
 ghost use Rattle.script_runs.specs.Reports.{report_of};
 ghost use Rattle.script_runs.specs.Histories.{IsOfOneStore, HomesHaveAll, IsAsOneStore, FollowsScript, KeepsPhasesApart, IsWhole, AreRepliesHeard, AreAskedHeard, LosesNothing, IsFaultless};
 
 use aegis_shell::laws::{asks_are_in_range, shells_go_by_all_they_heard};
-use run_calls::laws::{entries_are_what_programs_heard, histories_follow_programs};
+use run_calls::laws::{
+    ended_runs_have_ended_histories, entries_are_what_programs_heard, histories_follow_programs,
+    phases_never_overlap,
+};
 use run_ends::laws::no_turn_is_stuck;
 use run_moves::laws::{a_home_has_all_at_an_unlock, each_history_is_one_of_one_store};
-use run_phases::laws::{ended_runs_have_ended_histories, phases_never_overlap};
 use world_runs::laws::{
     a_seed_picks_one_run, each_link_fault_has_eight_notices, events_name_nodes,
     link_faults_are_few, turns_end,

@@ -1,3 +1,5 @@
+pub mod Passed
+pub mod Somes
 pub mod UidTexts
 pub mod Declared
 pub mod Orders

@@ -1,11 +1,13 @@
 -- Lemmas on tests over lists: what is found, what a filter leaves, how many pass.
-use Rattle.std.proofs.Common.{◌≡◌, ℕ, zero, suc, ◌+◌, ◌<◌, ◌≤◌, Bool, true, false, not, cond, List, [], ◌∷◌, ◌++◌, map, filter, length, get_or, Option, Some, None, MatchOption, count_by, nat_lt, refl, subst, sym, ap, ◌∙◌, arith}
+use Rattle.std.proofs.Common.{◌≡◌, ℕ, zero, suc, ◌+◌, ◌<◌, ◌≤◌, Bool, true, false, not, cond, List, [], ◌∷◌, ◌++◌, map, filter, length, get_or, Option, Some, None, MatchOption, count_by, nat_lt, length-append, replicate, refl, subst, sym, ap, ◌∙◌, arith}
 use Rattle.std.proofs.lemmas.Bool.Decides.{nat_tests}
 use Rattle.std.proofs.lemmas.List.Sums.{sum_by-cons, length-filter}
 use Rattle.std.proofs.lemmas.List.Filters.{length-filter_both}
-use Rattle.std.specs.Prelude.{IsSome}
-use Rattle.std.specs.List.{find, remove, position, position_or_len}
+use Rattle.std.proofs.lemmas.List.Elements.{All-head, All-tail}
+use Rattle.std.specs.Prelude.{IsSome, All, ◌==◌, slice_get, slice_index_or}
+use Rattle.std.specs.List.{find, list_any, list_all, remove, position, position_or_len}
 use Rattle.std.specs.Option.{option_map, option_or}
+use Rattle.uid_names.proofs.Passed.{left-true, right-true, equal}
 
 -- what holds at either value of a test
 pub by_cases : (b : Bool) (P : Type 0) → (b ≡ true → P) → (b ≡ false → P) → P
@@ -282,3 +284,46 @@ module _ {X Y : Type 0} (f : X → Y) (p : Y → Bool) where
   pub count_by-map : (xs : List X) → count_by p (map f xs) ≡ count_by (λ x. p (f x)) xs
   count_by-map [] = refl
   count_by-map (x ∷ xs) = count_by-cons p (f x) (map f xs) ∙ ap (λ n. cond (p (f x)) 1 0 + n) (count_by-map xs) ∙ sym (count_by-cons (λ y. p (f y)) x xs)
+
+-- what holds of all is so of what is found
+pub All-found : {X : Type 0} (P : X → Type 0) (test : X → Bool) (xs : List X) (x : X) → All P xs → find test xs ≡ Some x → P x
+All-found P test [] x all found = absurd cc
+All-found P test (y ∷ ys) x all found = by (test y) found (All-found P test ys x (All-tail P y ys all))
+  where
+    by : (b : Bool) → (cond b (Some y) (find test ys)) ≡ Some x → (find test ys ≡ Some x → P x) → P x
+    by true is others = let same : y ≡ x = cc in rw (← same) (All-head P y ys all)
+    by false is others = others is
+
+-- what is said of all may say less
+pub All-more : {X : Type 0} (P Q : X → Type 0) (xs : List X) → ((x : X) → P x → Q x) → All P xs → All Q xs
+All-more P Q xs more all k d below = more (slice_index_or xs k d) (all k d below)
+
+-- a test that all pass is passed by a number among them
+pub list_all-one : (test : ℕ → Bool) (xs : List ℕ) (n : ℕ) → list_all test xs ≡ true → list_any (λ x. x == n) xs ≡ true → test n ≡ true
+list_all-one test [] n all there = absurd (cc)
+list_all-one test (x ∷ xs) n all there =
+    by_cases
+    (x == n)
+    (test n ≡ true)
+    (λ e. subst (λ k. test k ≡ true) (equal x n e) (left-true (test x) (list_all test xs) all))
+    (λ e. list_all-one test xs n (right-true (test x) (list_all test xs) all) (grind (arith, nat_tests, e, there)))
+
+-- one more behind
+pub length-push : {X : Type 0} (xs : List X) (x : X) → length (xs ++ x ∷ []) ≡ length xs + 1
+length-push xs x = length-append xs (x ∷ [])
+
+-- a filter leaves no more
+pub length-filter_le : {X : Type 0} (test : X → Bool) (xs : List X) → length (filter test xs) ≤ length xs
+length-filter_le test xs = omega (arith, length-filter_both test (λ x. not (test x)) (λ x. refl) xs)
+
+-- what stands within a list is there
+pub get-within : {X : Type 0} (xs : List X) (k : ℕ) → k < length xs → (x : X) × (slice_get xs k ≡ Some x)
+get-within [] k within = absurd (omega (arith, within))
+get-within (x ∷ xs) zero within = (x, refl)
+get-within (x ∷ xs) (suc k) within = get-within xs k (omega (arith, within))
+
+-- zeros have zeros everywhere
+pub zeros-at : (n i : ℕ) → slice_index_or {A = ℕ} (replicate n 0) i 0 ≡ 0
+zeros-at zero i = refl
+zeros-at (suc n) zero = refl
+zeros-at (suc n) (suc i) = zeros-at n i

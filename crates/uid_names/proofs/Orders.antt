@@ -1,6 +1,7 @@
 -- The orders of names and of rows: rows stand by object, then by process.
 use Rattle.std.proofs.Common.{◌≡◌, Bool, true, false, refl, ap, ◌∙◌, inl, inr, ◌⊎◌, arith}
 use Rattle.std.specs.Prelude.{not, ◌&&◌, ◌||◌, Some}
+use Rattle.std.proofs.lemmas.Bool.{and_parts}
 use Rattle.std.proofs.lemmas.Bool.Decides.{nat_tests}
 use Rattle.uid_names.specs.Names.{ProcName, ObjectName, same_uid, same_proc, uid_lt, proc_lt}
 use Rattle.uid_names.specs.contracts.ids.UidOrd.TheImpl as uid_order
@@ -93,7 +94,7 @@ uid_by_parts : (u v : ObjectName) → u.counter ≡ v.counter → u.home ≡ v.h
 uid_by_parts u v counter home = ap (λ n. record { counter = n; home = u.home }) counter ∙ ap (λ n. record { counter = v.counter; home = n }) home
 
 -- and processes
-proc_by_parts : (p q : ProcName) → p.node ≡ q.node → p.number ≡ q.number → p ≡ q
+pub proc_by_parts : (p q : ProcName) → p.node ≡ q.node → p.number ≡ q.number → p ≡ q
 proc_by_parts p q node number = ap (λ n. record { node = n; number = p.number }) node ∙ ap (λ n. record { node = q.node; number = n }) number
 
 -- names of one object are one
@@ -104,15 +105,26 @@ same_uid_is u v e = uid_by_parts u v (grind (arith, nat_tests, e)) (grind (arith
 pub same_proc_is : (p q : ProcName) → same_proc p q ≡ true → p ≡ q
 same_proc_is p q e = proc_by_parts p q (grind (arith, nat_tests, e)) (grind (arith, nat_tests, e))
 
--- both of two tests
-both : (x y : Bool) → (x && y) ≡ true → (x ≡ true) × (y ≡ true)
-both true y e = (refl, e)
-both false y e = absurd cc
+-- an object is itself
+pub same_uid-itself : (u : ObjectName) → same_uid u u ≡ true
+same_uid-itself u = grind (arith, nat_tests)
+
+-- and a process
+pub same_proc-itself : (p : ProcName) → same_proc p p ≡ true
+same_proc-itself p = grind (arith, nat_tests)
+
+-- objects are the same both ways
+pub same_uid-sym : (u v : ObjectName) → same_uid u v ≡ same_uid v u
+same_uid-sym u v = grind (arith, nat_tests)
+
+-- and processes
+pub same_proc-sym : (p q : ProcName) → same_proc p q ≡ same_proc q p
+same_proc-sym p q = grind (arith, nat_tests)
 
 -- a row of a process on an object has their names
 pub same_row_is : (p : ProcName) (u : ObjectName) (row : LockRow) → same_row p u row ≡ true → (p ≡ row.proc) × (u ≡ row.uid)
 same_row_is p u row e =
-    let names = both (same_proc p row.proc) (same_uid u row.uid) e in
+    let names = and_parts (same_proc p row.proc) (same_uid u row.uid) e in
     (same_proc_is p row.proc names.0, same_uid_is u row.uid names.1)
 
 -- rows behind one that does not stand before a third are not the third

@@ -18,7 +18,7 @@ bytes_high_first-small zero n i = omega arith
 bytes_high_first-small (suc k) n zero = byte_at-small k n
 bytes_high_first-small (suc k) n (suc i) = bytes_high_first-small k n i
 
-number_of-small : (u : ObjectName) → IsName u → number_of u < 2 ^ 64
+pub number_of-small : (u : ObjectName) → IsName u → number_of u < 2 ^ 64
 number_of-small u name = omega (arith, name.counter_high, name.home_high)
 
 -- what the decoding of a name's text leaves is the name's number

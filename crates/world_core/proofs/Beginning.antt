@@ -12,11 +12,11 @@ use Rattle.node_runs.specs.Runs.{first_world}
 use Rattle.ring_links.specs.Carried.{empty_link}
 use Rattle.node_core.specs.Nodes.{Noted}
 use Rattle.node_core.specs.Nodes as nodes
-use Rattle.world_core.specs.declared.notices.Notice.{Notice}
+use Rattle.ring_links.specs.declared.notice.Notice.{Notice}
 use Rattle.world_core.specs.declared.station.LinkFrom.{LinkFrom}
 use Rattle.world_core.specs.declared.station.Station.{Station}
 use Rattle.world_core.specs.declared.world.World.{World}
-use Rattle.world_core.specs.Stations.{notice_what}
+use Rattle.ring_links.specs.Notices.{notice_what}
 use Rattle.world_core.specs.Firsts.{first_links, IsFirst}
 use Rattle.world_core.specs.Stands.{AreNodes, Stands, IsStation, IsLink, IsNoticeOf}
 

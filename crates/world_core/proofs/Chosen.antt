@@ -3,6 +3,7 @@ use Rattle.std.proofs.Common.{◌≡◌, ℕ, ◌+◌, ◌<◌, ◌≤◌, ◌%�
 use Rattle.std.specs.Prelude.{◌^◌, slice_get, sum}
 use Rattle.std.proofs.lemmas.List.{length-map}
 use Rattle.std.proofs.lemmas.Option.{get_or_from_slice_get, slice_get_within}
+use Rattle.uid_names.proofs.ListLemmas.{get-within}
 use Rattle.dom_history.specs.declared.op.Reply.{Reply}
 use Rattle.dom_history.specs.declared.op.Want.{Want}
 use Rattle.dom_history.specs.declared.event.What.{What}
@@ -31,7 +32,7 @@ use Rattle.world_core.specs.Stations.{Candidate}
 use Rattle.world_core.specs.Listed.{event_at}
 use Rattle.world_core.specs.Places.{enabled_counts, IsPlace}
 use Rattle.world_core.specs.Stands.{act_of, IsStation, Stands, IsBelow}
-use Rattle.world_core.proofs.Elements.{some_at, map_at}
+use Rattle.world_core.proofs.Elements.{map_at}
 use Rattle.world_core.proofs.Choosing.{is-one, queue-is, all-places, one-place}
 use Rattle.world_core.proofs.Found.{passes-there}
 use Rattle.world_core.proofs.Happening.{IsAt, at-place}
@@ -85,7 +86,7 @@ module _ {P G : Type 0} (wants : P → Want) (becomes : P → Option Reply → P
       omega (arith, many, low, count)
 
   coming : (c : Coming) × (slice_get y.enabled.items own ≡ Some c)
-  coming = some_at y.enabled.items own own-within
+  coming = get-within y.enabled.items own own-within
 
   at-own : IsAt y own coming.0
   at-own = at-place y own coming.0 station.listed own-within (sym (get_or_from_slice_get y.enabled.items own coming.0 coming.0 coming.1))

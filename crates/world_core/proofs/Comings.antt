@@ -10,7 +10,7 @@ use Rattle.node_runs.specs.Incomings.Incoming.{Nothing}
 use Rattle.node_core.specs.Nodes.{Noted, is_enabled}
 use Rattle.node_core.specs.Starts as started
 use Rattle.world_core.specs.declared.coming.Coming.{Coming}
-use Rattle.world_core.specs.declared.notices.Notice.{Notice}
+use Rattle.ring_links.specs.declared.notice.Notice.{Notice}
 use Rattle.world_core.specs.declared.station.LinkFrom.{LinkFrom}
 use Rattle.world_core.specs.Stations.{Candidate, start, notice_at, starts_of, noticed, oldest_of, oldest, passes, comings}
 

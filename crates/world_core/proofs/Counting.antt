@@ -3,7 +3,8 @@ use Rattle.std.proofs.Common.{◌≡◌, ℕ, suc, ◌+◌, ◌*◌, ◌<◌, �
 use Rattle.std.specs.Prelude.{All, filter, flat_map, not, ◌==◌, ◌^◌, sum}
 use Rattle.std.proofs.lemmas.Grind.{common_steps}
 use Rattle.std.proofs.lemmas.List.Elements.{All-head, All-tail}
-use Rattle.std.proofs.lemmas.List.Filters.{length-filter_both}
+use Rattle.uid_names.proofs.ListLemmas.{length-filter_le}
+use Rattle.uid_names.proofs.Somes.{bind-some}
 use Rattle.dom_history.specs.declared.op.Reply.{Reply}
 use Rattle.dom_history.specs.declared.op.Want.{Want}
 use Rattle.dom_history.specs.declared.event.What.TheVariants.{Notice as Told, Ready}
@@ -16,7 +17,6 @@ use Rattle.node_runs.specs.Deliveries.{is_gone}
 use Rattle.node_runs.specs.Doings.{node_numbers}
 use Rattle.node_runs.specs.Runs.{numbered}
 use Rattle.node_runs.specs.Runs as runs
-use Rattle.node_runs.proofs.Somes.{bind-some}
 use Rattle.dom_history.specs.Plans.{fate_of}
 use Rattle.world_runs.specs.Sendings.{frames_on}
 use Rattle.world_runs.specs.Gone.{FrameName, frame_if, gone_by, gone_in, was_told, notice_if, notice_of, notices_at}
@@ -27,11 +27,12 @@ use Rattle.world_runs.proofs.Ending.{turns-few}
 use Rattle.ring_links.specs.declared.entry.Entry.{Entry}
 use Rattle.node_core.specs.declared.setup.Incoming as code
 use Rattle.node_core.specs.Nodes.{Noted, state_of}
-use Rattle.world_core.specs.declared.notices.Notice.{Notice}
+use Rattle.ring_links.specs.declared.notice.Notice.{Notice}
 use Rattle.world_core.specs.declared.station.LinkFrom.{LinkFrom}
 use Rattle.world_core.specs.declared.station.Station.{Station}
 use Rattle.world_core.specs.declared.world.World.{World}
-use Rattle.world_core.specs.Stations.{Candidate, notice_what, noticed, oldest, oldest_of, start, passes, comings, candidates}
+use Rattle.ring_links.specs.Notices.{notice_what}
+use Rattle.world_core.specs.Stations.{Candidate, noticed, oldest, oldest_of, start, passes, comings, candidates}
 use Rattle.world_core.specs.Places.{enabled_counts}
 use Rattle.world_core.specs.Stands.{Stands}
 use Rattle.world_core.proofs.Elements.{map_at, all_at}
@@ -42,9 +43,6 @@ many-map f (x ∷ xs) = ap suc (many-map f xs)
 
 many-append : {A : Type 0} (xs ys : List A) → length (xs ++ ys) ≡ length xs + length ys
 many-append xs ys = grind (arith, common_steps)
-
-few-kept : {A : Type 0} (p : A → Bool) (xs : List A) → length (filter p xs) ≤ length xs
-few-kept p xs = let both = length-filter_both p (λ x. not (p x)) (λ x. refl) xs in omega (arith, both)
 
 few-flat : {A B : Type 0} (f : A → List B) → ((x : A) → length (f x) ≤ 1) → (xs : List A) → length (flat_map f xs) ≤ length xs
 few-flat f one [] = omega arith
@@ -79,14 +77,14 @@ few-notices n f (Some m) = by-node ((caller_of m).node == n)
 
 notices-few : (plan : List FateRow) (w : runs.World) (n : ℕ) → length (notices_at plan w n) ≤ length w.done
 notices-few plan w n =
-    let told = few-kept (λ f. not (was_told w.done f)) (gone_in plan w.done) in
+    let told = length-filter_le (λ f. not (was_told w.done f)) (gone_in plan w.done) in
     let each = few-flat (λ f. notice_of n f (numbered f.2 (w.frames f.0 f.1))) (λ f. few-notices n f (numbered f.2 (w.frames f.0 f.1))) (filter (λ f. not (was_told w.done f)) (gone_in plan w.done)) in
     let gone = gone-few plan w.done in
     omega (arith, told, each, gone)
 
 open-few : (s : Setup) (plan : List FateRow) (w : runs.World) (n : ℕ) → length (open_notices s plan w n) ≤ length w.done
 open-few s plan w n =
-    let open_ones = few-kept (is_enabled s w n) (notices_at plan w n) in
+    let open_ones = length-filter_le (is_enabled s w n) (notices_at plan w n) in
     let all = notices-few plan w n in
     omega (arith, open_ones, all)
 
@@ -124,7 +122,7 @@ few-comings : {P : Type 0} (node : Noted P) (notices : List Notice) (ins : List 
 few-comings {P} node notices ins =
     let ready : List Candidate = start (Ready (state_of node).phase) ∷ [] in
     let map = many-map (λ (c : Candidate). c.coming) (filter (passes node) (candidates node notices ins)) in
-    let kept = few-kept (passes node) (candidates node notices ins) in
+    let kept = length-filter_le (passes node) (candidates node notices ins) in
     let named = few-noticed 0 notices in
     let links = few-oldest 0 ins in
     let a = many-append (noticed 0 notices) (oldest 0 ins ++ ready) in

@@ -7,11 +7,6 @@ use Rattle.std.specs.Prelude.{slice_get, All, IfSome}
 use Rattle.std.proofs.lemmas.List.{append_assoc}
 use Rattle.std.proofs.lemmas.Option.{slice_get_within, get_or_from_slice_get, slice_get-get_or}
 
-pub some_at : {A : Type 0} (xs : List A) (k : ℕ) → k < length xs → (x : A) × (slice_get xs k ≡ Some x)
-some_at [] k within = absurd (omega (arith, within))
-some_at (x ∷ xs) zero within = (x, refl)
-some_at (x ∷ xs) (suc k) within = some_at xs k (omega (arith, within))
-
 pub map_at : {A B : Type 0} (f : A → B) (xs : List A) (k : ℕ) (y : B) → slice_get (map f xs) k ≡ Some y → (x : A) × (slice_get xs k ≡ Some x) × (y ≡ f x)
 map_at f [] k y e = absurd (cc)
 map_at f (x ∷ xs) zero y e = (x, refl, cc)

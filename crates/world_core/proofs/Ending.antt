@@ -5,6 +5,7 @@ use Rattle.std.specs.Option.{option_map}
 use Rattle.std.proofs.lemmas.Bool.{eq-eqb, ne_eqb, cases_lt, false≢true}
 use Rattle.std.proofs.lemmas.Option.{slice_get_within}
 use Rattle.uid_names.specs.Names.{ProcName}
+use Rattle.uid_names.proofs.ListLemmas.{get-within}
 use Rattle.dom_history.specs.declared.op.Reply.{Reply}
 use Rattle.dom_history.specs.declared.op.Want.{Want}
 use Rattle.dom_history.specs.Programs.{program_after}
@@ -18,7 +19,7 @@ use Rattle.world_core.specs.declared.station.Station.{Station}
 use Rattle.world_core.specs.declared.world.World.{World}
 use Rattle.world_core.specs.Ended.{named, own_if, own_of, or_else, program_at, AreNumbered}
 use Rattle.world_core.specs.Stands.{Stands, AreEnded}
-use Rattle.world_core.proofs.Elements.{some_at, map_at, all_at}
+use Rattle.world_core.proofs.Elements.{map_at, all_at}
 use Rattle.world_core.proofs.Programs.{else-none}
 
 module _ {P : Type 0} where
@@ -76,7 +77,7 @@ module _ {P G : Type 0} (wants : P → Want) (becomes : P → Option Reply → P
   heard-by : (p : ProcName) (k : ℕ) → p.node ≡ k + 1 → k < length noted
       → program_at noted p ≡ option_map (λ y. program_after becomes y (proc_of (w.nodes p.node) p.number).heard) (made p.node p.number)
   heard-by p k is within =
-      let z = some_at noted k within in
+      let z = get-within noted k within in
       let found = map_at (λ (y : Station P G). y.node) x.stations.items k z.0 z.1 in
       at-node noted 1 numbers k z.0 p z.1 (omega (arith, is))
       ∙ (ap (λ (n : Noted P). program_of n p.number) found.2

@@ -1,9 +1,10 @@
 -- Where an enabled event finds what it receives.
-use Rattle.std.proofs.Common.{◌≡◌, ℕ, ◌+◌, Bool, true, false, cond, Some, List, [], ◌∷◌, ◌++◌, length, refl, sym, ap, subst, ◌∙◌, arith}
+use Rattle.std.proofs.Common.{◌≡◌, ℕ, ◌+◌, Bool, true, false, cond, Some, List, [], ◌∷◌, ◌++◌, length, refl, sym, ap, subst, ◌∙◌}
 use Rattle.std.specs.Prelude.{filter, flat_map, slice_get, All}
 use Rattle.std.proofs.lemmas.Option.{slice_get_within, get_or_from_slice_get}
 use Rattle.std.proofs.lemmas.List.{append_assoc}
 use Rattle.std.proofs.lemmas.List.Elements.{All-nil, All-cons, All-append, All-filter}
+use Rattle.uid_names.proofs.ListLemmas.{length-push}
 use Rattle.fault_handler.specs.Desks.{procs}
 use Rattle.dom_history.specs.declared.event.What.TheVariants.{Begin, Go, Ready}
 use Rattle.dom_history.specs.declared.event.What.{What}
@@ -14,9 +15,10 @@ use Rattle.node_core.specs.Receivings.{seen}
 use Rattle.node_core.specs.Nodes.{Noted, state_of}
 use Rattle.world_core.specs.declared.coming.Source as source
 use Rattle.world_core.specs.declared.coming.Source.TheVariants as sources
-use Rattle.world_core.specs.declared.notices.Notice.{Notice}
+use Rattle.ring_links.specs.declared.notice.Notice.{Notice}
 use Rattle.world_core.specs.declared.station.LinkFrom.{LinkFrom}
-use Rattle.world_core.specs.Stations.{Candidate, start, starts_of, notice_at, notice_incoming, noticed, oldest_of, oldest, passes, candidates}
+use Rattle.ring_links.specs.Notices.{notice_incoming}
+use Rattle.world_core.specs.Stations.{Candidate, start, starts_of, notice_at, noticed, oldest_of, oldest, passes, candidates}
 use Rattle.world_core.proofs.Elements.{behind}
 
 -- the oldest entry of a link
@@ -40,10 +42,6 @@ IsFoundAt notices ins incoming (sources.Link i) = IsOldest ins i incoming
 abbrev pub IsFound : List Notice → List LinkFrom → Candidate → Type 0
 IsFound notices ins c = IsFoundAt notices ins c.incoming c.coming.source
 
-one_longer : {A : Type 0} (xs : List A) (y : A) → length (xs ++ y ∷ []) ≡ length xs + 1
-one_longer [] y = refl
-one_longer (x ∷ xs) y = let longer = one_longer xs y in omega (arith, longer)
-
 module _ (notices : List Notice) (ins : List LinkFrom) where
   abbrev Found : Candidate → Type 0
   Found = IsFound notices ins
@@ -53,7 +51,7 @@ module _ (notices : List Notice) (ins : List LinkFrom) where
   found-noticed before (x ∷ more) all =
       All-cons Found (notice_at (length before) x) (noticed (length before + 1) more)
       (record { notice = x; there = ap (λ (xs : List Notice). slice_get xs (length before)) (sym all) ∙ behind before x more; received = refl })
-      (subst (λ k. All Found (noticed k more)) (one_longer before x) (found-noticed (before ++ x ∷ []) more (append_assoc before (x ∷ []) more ∙ all)))
+      (subst (λ k. All Found (noticed k more)) (length-push before x) (found-noticed (before ++ x ∷ []) more (append_assoc before (x ∷ []) more ∙ all)))
 
   found-one : (i : ℕ) (l : LinkFrom) (queue : List (Entry code.Incoming)) → slice_get ins i ≡ Some l → l.link.queue ≡ queue → All Found (oldest_of i l.from queue)
   found-one i l [] there is = All-nil Found
@@ -65,7 +63,7 @@ module _ (notices : List Notice) (ins : List LinkFrom) where
   found-oldest before (l ∷ more) all =
       All-append Found (oldest_of (length before) l.from l.link.queue) (oldest (length before + 1) more)
       (found-one (length before) l l.link.queue (ap (λ (ls : List LinkFrom). slice_get ls (length before)) (sym all) ∙ behind before l more) refl)
-      (subst (λ k. All Found (oldest k more)) (one_longer before l) (found-oldest (before ++ l ∷ []) more (append_assoc before (l ∷ []) more ∙ all)))
+      (subst (λ k. All Found (oldest k more)) (length-push before l) (found-oldest (before ++ l ∷ []) more (append_assoc before (l ∷ []) more ∙ all)))
 
   found-start : (what : What) (cs : List Candidate) → All Found cs → All Found (start what ∷ cs)
   found-start what cs all = All-cons Found (start what) cs refl all

@@ -11,13 +11,13 @@ use Rattle.ring_links.specs.declared.entry.Entry.{Entry}
 use Rattle.node_core.specs.declared.setup.Incoming as code
 use Rattle.node_core.specs.Receivings.{seen}
 use Rattle.node_core.specs.declared.setup.Emitted.{Emitted}
-use Rattle.node_core.specs.Nodes.{Noted, is_enabled}
+use Rattle.node_core.specs.Nodes.{Noted, is_enabled, Does}
 use Rattle.world_core.specs.declared.coming.Coming.{Coming}
 use Rattle.world_core.specs.declared.coming.Source as source
 use Rattle.world_core.specs.declared.station.LinkFrom.{LinkFrom}
 use Rattle.world_core.specs.declared.station.Station.{Station}
 use Rattle.world_core.specs.Stations.{Candidate, passes, candidates}
-use Rattle.world_core.specs.Listed.{IsListed, event_at, Does, IsDone, notices_less, ins_less}
+use Rattle.world_core.specs.Listed.{IsListed, event_at, IsDone, notices_less, ins_less}
 use Rattle.world_core.proofs.Found.{IsFoundAt, IsOldest, passes-there, found-there}
 
 -- the listed event at a place, with what it receives

@@ -29,6 +29,7 @@ pub mod TakingTurns
 pub mod LowTicks
 pub mod Chosen
 pub mod NextWorld
+pub mod Picked
 pub mod Sendable
 pub mod Turned
 pub mod Programs

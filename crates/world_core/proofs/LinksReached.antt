@@ -12,7 +12,7 @@ use Rattle.ring_links.specs.declared.entry.Waiting.{Waiting}
 use Rattle.ring_links.specs.declared.entry.Waiting.TheVariants.{Copy, Mark}
 use Rattle.world_core.specs.declared.coming.Source as source
 use Rattle.world_core.specs.declared.coming.Source.TheVariants as sources
-use Rattle.world_core.specs.declared.notices.Notice.{Notice}
+use Rattle.ring_links.specs.declared.notice.Notice.{Notice}
 use Rattle.world_core.specs.declared.station.LinkFrom.{LinkFrom}
 use Rattle.world_core.specs.Stations.{what_of}
 use Rattle.world_core.specs.Sending.{link_with, delivered_to, delivered, mark_with, marked_to, marked}

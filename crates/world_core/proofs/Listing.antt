@@ -30,10 +30,11 @@ use Rattle.world_runs.specs.Links as links
 use Rattle.world_runs.specs.Links.{link_of}
 use Rattle.world_runs.specs.Gone.{notices_at}
 use Rattle.world_runs.specs.Turns as turns
-use Rattle.world_core.specs.declared.notices.Notice.{Notice}
+use Rattle.ring_links.specs.declared.notice.Notice.{Notice}
 use Rattle.world_core.specs.declared.station.LinkFrom.{LinkFrom}
 use Rattle.world_core.specs.declared.station.Station.{Station}
-use Rattle.world_core.specs.Stations.{Candidate, start, starts_of, notice_at, notice_what, noticed, what_of, oldest_of, oldest, passes, candidates}
+use Rattle.ring_links.specs.Notices.{notice_what}
+use Rattle.world_core.specs.Stations.{Candidate, start, starts_of, notice_at, noticed, what_of, oldest_of, oldest, passes, candidates}
 use Rattle.world_core.specs.Stands.{act_of, IsMarkOf, IsLink, IsNoticeOf, IsStation}
 use Rattle.world_core.proofs.Standing.{enabled-stands}
 

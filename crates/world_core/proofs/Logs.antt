@@ -1,17 +1,18 @@
 -- The logs of a world's nodes are their events of what was done, and merged they are these by place.
-use Rattle.std.proofs.Common.{◌≡◌, ◌≢◌, ℕ, suc, ◌+◌, ◌-◌, ◌<◌, ◌≤◌, Bool, true, false, cond, Option, Some, List, [], ◌∷◌, ◌++◌, map, length, get_or, reverse, inl, inr, refl, sym, ap, subst, ◌∙◌, arith}
+use Rattle.std.proofs.Common.{◌≡◌, ◌≢◌, ℕ, suc, ◌+◌, ◌-◌, ◌<◌, ◌≤◌, true, Option, Some, List, [], ◌∷◌, ◌++◌, map, length, get_or, reverse, inl, inr, refl, sym, ap, subst, ◌∙◌, arith}
 use Rattle.std.specs.Prelude.{◌==◌, ◌^◌, slice_get, All}
-use Rattle.std.proofs.lemmas.Bool.{eq-eqb, ne_eqb, cases_eq, cases_lt}
-use Rattle.std.proofs.lemmas.Bool.Decides.{nat_tests}
-use Rattle.std.proofs.lemmas.List.{reverse-append, reverse-reverse}
-use Rattle.std.proofs.lemmas.List.Elements.{filter-append, All-nil, All-cons, All-head, All-tail}
+use Rattle.std.proofs.lemmas.Bool.{cases_eq, cases_lt}
+use Rattle.std.proofs.lemmas.List.{reverse-reverse}
+use Rattle.std.proofs.lemmas.List.Elements.{All-nil, All-cons, All-head, All-tail}
 use Rattle.std.proofs.lemmas.Option.{slice_get-get_or, slice_get_within}
 use Rattle.uid_names.specs.declared.ids.Place.{Place}
+use Rattle.uid_names.proofs.ListLemmas.{get-within}
 use Rattle.dom_history.specs.declared.op.Reply.{Reply}
 use Rattle.dom_history.specs.declared.op.Want.{Want}
 use Rattle.dom_history.specs.declared.event.NodeLog.{NodeLog}
 use Rattle.dom_history.specs.Events.{Happening}
 use Rattle.dom_history.specs.Histories.{place_lt}
+use Rattle.dom_history.proofs.Places.{place_lt-trans}
 use Rattle.fault_handler.specs.Desks.{IsNode}
 use Rattle.node_runs.specs.Setups.{Setup}
 use Rattle.node_runs.specs.Runs.{is_above, AreRising, choice_of}
@@ -21,26 +22,18 @@ use Rattle.world_runs.specs.ByPlace.{by_place, events_of}
 use Rattle.world_runs.specs.Draws.{EndsIn}
 use Rattle.world_runs.specs.NamedNodes.{NamesNodes}
 use Rattle.world_runs.proofs.Merging.{turns-merge}
-use Rattle.world_runs.proofs.Sorting.{sorted-one}
+use Rattle.world_runs.proofs.Sorting.{sorted-one, own-first, other-first}
 use Rattle.world_runs.proofs.NamedNodes.{picked-names}
+use Rattle.world_runs.proofs.TurnedLists.{own-reverse}
 use Rattle.ring_links.specs.Merged.{IsLog, AreLogs, AreMerged}
 use Rattle.world_core.specs.declared.station.Station.{Station}
 use Rattle.world_core.specs.declared.world.World.{World}
 use Rattle.world_core.specs.Stands.{Stands}
-use Rattle.world_core.proofs.Elements.{some_at, map_at, all_at, at_all}
-
-own-first : (n : ℕ) (e : Happening) (es : List Happening) → e.place.node ≡ n → events_of n (e ∷ es) ≡ e ∷ events_of n es
-own-first n e es same = ap (λ (b : Bool). cond b (e ∷ events_of n es) (events_of n es)) (eq-eqb e.place.node n same)
-
-other-first : (n : ℕ) (e : Happening) (es : List Happening) → e.place.node ≢ n → events_of n (e ∷ es) ≡ events_of n es
-other-first n e es differs = ap (λ (b : Bool). cond b (e ∷ events_of n es) (events_of n es)) (ne_eqb e.place.node n differs)
-
-place-trans : (a b c : Place) → place_lt a b ≡ true → place_lt b c ≡ true → place_lt a c ≡ true
-place-trans a b c h i = grind (arith, nat_tests, h, i)
+use Rattle.world_core.proofs.Elements.{map_at, all_at, at_all}
 
 above-rest : (p : Place) (e : Happening) (es : List Happening) → place_lt e.place p ≡ true → is_above e.place es ≡ true → is_above p es ≡ true
 above-rest p e [] h i = refl
-above-rest p e (x ∷ es) h i = place-trans x.place e.place p i h
+above-rest p e (x ∷ es) h i = place_lt-trans x.place e.place p i h
 
 above-own : (n : ℕ) (p : Place) (es : List Happening) → is_above p es ≡ true → AreRising es → is_above p (events_of n es) ≡ true
 above-own n p [] above rising = refl
@@ -55,21 +48,6 @@ rising-own n (e ∷ es) rising = elim (cases_eq e.place.node n) [
   | inl same ↦ subst (λ (xs : List Happening). AreRising xs) (sym (own-first n e es same)) (above-own n e.place es rising.0 rising.1, rising-own n es rising.1)
   | inr differs ↦ subst (λ (xs : List Happening). AreRising xs) (sym (other-first n e es differs)) (rising-own n es rising.1)
 ]
-
-short : (b : Bool) (e : Happening) → reverse (cond b (e ∷ []) []) ≡ cond b (e ∷ []) []
-short true e = refl
-short false e = refl
-
-own-reverse : (n : ℕ) (es : List Happening) → events_of n (reverse es) ≡ reverse (events_of n es)
-own-reverse n [] = refl
-own-reverse n (e ∷ es) =
-    let one : List Happening = events_of n (e ∷ []) in
-    let apart : events_of n (e ∷ es) ≡ one ++ events_of n es = filter-append (λ (x : Happening). x.place.node == n) (e ∷ []) es in
-    let back : reverse (events_of n (e ∷ es)) ≡ reverse (events_of n es) ++ one =
-    ap reverse apart ∙ (reverse-append one (events_of n es) ∙ ap (λ (xs : List Happening). reverse (events_of n es) ++ xs) (short (e.place.node == n) e)) in
-    ap (events_of n) (reverse-append (e ∷ []) es)
-    ∙ (filter-append (λ (x : Happening). x.place.node == n) (reverse es) (e ∷ [])
-    ∙ (ap (λ (xs : List Happening). xs ++ one) (own-reverse n es) ∙ sym back))
 
 own-all : (n : ℕ) (es : List Happening) → All (λ e. e.place.node ≡ n) (events_of n es)
 own-all n [] = All-nil (λ (e : Happening). e.place.node ≡ n)
@@ -123,7 +101,7 @@ module _ {P G : Type 0} (wants : P → Want) (becomes : P → Option Reply → P
   module _ (seed last : ℕ) (most : last ≤ 2 ^ 40) (ends : EndsIn s x.plan seed last w) (events : List Happening) (merged : AreMerged logs events) where
     own-events : (n k : ℕ) → n ≡ k + 1 → k < length logs → events_of n events ≡ reverse (events_of n w.done)
     own-events n k is within =
-        let l = some_at logs k within in
+        let l = get-within logs k within in
         let same : l.0 ≡ log_of w n = log-at k l.0 l.1 ∙ ap (log_of w) (sym is) in
         subst (λ (m : NodeLog). events_of m.node events ≡ m.events) same (at_all (λ (m : NodeLog). events_of m.node events ≡ m.events) logs k l.0 merged.own l.1)
 

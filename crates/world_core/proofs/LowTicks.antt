@@ -3,7 +3,7 @@ use Rattle.std.proofs.Common.{◌≡◌, ℕ, ◌+◌, ◌-◌, ◌<◌, ◌≤�
 use Rattle.std.specs.Prelude.{◌&&◌, nat_le}
 use Rattle.std.proofs.lemmas.Bool.{cases_eq}
 use Rattle.std.proofs.lemmas.Bool.Decides.{nat_tests}
-use Rattle.uid_names.proofs.ListLemmas.{by_cases}
+use Rattle.uid_names.proofs.ListLemmas.{by_cases, get-within}
 use Rattle.dom_history.specs.declared.op.Reply.{Reply}
 use Rattle.dom_history.specs.declared.op.Want.{Want}
 use Rattle.dom_history.specs.declared.plan.FateRow.{FateRow}
@@ -19,7 +19,7 @@ use Rattle.node_core.specs.Nodes.{state_of}
 use Rattle.world_core.specs.declared.station.Station.{Station}
 use Rattle.world_core.specs.declared.world.World.{World}
 use Rattle.world_core.specs.Stands.{Stands, IsBelow}
-use Rattle.world_core.proofs.Elements.{some_at, at_all}
+use Rattle.world_core.proofs.Elements.{at_all}
 use Rattle.world_core.proofs.Running.{tick-at}
 
 module _ (s : Setup) (plan : List FateRow) where
@@ -43,7 +43,7 @@ module _ {P G : Type 0} (wants : P → Want) (becomes : P → Option Reply → P
       let low : 1 ≤ n = grind (arith, nat_tests, test) in
       let high : n ≤ s.opening.nodes = grind (arith, nat_tests, test) in
       let count = stands.count in
-      let y = some_at x.stations.items (n - 1) (omega (arith, low, high, count)) in
+      let y = get-within x.stations.items (n - 1) (omega (arith, low, high, count)) in
       let own = at_all (λ (z : Station P G). (state_of z.node).tick < last) x.stations.items (n - 1) y.0 below y.1 in
       let same = tick-at wants becomes made s x w stands (n - 1) y.0 y.1 in
       let here : n - 1 + 1 ≡ n = omega (arith, low) in

@@ -33,8 +33,8 @@ use Rattle.world_runs.proofs.Noticing.{open-kept, turns-within}
 use Rattle.world_runs.proofs.Numbering.{next-number, turns-number}
 use Rattle.world_runs.proofs.TimelyTurns.{IsTimelyTurn, timely-turn}
 use Rattle.world_runs.proofs.Turning.{turn-is}
+use Rattle.world_runs.proofs.Sorting.{own-first}
 use Rattle.world_core.proofs.Chosen.{world_by}
-use Rattle.world_core.proofs.TakingTurns.{own-events}
 
 own-frames : (w : runs.World) (n : ℕ) (m : Message) → frames_after w n (Some m) n m.to ≡ m ∷ w.frames n m.to
 own-frames w n m = ap (λ (f : ℕ → List Message). f m.to) (put-same w.frames n n _ refl) ∙ put-same (w.frames n) m.to m.to _ refl
@@ -94,7 +94,7 @@ module _ (s : Setup) (setup : IsSetup s) (plan : List FateRow) (choices : List �
     pub event-named : NamesNodes s.opening.nodes it
     event-named =
         All-head (NamesNodes s.opening.nodes) it (events_of n w.done)
-        (subst (λ (es : List Happening). All (NamesNodes s.opening.nodes) es) (merged.own n ∙ own-events n it w.done refl)
+        (subst (λ (es : List Happening). All (NamesNodes s.opening.nodes) es) (merged.own n ∙ own-first n it w.done refl)
         (All-filter (λ (e : Happening). e.place.node == n) (NamesNodes s.opening.nodes) (by_place v.done) all-named))
 
     -- a frame that it sends comes from a node

@@ -22,8 +22,8 @@ use Rattle.world_runs.specs.Turns.{is_enabled}
 use Rattle.world_runs.proofs.Among.{Among}
 use Rattle.world_runs.proofs.Noticing.{IsWithin, gone-within}
 use Rattle.world_runs.proofs.Telling.{one_if, times, AreOnce, times-append, same-frame, frame-is}
-use Rattle.world_core.specs.declared.notices.Notice.{Notice}
-use Rattle.world_core.specs.Stations.{notice_what}
+use Rattle.ring_links.specs.declared.notice.Notice.{Notice}
+use Rattle.ring_links.specs.Notices.{notice_what}
 
 -- a frame is named as often, or less often, where items are left out
 fewer-one : (f g : FrameName) (b : Bool) (xs ys : List FrameName) → times f xs ≤ times f ys → times f (cond b (g ∷ xs) xs) ≤ one_if (same_frame f g) + times f ys

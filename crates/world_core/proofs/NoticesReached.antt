@@ -24,9 +24,10 @@ use Rattle.ring_links.specs.declared.entry.Waiting.{Waiting}
 use Rattle.ring_links.specs.declared.entry.Waiting.TheVariants.{Copy, Mark}
 use Rattle.world_core.specs.declared.coming.Source as source
 use Rattle.world_core.specs.declared.coming.Source.TheVariants as sources
-use Rattle.world_core.specs.declared.notices.Notice.{Notice}
+use Rattle.ring_links.specs.declared.notice.Notice.{Notice}
 use Rattle.world_core.specs.declared.station.LinkFrom.{LinkFrom}
-use Rattle.world_core.specs.Stations.{notice_for, notice_what, what_of}
+use Rattle.ring_links.specs.Notices.{notice_for, notice_what}
+use Rattle.world_core.specs.Stations.{what_of}
 use Rattle.world_core.specs.Listed.{notices_less}
 use Rattle.world_core.specs.Reached.{notice_if, frame_notices}
 use Rattle.world_core.specs.Stands.{IsNoticeOf}

@@ -1,7 +1,7 @@
 -- What follows from what holds of an Ok, or of an Err that is passed on.
 use Rattle.std.proofs.Common.{◌≡◌, ◌∙◌, sym, Result, Ok, Err, OnOk, IfOk}
 use Rattle.std.specs.Prelude.{IsErrAnd}
-use Rattle.world_core.specs.declared.run.RunFault.{RunFault}
+use Rattle.node_core.specs.declared.fault.RunFault.{RunFault}
 
 pub on_ok : {A E : Type 0} {P Q : Type 0} (r : Result A E) → (P → Q) → OnOk r P → OnOk r Q
 on_ok (Ok x) f p = f p

@@ -5,9 +5,10 @@ use Rattle.std.proofs.lemmas.Bool.{cases_eq}
 use Rattle.std.proofs.lemmas.Option.{slice_get_within}
 use Rattle.std.proofs.lemmas.List.{append_assoc}
 use Rattle.std.proofs.lemmas.List.Elements.{filter-append}
-use Rattle.node_runs.proofs.Bools.{equal}
+use Rattle.uid_names.proofs.Passed.{equal, eqb-itself}
+use Rattle.uid_names.proofs.ListLemmas.{get-within}
 use Rattle.node_core.specs.Nodes.{Noted}
-use Rattle.world_core.specs.declared.notices.Notice.{Notice}
+use Rattle.ring_links.specs.declared.notice.Notice.{Notice}
 use Rattle.world_core.specs.declared.station.LinkFrom.{LinkFrom}
 use Rattle.world_core.specs.declared.station.Station.{Station}
 use Rattle.world_core.specs.Stations.{open_ones, is_open_notice}
@@ -20,8 +21,7 @@ use Rattle.node_runs.specs.Deliveries.{is_gone}
 use Rattle.dom_history.specs.declared.plan.FateRow.{FateRow}
 use Rattle.dom_history.specs.Plans.{fate_of}
 use Rattle.ring_messages.specs.Frames.{caller_of}
-use Rattle.world_core.specs.Stations.{notice_for}
-use Rattle.world_core.proofs.Elements.{some_at}
+use Rattle.ring_links.specs.Notices.{notice_for}
 use Rattle.world_core.proofs.Marked.{set_there, set_else}
 
 kept-one : {A : Type 0} (E : A → Bool) (x : A) (kept : List A) (b : Bool) → E x ≡ b → filter E kept ≡ kept → filter E (cond b (x ∷ kept) kept) ≡ cond b (x ∷ kept) kept
@@ -31,9 +31,6 @@ kept-one E x kept false is same = same
 pub kept-twice : {A : Type 0} (E : A → Bool) (xs : List A) → filter E (filter E xs) ≡ filter E xs
 kept-twice E [] = refl
 kept-twice E (x ∷ xs) = kept-one E x (filter E xs) (E x) refl (kept-twice E xs)
-
-eq-same : (n : ℕ) → (n == n) ≡ true
-eq-same n = grind arith
 
 eq-other : (n m : ℕ) → n ≢ m → (n == m) ≡ false
 eq-other n m differs = by-value (n == m) refl
@@ -94,7 +91,7 @@ module _ {P G : Type 0} where
   pub all-then : (at : ℕ) (c d : ℕ → List Notice) (ins more : ℕ → List LinkFrom → List LinkFrom) (old mid new : List (Station P G)) → length mid ≡ length old
       → AreReached at c ins old mid → AreReached at d more mid new → AreReached at (λ n. c n ++ d n) (λ n ls. more n (ins n ls)) old new
   all-then at c d ins more old mid new many first second n x z e f =
-      let here = some_at mid n (let inside = slice_get_within old n x e in omega (arith, inside, many)) in
+      let here = get-within mid n (let inside = slice_get_within old n x e in omega (arith, inside, many)) in
       let a = first n x here.0 e here.1 in
       let b = second n here.0 z here.1 f in
       reached-then (n == at) (c n) (d n) (ins n x.ins.items) (more n (ins n x.ins.items)) x here.0 z a
@@ -131,14 +128,14 @@ module _ {P G : Type 0} (at k : ℕ) (old : List (Station P G)) (x y : Station P
       → AreReached at (λ n. notice_if (n == k) notice) (λ n ins. ins) old (slice_set old k y)
   told-one notice ins notices listed =
       reached-one at k (λ n. notice_if (n == k) notice) (λ n ls. ls) old x y within there
-      (subst (λ b. IsReached (k == at) (notice_if b notice) x.ins.items x y) (sym (eq-same k)) (tell-is (k == at) x y node notice ins notices listed))
+      (subst (λ b. IsReached (k == at) (notice_if b notice) x.ins.items x y) (sym (eqb-itself k)) (tell-is (k == at) x y node notice ins notices listed))
       (λ n differs. ap (λ b. notice_if b notice) (eq-other n k differs)) (λ n ls differs. refl)
 
   pub delivered-one : (fate : Fate) (m : Message) → y.ins.items ≡ delivered at fate m x.ins.items → y.notices ≡ x.notices → ((k == at) ≡ false → IsListed x → IsListed y)
       → AreReached at (λ n. []) (λ n ins. ins_if (n == k) (delivered at fate m ins) ins) old (slice_set old k y)
   delivered-one fate m ins notices listed =
       reached-one at k (λ n. []) (λ n ls. ins_if (n == k) (delivered at fate m ls) ls) old x y within there
-      (subst (λ b. IsReached (k == at) [] (ins_if b (delivered at fate m x.ins.items) x.ins.items) x y) (sym (eq-same k)) (deliver-is (k == at) x y node (delivered at fate m x.ins.items) ins notices listed))
+      (subst (λ b. IsReached (k == at) [] (ins_if b (delivered at fate m x.ins.items) x.ins.items) x y) (sym (eqb-itself k)) (deliver-is (k == at) x y node (delivered at fate m x.ins.items) ins notices listed))
       (λ n differs. refl) (λ n ls differs. ap (λ b. ins_if b (delivered at fate m ls) ls) (eq-other n k differs))
 
 module _ {P G : Type 0} (at to : ℕ) (fate : Fate) (notice : Notice) (ins : ℕ → List LinkFrom → List LinkFrom) (old mid new : List (Station P G)) where

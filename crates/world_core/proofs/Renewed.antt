@@ -13,10 +13,11 @@ use Rattle.world_runs.specs.Gone.{notices_at}
 use Rattle.world_runs.specs.Turns as turns
 use Rattle.world_runs.proofs.Among.{Among, among-filter}
 use Rattle.node_core.specs.Nodes.{Noted}
-use Rattle.world_core.specs.declared.notices.Notice.{Notice}
+use Rattle.ring_links.specs.declared.notice.Notice.{Notice}
 use Rattle.world_core.specs.declared.station.LinkFrom.{LinkFrom}
 use Rattle.world_core.specs.declared.station.Station.{Station}
-use Rattle.world_core.specs.Stations.{notice_what, notice_incoming, is_open_notice, open_ones}
+use Rattle.ring_links.specs.Notices.{notice_what, notice_incoming}
+use Rattle.world_core.specs.Stations.{is_open_notice, open_ones}
 use Rattle.world_core.specs.Sending.{marked}
 use Rattle.world_core.specs.SentMarks.{AreMarked}
 use Rattle.world_core.specs.Listed.{IsListed, IsKept}

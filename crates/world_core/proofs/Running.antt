@@ -1,25 +1,26 @@
 -- The turns of a seed, as far as a world went through them.
-use Rattle.std.proofs.Common.{◌≡◌, ℕ, zero, suc, ◌+◌, ◌*◌, ◌<◌, ◌≤◌, Option, Some, List, [], map, length, inl, inr, refl, sym, ap, subst, ◌∙◌, arith}
-use Rattle.std.specs.Prelude.{slice_get, IfSome, ◌^◌, sum}
+use Rattle.std.proofs.Common.{◌≡◌, ℕ, zero, suc, ◌+◌, ◌*◌, ◌<◌, ◌≤◌, Option, Some, List, [], length, inl, inr, refl, sym, ap, subst, ◌∙◌, arith}
+use Rattle.std.specs.Prelude.{slice_get, IfSome, ◌^◌}
 use Rattle.std.proofs.lemmas.Bool.{cases_eq}
 use Rattle.uid_names.specs.Steps.{◌>>=◌}
+use Rattle.uid_names.proofs.ListLemmas.{get-within}
 use Rattle.dom_history.specs.declared.op.Reply.{Reply}
 use Rattle.dom_history.specs.declared.op.Want.{Want}
 use Rattle.dom_history.specs.declared.plan.FateRow.{FateRow}
 use Rattle.node_runs.specs.Setups.{Setup}
 use Rattle.node_runs.specs.NodeStates.{NodeState}
-use Rattle.node_runs.specs.Doings.{node_numbers}
 use Rattle.node_runs.specs.Runs as runs
 use Rattle.world_runs.specs.Turns.{turn, enabled_events}
-use Rattle.world_runs.specs.Draws.{drawn, state_after, draws, turns, EndsIn, ComesToLast}
+use Rattle.drawn_numbers.specs.Draws.{drawn, state_after}
+use Rattle.world_runs.specs.Draws.{draws, turns, EndsIn, ComesToLast}
 use Rattle.world_runs.specs.Draws as seeds
-use Rattle.world_runs.proofs.Ending.{turn-low, turns-few}
+use Rattle.world_runs.proofs.Ending.{turn-low, turns-few, all-below}
 use Rattle.node_core.specs.Nodes.{state_of}
-use Rattle.world_core.specs.declared.run.RunFault.TheVariants as faults
+use Rattle.node_core.specs.declared.fault.RunFault.TheVariants as faults
 use Rattle.world_core.specs.declared.station.Station.{Station}
 use Rattle.world_core.specs.declared.world.World.{World}
 use Rattle.world_core.specs.Stands.{Stands, IsTurnOf, IsBelow}
-use Rattle.world_core.proofs.Elements.{some_at, all_at, if_some}
+use Rattle.world_core.proofs.Elements.{all_at, if_some}
 
 -- the world stands for so many turns of the seed, and no tick came to the last one
 pub record IsRunning {P G : Type 0} (wants : P → Want) (becomes : P → Option Reply → P) (made : ℕ → ℕ → Option P) (s : Setup) (seed last k : ℕ) (x : World P G) : Type 0 where
@@ -31,11 +32,6 @@ pub record IsRunning {P G : Type 0} (wants : P → Want) (becomes : P → Option
 draws-many : (seed k : ℕ) → length (draws seed k) ≡ k
 draws-many seed zero = refl
 draws-many seed (suc k) = ap suc (draws-many seed k)
-
-all-below : (last : ℕ) (ticks : ℕ → ℕ) → ((n : ℕ) → ticks n < last) → sum (map ticks node_numbers) < 8 * last
-all-below last ticks below =
-    let a = below 1 in let b = below 2 in let c = below 3 in let d = below 4 in let e = below 5 in let f = below 6 in let g = below 7 in let h = below 8 in
-    omega (arith, a, b, c, d, e, f, g, h)
 
 module _ {P G : Type 0} (wants : P → Want) (becomes : P → Option Reply → P) (made : ℕ → ℕ → Option P) (s : Setup) where
   pub tick-at : (x : World P G) (w : runs.World) → Stands wants becomes made s x w → (k : ℕ) (y : Station P G) → slice_get x.stations.items k ≡ Some y
@@ -70,7 +66,7 @@ module _ {P G : Type 0} (wants : P → Want) (becomes : P → Option Reply → P
       still-below : IfSome (slice_get new.stations.items i) (λ y. (state_of y.node).tick < last) → seeds.IsBelow last turned.world
       still-below low n = elim (cases_eq n (i + 1)) [
         | inl same ↦
-            (let y = some_at new.stations.items i turned.within in
+            (let y = get-within new.stations.items i turned.within in
             let own = if_some (λ (z : Station P G). (state_of z.node).tick < last) (slice_get new.stations.items i) y.0 y.1 low in
             let tick = tick-at new turned.world turned.stands i y.0 y.1 in
             let at = ap (λ (m : ℕ). (turned.world.nodes m).tick) same in
@@ -92,7 +88,7 @@ module _ {P G : Type 0} (wants : P → Want) (becomes : P → Option Reply → P
       pub comes-to-last : (n : ℕ) → IfSome (slice_get new.stations.items i) (λ y. (faults.TickLimit n ≡ faults.TickLimit y.node.log.node) × (last ≤ (state_of y.node).tick))
           → ComesToLast s old.plan seed last n
       comes-to-last n limit =
-          let y = some_at new.stations.items i turned.within in
+          let y = get-within new.stations.items i turned.within in
           let own = if_some (λ (z : Station P G). (faults.TickLimit n ≡ faults.TickLimit z.node.log.node) × (last ≤ (state_of z.node).tick)) (slice_get new.stations.items i) y.0 y.1 limit in
           let name : n ≡ y.0.node.log.node = (let e = own.0 in cc) in
           let node = name ∙ ap (λ l. l.node) (turned.stands.station i y.0 y.1).log in

@@ -11,10 +11,11 @@ use Rattle.node_core.specs.declared.setup.Incoming as code
 use Rattle.node_core.specs.Nodes.{Noted, state_of}
 use Rattle.world_core.specs.declared.coming.Source as source
 use Rattle.world_core.specs.declared.coming.Source.TheVariants as sources
-use Rattle.world_core.specs.declared.notices.Notice.{Notice}
+use Rattle.ring_links.specs.declared.notice.Notice.{Notice}
 use Rattle.world_core.specs.declared.station.LinkFrom.{LinkFrom}
 use Rattle.world_core.specs.declared.station.Station.{Station}
-use Rattle.world_core.specs.Stations.{Candidate, start, starts_of, notice_at, notice_what, noticed, what_of, oldest_of, oldest, candidates}
+use Rattle.ring_links.specs.Notices.{notice_what}
+use Rattle.world_core.specs.Stations.{Candidate, start, starts_of, notice_at, noticed, what_of, oldest_of, oldest, candidates}
 use Rattle.world_core.specs.Listed.{event_at}
 use Rattle.world_core.proofs.Found.{each-there}
 

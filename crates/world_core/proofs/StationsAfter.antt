@@ -4,6 +4,7 @@ use Rattle.std.specs.Prelude.{◌==◌, not, filter, slice_get, All, reverse}
 use Rattle.std.specs.Option.{option_map}
 use Rattle.std.proofs.lemmas.List.{map-append}
 use Rattle.std.proofs.lemmas.List.Elements.{All-filter, All-append, All-nil, All-cons, All-head, All-tail}
+use Rattle.uid_names.proofs.ListLemmas.{All-more}
 use Rattle.dom_history.specs.declared.op.Reply.{Reply}
 use Rattle.dom_history.specs.declared.op.Want.{Want}
 use Rattle.dom_history.specs.declared.event.What.{What}
@@ -28,17 +29,18 @@ use Rattle.ring_links.specs.declared.entry.Waiting.TheVariants.{Copy, Mark}
 use Rattle.ring_links.specs.declared.entry.Entry.{Entry}
 use Rattle.ring_links.specs.declared.link.Later.{Later}
 use Rattle.node_runs.specs.Deliveries.{in_place}
-use Rattle.ring_links.specs.Carried.{plain_link, CarriesFrames, copy_of, falling, mark_of as carried_mark}
+use Rattle.ring_links.specs.Carried.{plain_link, CarriesFrames, copy_of, later_copy, falling, mark_of as carried_mark}
 use Rattle.ring_links.proofs.Plain.{plain-frame, plain-mark, plain-less}
 use Rattle.ring_links.proofs.Carrying.{frame-carried, mark-carried, less-carried}
 use Rattle.node_core.specs.declared.setup.Incoming as code
 use Rattle.node_core.specs.declared.setup.Incoming.TheVariants as received
 use Rattle.node_core.specs.Nodes.{Noted}
 use Rattle.node_core.specs.Nodes as nodes
-use Rattle.world_core.specs.declared.notices.Notice.{Notice}
+use Rattle.ring_links.specs.declared.notice.Notice.{Notice}
 use Rattle.world_core.specs.declared.station.LinkFrom.{LinkFrom}
 use Rattle.world_core.specs.declared.station.Station.{Station}
-use Rattle.world_core.specs.Stations.{notice_what, notice_incoming, is_open_notice, open_ones}
+use Rattle.ring_links.specs.Notices.{notice_what, notice_incoming}
+use Rattle.world_core.specs.Stations.{is_open_notice, open_ones}
 use Rattle.world_core.specs.Sending.{link_with, mark_with}
 use Rattle.world_core.specs.Listed.{IsListed}
 use Rattle.world_core.specs.Stands.{IsMarkOf, IsLink, IsNoticeOf, IsStation}
@@ -52,9 +54,6 @@ drop-at (suc k) (x ∷ xs) i = drop-at k xs i ∙ ap (slice_get (x ∷ xs)) (let
 
 all-dropped : {A : Type 0} (T : A → Type 0) (k : ℕ) (xs : List A) → All T xs → All T (drop k xs)
 all-dropped T k xs all = all_at T (drop k xs) (λ i x e. at_all T xs (k + i) x all (sym (drop-at k xs i) ∙ e))
-
-all-mapped : {A : Type 0} (S T : A → Type 0) (xs : List A) → ((x : A) → S x → T x) → All S xs → All T xs
-all-mapped S T xs f all = all_at T xs (λ i x e. f x (at_all S xs i x all e))
 
 -- the oldest entries of a link are taken
 abbrev pub less : ℕ → LinkFrom → LinkFrom
@@ -106,7 +105,7 @@ module _ (s : Setup) (plan : List FateRow) (w v : World) (n : ℕ) (e : Happenin
 
   less-marks : (from : ℕ) (l : LinkFrom) → IsLink plan w from n l → All (λ d. IsMarkOf v from d.received d.waiting) (drop (took from) l.link.queue)
   less-marks from l is =
-      all-mapped (λ (d : Entry code.Incoming). IsMarkOf w from d.received d.waiting) (λ (d : Entry code.Incoming). IsMarkOf v from d.received d.waiting) (drop (took from) l.link.queue)
+      All-more (λ (d : Entry code.Incoming). IsMarkOf w from d.received d.waiting) (λ (d : Entry code.Incoming). IsMarkOf v from d.received d.waiting) (drop (took from) l.link.queue)
       (λ d. mark-stays from d.received d.waiting)
       (all-dropped (λ (d : Entry code.Incoming). IsMarkOf w from d.received d.waiting) (took from) l.link.queue is.marks)
 
@@ -148,6 +147,7 @@ module _ (s : Setup) (plan : List FateRow) (w v : World) (n : ℕ) (e : Happenin
   frame-link from fate m l is one more fits =
       let r = received.Frame m in
       let k = less (took from) l in
+      let later = k.link.later ++ map (later_copy r) (links.later_of (k.link.frames + 1) fate) in
       record {
         from_is = is.from_is;
         waits =
@@ -159,11 +159,11 @@ module _ (s : Setup) (plan : List FateRow) (w v : World) (n : ℕ) (e : Happenin
             subst (λ (xs : List Message). CarriesFrames (map received.Frame xs) (link_with fate m k).link) (sym more)
             (frame-carried fate r (map received.Frame (w.frames from n)) k.link (less-frames from l is));
         marks =
-            All-append (λ (d : Entry code.Incoming). IsMarkOf v from d.received d.waiting) (drop (took from) l.link.queue) (map (copy_of r) (in_place (k.link.frames + 1) fate) ++ falling (k.link.frames + 1) k.link.later)
+            All-append (λ (d : Entry code.Incoming). IsMarkOf v from d.received d.waiting) (drop (took from) l.link.queue) (map (copy_of r) (in_place (k.link.frames + 1) fate) ++ falling (k.link.frames + 1) later)
             (less-marks from l is)
-            (All-append (λ (d : Entry code.Incoming). IsMarkOf v from d.received d.waiting) (map (copy_of r) (in_place (k.link.frames + 1) fate)) (falling (k.link.frames + 1) k.link.later)
+            (All-append (λ (d : Entry code.Incoming). IsMarkOf v from d.received d.waiting) (map (copy_of r) (in_place (k.link.frames + 1) fate)) (falling (k.link.frames + 1) later)
             (copies-free (copy_of r) (λ a. (a, refl)) from (in_place (k.link.frames + 1) fate))
-            (copies-free (λ (c : Later code.Incoming). copy_of c.received c.index) (λ c. (c.index, refl)) from (filter (λ (c : Later code.Incoming). c.behind == k.link.frames + 1) k.link.later)));
+            (copies-free (λ (c : Later code.Incoming). copy_of c.received c.index) (λ c. (c.index, refl)) from (filter (λ (c : Later code.Incoming). c.behind == k.link.frames + 1) later)));
       }
 
   pub link-after : (from : ℕ) (l new : LinkFrom) → IsLink plan w from n l → IsLinkAfter from l new → IsLink plan v from n new
@@ -208,7 +208,7 @@ module _ (s : Setup) (plan : List FateRow) (w v : World) (n : ℕ) (e : Happenin
       both-told : All (IsNoticeOf v n) (after.notices.kept ++ after.notices.came)
       both-told =
           All-append (IsNoticeOf v n) after.notices.kept after.notices.came
-          (all-mapped (IsNoticeOf w n) (IsNoticeOf v n) after.notices.kept (λ y told. stays n (notice_what y) (notice_incoming y) told) after.notices.kept_told)
+          (All-more (IsNoticeOf w n) (IsNoticeOf v n) after.notices.kept (λ y told. stays n (notice_what y) (notice_incoming y) told) after.notices.kept_told)
           after.notices.came_told
 
       notices-are : map notice_what new.notices.items ≡ open_notices s plan v n

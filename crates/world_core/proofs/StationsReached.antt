@@ -33,15 +33,17 @@ use Rattle.node_runs.proofs.Calls.{put-same, put-other}
 use Rattle.world_runs.specs.ByPlace.{events_of}
 use Rattle.world_runs.specs.Sendings.{frames_on}
 use Rattle.world_runs.specs.OpenNotices.{notices_by}
+use Rattle.world_runs.proofs.Sorting.{other-first}
 use Rattle.node_core.specs.declared.setup.Incoming.TheVariants as received
 use Rattle.node_core.specs.declared.setup.Emitted.{Emitted}
 use Rattle.node_core.specs.Receivings.{indexed, mark_in}
 use Rattle.node_core.specs.Nodes as nodes
 use Rattle.node_core.specs.Nodes.{Noted, state_of}
-use Rattle.world_core.specs.declared.notices.Notice.{Notice}
+use Rattle.ring_links.specs.declared.notice.Notice.{Notice}
 use Rattle.world_core.specs.declared.station.LinkFrom.{LinkFrom}
 use Rattle.world_core.specs.declared.station.Station.{Station}
-use Rattle.world_core.specs.Stations.{Candidate, notice_what, open_ones}
+use Rattle.ring_links.specs.Notices.{notice_what}
+use Rattle.world_core.specs.Stations.{Candidate, open_ones}
 use Rattle.world_core.specs.Sending.{delivered, marked}
 use Rattle.world_core.specs.SentMarks.{AreMarked}
 use Rattle.world_core.specs.Listed.{IsListed, IsKept, event_at, IsDone}
@@ -49,7 +51,7 @@ use Rattle.world_core.specs.Reached.{ins_if, frame_notices, frame_ins, came_of, 
 use Rattle.world_core.specs.Stands.{IsNoticeOf, IsStation}
 use Rattle.world_core.proofs.Elements.{if_some}
 use Rattle.world_core.proofs.Marked.{set_there}
-use Rattle.world_core.proofs.TakingTurns.{own-log, other-events}
+use Rattle.world_core.proofs.TakingTurns.{own-log}
 use Rattle.world_core.proofs.StationsAfter.{IsStationAfter}
 use Rattle.world_core.proofs.Sources.{event-from}
 use Rattle.world_core.proofs.EventsSent.{Sends, nothing, mark, frame, did-sends, sent-away}
@@ -142,7 +144,7 @@ module _ {P G : Type 0} (wants : P → Want) (becomes : P → Option Reply → P
     mid-other k x away is = record {
       stands =
           subst (nodes.Stands wants becomes (made (k + 1)) (given s (k + 1)) x.node) (sym (put-other w.nodes (at + 1) (k + 1) st.node (λ same. apart k away (sym same)))) is.node;
-      log = is.log ∙ ap (λ (es : List Happening). let l : NodeLog = record { node = k + 1; events = reverse es } in l) (sym (other-events (k + 1) (event-of at c st) w.done (apart k away)));
+      log = is.log ∙ ap (λ (es : List Happening). let l : NodeLog = record { node = k + 1; events = reverse es } in l) (sym (other-first (k + 1) (event-of at c st) w.done (apart k away)));
       left = left-away w (k + 1) (event-of at c st) x.notices.items is.told (apart k away);
       less = less-away (k + 1) (at + 1) c.coming.what x.ins.items (apart k away);
       many = refl;

@@ -1,15 +1,16 @@
 -- A turn of a world.
-use Rattle.std.proofs.Common.{◌≡◌, ◌≢◌, ℕ, Bool, true, false, cond, Option, List, [], ◌∷◌, ◌++◌, refl, sym, ap, ◌∙◌, arith}
+use Rattle.std.proofs.Common.{◌≡◌, ◌≢◌, ℕ, Bool, true, false, Option, List, [], ◌∷◌, ◌++◌, refl, sym, ap, ◌∙◌}
 use Rattle.std.specs.Prelude.{sum, reverse, ◌==◌}
 use Rattle.std.proofs.lemmas.List.{reverse-append}
+use Rattle.uid_names.proofs.Passed.{equal}
 use Rattle.dom_history.specs.Events.{Happening}
-use Rattle.node_runs.proofs.Bools.{equal}
 use Rattle.world_runs.specs.ByPlace.{events_of}
 use Rattle.dom_history.specs.declared.op.Reply.{Reply}
 use Rattle.dom_history.specs.declared.op.Want.{Want}
 use Rattle.node_runs.specs.Setups.{Setup}
 use Rattle.node_runs.specs.Runs as runs
 use Rattle.world_runs.specs.Turns.{enabled_events}
+use Rattle.world_runs.proofs.Sorting.{own-first}
 use Rattle.world_core.specs.declared.world.World.{World}
 use Rattle.world_core.specs.Stands.{Stands}
 use Rattle.world_core.specs.Places.{enabled_counts}
@@ -22,9 +23,6 @@ pub none-enabled : {P G : Type 0} (wants : P → Want) (becomes : P → Option R
 none-enabled wants becomes made s x w stands none =
     (no_items (enabled_events s x.plan w) (sym (all-places wants becomes made s x w stands.setup.start.nodes_high stands) ∙ none), stands)
 
-node-same : (n : ℕ) → (n == n) ≡ true
-node-same n = grind arith
-
 node-other : (n m : ℕ) → n ≢ m → (n == m) ≡ false
 node-other n m differs = by-value (n == m) refl
   where
@@ -32,13 +30,6 @@ node-other n m differs = by-value (n == m) refl
     by-value false is = is
     by-value true is = absurd (differs (equal n m is))
 
--- the events of the node that did one more, and those of another
-pub own-events : (n : ℕ) (e : Happening) (es : List Happening) → e.place.node ≡ n → events_of n (e ∷ es) ≡ e ∷ events_of n es
-own-events n e es is = ap (λ (k : ℕ). cond (k == n) (e ∷ events_of n es) (events_of n es)) is ∙ ap (λ (b : Bool). cond b (e ∷ events_of n es) (events_of n es)) (node-same n)
-
-pub other-events : (n : ℕ) (e : Happening) (es : List Happening) → e.place.node ≢ n → events_of n (e ∷ es) ≡ events_of n es
-other-events n e es differs = ap (λ (b : Bool). cond b (e ∷ events_of n es) (events_of n es)) (node-other e.place.node n differs)
-
 -- the journal of the node that did one more event
 pub own-log : (n : ℕ) (e : Happening) (es : List Happening) → e.place.node ≡ n → reverse (events_of n es) ++ e ∷ [] ≡ reverse (events_of n (e ∷ es))
-own-log n e es is = sym (ap reverse (own-events n e es is) ∙ reverse-append (e ∷ []) (events_of n es))
+own-log n e es is = sym (ap reverse (own-first n e es is) ∙ reverse-append (e ∷ []) (events_of n es))

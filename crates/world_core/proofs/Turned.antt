@@ -1,7 +1,8 @@
 -- A turn of a world of nodes is one of the world that it stands for.
 use Rattle.std.proofs.Common.{◌≡◌, ℕ, ◌+◌, ◌<◌, false, List, ◌∷◌, length, Option, Some, IfSome, refl, sym, ap, subst, ◌∙◌, arith}
 use Rattle.std.specs.Prelude.{slice_get, slice_set, ◌-◌}
-use Rattle.std.proofs.lemmas.Option.{slice_get_within}
+use Rattle.std.proofs.lemmas.Option.{slice_get_within, same_Some}
+use Rattle.uid_names.proofs.ListLemmas.{get-within}
 use Rattle.dom_history.specs.declared.op.Reply.{Reply}
 use Rattle.dom_history.specs.declared.op.Want.{Want}
 use Rattle.dom_history.specs.declared.event.What.{What}
@@ -15,7 +16,6 @@ use Rattle.node_runs.specs.Outcomes.{Stepped}
 use Rattle.node_runs.specs.Runs.{incoming_of}
 use Rattle.node_runs.specs.Runs as runs
 use Rattle.node_runs.proofs.Doing.{step_of-did}
-use Rattle.node_runs.proofs.Somes.{some-is}
 use Rattle.world_runs.specs.Turns.{after_turns}
 use Rattle.world_runs.proofs.Inserting.{event_at}
 use Rattle.world_runs.proofs.Planning.{turns-deliver}
@@ -29,7 +29,6 @@ use Rattle.world_core.specs.Listed.{IsListed, IsKept, IsDone}
 use Rattle.world_core.specs.Reached.{AreSent}
 use Rattle.world_core.specs.Stands.{Stands, IsStation, IsTurnOf}
 use Rattle.world_core.proofs.Chosen.{world_by, IsChosen}
-use Rattle.world_core.proofs.Elements.{some_at}
 use Rattle.world_core.proofs.Marked.{set_many}
 use Rattle.world_core.proofs.NextWorld as next
 use Rattle.world_core.proofs.Sendable.{sent-nodes}
@@ -56,7 +55,7 @@ module _ {P G : Type 0} (wants : P → Want) (becomes : P → Option Reply → P
     happened =
         let does = done.does (made (i + 1)) (given s (i + 1)) (w.nodes (i + 1)) (stands.station i y there).node in
         subst (λ (t : Stepped). Happened wants becomes (made (i + 1)) (given s (i + 1)) what chosen.candidate.incoming y.node mid.node emitted (w.nodes (i + 1)) t)
-        (some-is does.0 chosen.step (sym does.1.step ∙ chosen.names)) does.1
+        (same_Some does.0 chosen.step (sym does.1.step ∙ chosen.names)) does.1
 
     -- what it emits goes between nodes
     pub sends-to-nodes : IfSome emitted.frame (λ sent. (sent.1.to - 1 < length old.stations.items) × ((caller_of sent.1).node - 1 < length old.stations.items))
@@ -100,7 +99,7 @@ module _ {P G : Type 0} (wants : P → Want) (becomes : P → Option Reply → P
       -- each node after the turn
       station : (k : ℕ) (b : Station P G) → slice_get (slice_set sent i listed) k ≡ Some b → IsStation wants becomes made s old.plan v (k + 1) b
       station k b e =
-          let a = some_at old.stations.items k (let within = slice_get_within (slice_set sent i listed) k b e in let same = set_many sent i listed in omega (arith, within, same, many)) in
+          let a = get-within old.stations.items k (let within = slice_get_within (slice_set sent i listed) k b e in let same = set_many sent i listed in omega (arith, within, same, many)) in
           station-after s old.plan w v (k + 1) it refl stays wants becomes made
           (next.kept-so s stands.setup old.plan stands.choices w stands.turns stands.timely choice (i + 1) what chosen.step chosen.turns (k + 1))
           a.0 b (stands.station k a.0 a.1)

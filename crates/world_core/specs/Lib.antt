@@ -4,6 +4,7 @@ pub mod OneStore
 pub mod Before
 pub mod Stands
 pub mod Ended
+pub mod EnabledEvents
 pub mod Firsts
 pub mod Places
 pub mod Sending

@@ -2,16 +2,11 @@
 use Rattle.std.specs.Prelude.{◌≡◌, ℕ, Option, Some, List, filter, drop, slice_get, slice_set, remove}
 use Rattle.dom_history.specs.declared.op.Reply.{Reply}
 use Rattle.dom_history.specs.declared.op.Want.{Want}
-use Rattle.dom_history.specs.declared.event.What.{What}
-use Rattle.node_runs.specs.Setups.{Given}
-use Rattle.node_runs.specs.NodeStates.{NodeState}
-use Rattle.node_runs.specs.Incomings.{Incoming}
-use Rattle.node_runs.specs.Outcomes.{Stepped}
 use Rattle.node_core.specs.declared.setup.Emitted.{Emitted}
-use Rattle.node_core.specs.Nodes.{Noted, Stands, Happened}
+use Rattle.node_core.specs.Nodes.{Does}
 use Rattle.world_core.specs.declared.coming.Source as source
 use Rattle.world_core.specs.declared.coming.Source.TheVariants as sources
-use Rattle.world_core.specs.declared.notices.Notice.{Notice}
+use Rattle.ring_links.specs.declared.notice.Notice.{Notice}
 use Rattle.world_core.specs.declared.station.LinkFrom.{LinkFrom}
 use Rattle.world_core.specs.declared.station.Station.{Station}
 use Rattle.world_core.specs.Stations.{Candidate, passes, comings, candidates}
@@ -48,12 +43,6 @@ module _ {P G : Type 0} where
   -- the enabled event at a place
   abbrev pub event_at : Station P G → ℕ → Option Candidate
   event_at x place = slice_get (filter (passes x.node) (candidates x.node x.notices.items x.ins.items)) place
-
--- the event that a node did, whatever it stood for
-abbrev pub Does : {P : Type 0} → (P → Want) → (P → Option Reply → P) → What → Incoming → Noted P → Noted P → Emitted → Type 0
-Does {P} wants becomes what incoming old new emitted =
-    (made : ℕ → Option P) (g : Given) (n : NodeState) → Stands wants becomes made g old n →
-    (s : Stepped) × Happened wants becomes made g what incoming old new emitted n s
 
 -- an event was done at a node, and what it received was taken
 pub record IsDone {P G : Type 0} (wants : P → Want) (becomes : P → Option Reply → P) (c : Candidate) (emitted : Emitted) (old new : Station P G) : Type 0 where

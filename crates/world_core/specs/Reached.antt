@@ -5,10 +5,11 @@ use Rattle.dom_history.specs.declared.plan.FateRow.{FateRow}
 use Rattle.dom_history.specs.Plans.{fate_of}
 use Rattle.ring_messages.specs.Frames.{Message, caller_of}
 use Rattle.node_runs.specs.Deliveries.{is_gone}
-use Rattle.world_core.specs.declared.notices.Notice.{Notice}
+use Rattle.ring_links.specs.declared.notice.Notice.{Notice}
 use Rattle.world_core.specs.declared.station.LinkFrom.{LinkFrom}
 use Rattle.world_core.specs.declared.station.Station.{Station}
-use Rattle.world_core.specs.Stations.{notice_for, open_ones}
+use Rattle.ring_links.specs.Notices.{notice_for}
+use Rattle.world_core.specs.Stations.{open_ones}
 use Rattle.world_core.specs.Sending.{delivered}
 use Rattle.world_core.specs.SentMarks.{AreMarked}
 use Rattle.node_core.specs.Nodes.{state_of}

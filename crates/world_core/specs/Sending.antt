@@ -5,7 +5,7 @@ use Rattle.ring_messages.specs.Frames.{Message}
 use Rattle.ring_links.specs.Carried.{frame_sent, mark_sent}
 use Rattle.node_core.specs.declared.setup.Incoming.TheVariants as received
 use Rattle.node_core.specs.Nodes.{Noted}
-use Rattle.world_core.specs.declared.notices.Notice.{Notice}
+use Rattle.ring_links.specs.declared.notice.Notice.{Notice}
 use Rattle.world_core.specs.declared.station.LinkFrom.{LinkFrom}
 use Rattle.world_core.specs.Stations.{open_ones}
 

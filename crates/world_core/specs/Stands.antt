@@ -27,11 +27,11 @@ use Rattle.world_runs.specs.Turns.{Act, after_turns, enabled_events, turn}
 use Rattle.world_runs.specs.Draws.{EndsIn}
 use Rattle.world_runs.specs.ByPlace.{by_place, events_of}
 use Rattle.world_core.specs.declared.coming.Coming.{Coming}
-use Rattle.world_core.specs.declared.notices.Notice.{Notice}
+use Rattle.ring_links.specs.declared.notice.Notice.{Notice}
 use Rattle.world_core.specs.declared.station.LinkFrom.{LinkFrom}
 use Rattle.world_core.specs.declared.station.Station.{Station}
 use Rattle.world_core.specs.declared.world.World.{World}
-use Rattle.world_core.specs.Stations.{notice_what, notice_incoming}
+use Rattle.ring_links.specs.Notices.{notice_what, notice_incoming}
 use Rattle.world_core.specs.Listed.{IsListed}
 use Rattle.world_core.specs.OneStore.{IsOneStore}
 use Rattle.world_core.specs.Ended.{named}

@@ -2,19 +2,19 @@
 use Rattle.std.specs.Prelude.{ℕ, ◌+◌, Bool, List, [], ◌∷◌, ◌++◌, map, filter, flat_map}
 use Rattle.dom_history.specs.declared.event.What.{What}
 use Rattle.dom_history.specs.declared.event.What.TheVariants as events
-use Rattle.ring_messages.specs.Frames.{Message}
 use Rattle.fault_handler.specs.Desks.{procs}
 use Rattle.node_runs.specs.Incomings.{Incoming}
 use Rattle.ring_links.specs.declared.entry.Waiting.{Waiting}
 use Rattle.ring_links.specs.declared.entry.Waiting.TheVariants.{Copy, Mark}
 use Rattle.ring_links.specs.declared.entry.Entry.{Entry}
+use Rattle.ring_links.specs.declared.notice.Notice.{Notice}
+use Rattle.ring_links.specs.Notices.{notice_what, notice_incoming}
 use Rattle.node_core.specs.declared.setup.Incoming as code
 use Rattle.node_core.specs.Receivings.{seen}
 use Rattle.node_core.specs.Nodes.{Noted, state_of, is_enabled}
 use Rattle.node_core.specs.Starts.{starts_of as events_of}
 use Rattle.world_core.specs.declared.coming.Coming.{Coming}
 use Rattle.world_core.specs.declared.coming.Source.TheVariants as sources
-use Rattle.world_core.specs.declared.notices.Notice.{Notice}
 use Rattle.world_core.specs.declared.station.LinkFrom.{LinkFrom}
 
 -- an event that may come, with what it would receive
@@ -30,16 +30,7 @@ start what = record { coming = record { what = what; source = sources.Nothing };
 abbrev pub starts_of : ℕ → List Candidate
 starts_of p = map start (events_of p)
 
--- the notice of a frame with this number on its link
-abbrev pub notice_for : Message → ℕ → Notice
-notice_for m index = record { proc = m.proc; from = m.from; to = m.to; index = index; number = m.number; tick = m.tick }
-
-abbrev pub notice_what : Notice → What
-notice_what x = events.Notice x.proc x.from x.to x.index
-
-abbrev pub notice_incoming : Notice → Incoming
-notice_incoming x = Incoming.Gone x.number x.tick
-
+-- the notice at this place
 abbrev pub notice_at : ℕ → Notice → Candidate
 notice_at i x = record { coming = record { what = notice_what x; source = sources.Notice i }; incoming = notice_incoming x }
 

@@ -10,5 +10,4 @@ mod sending;
 mod station;
 pub mod world;
 
-pub use run::RunFault;
 pub use world::World;

@@ -7,40 +7,19 @@ ghost use Rattle.world_runs.specs.Draws.{ComesToLast};
 ghost use Rattle.ring_links.specs.Merged.{AreLogs, AreMerged};
 ghost use Rattle.node_core.specs.Nodes.{state_of};
 ghost use Rattle.world_core.specs.Ended.{named, with_name, own_of, or_else, program_at, AreNumbered};
-ghost use Rattle.world_core.specs.declared.run.RunFault.TheVariants as faults;
+ghost use Rattle.node_core.specs.declared.fault.RunFault.TheVariants as faults;
 
 use crate::world::World;
 use dom_history::{EventList, MergedLogs, NodeLog, Program};
-use node_core::Node;
+use drawn_numbers::Draws;
+use node_core::{Node, RunFault};
 use page_store::Pages;
-use ring_links::{Draws, by_place};
+use ring_links::by_place;
 use run_ends::laws::no_turn_is_stuck;
 use run_moves::laws::{a_home_has_all_at_an_unlock, each_history_is_one_of_one_store};
 use std::alloc::Global;
-use thiserror::Error;
 use uid_names::{NoMemory, NodeId, ProcId};
 use world_runs::laws::turns_are_a_run_by_place;
-
-/// Why a run has no end.
-#[derive(Clone, Copy, Debug, PartialEq, Eq, Error)]
-pub enum RunFault {
-    /// An event gave this node the last tick.
-    #[error("node {0:?} came to the last tick")]
-    TickLimit(NodeId),
-    #[error("no memory")]
-    NoMemory,
-}
-
-impl From<NoMemory> for RunFault {
-    ghost use Rattle.std.specs.Prelude.{◌≡◌};
-    ghost use Rattle.world_core.specs.declared.run.RunFault.TheVariants.{NoMemory as OutOfMemory};
-
-    ghost from_gives = { λ _ e. e ≡ OutOfMemory };
-
-    fn from(_error: NoMemory) -> RunFault {
-        RunFault::NoMemory
-    }
-}
 
 /// Puts a program last, under the name of its process.
 fn put_program<P: Program>(
@@ -113,7 +92,9 @@ impl<P: Program, G: Pages> World<P, G> {
         Ok((events.to_list(alloc)?, programs))
     }
 
-    /// The same, with the events in the logs of their nodes, and no copy of them.
+    /// Turns by the draws of a seed, until all nodes have ended: the events in the logs of their nodes, merged by place with no
+    /// copy of them, and the programs as they are then. TickLimit is answered where an event gave that node the tick
+    /// `last_tick`.
     pub fn run_merged(
         self,
         alloc: Global,

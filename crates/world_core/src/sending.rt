@@ -2,74 +2,21 @@
 ghost use Rattle.std.specs.Prelude.{◌≡◌, ◌^◌, ◌<◌, ◌-◌, ◌==◌, [], true, Option, Some, IfOk, OnOk, IfSome, All, length, slice_get};
 ghost use Rattle.uid_names.specs.declared.limits.TheConstants.{MAX_NODES};
 ghost use Rattle.dom_history.specs.Plans.{fate_of};
-ghost use Rattle.dom_history.specs.declared.plan.Fate.TheVariants as fates;
 ghost use Rattle.node_runs.specs.Deliveries.{is_gone as is_gone_fate};
-ghost use Rattle.node_core.specs.declared.setup.Incoming.TheVariants as received;
-ghost use Rattle.ring_links.specs.Carried.{frame_sent};
 ghost use Rattle.node_core.specs.Nodes.{state_of};
 ghost use Rattle.ring_messages.specs.Frames.{caller_of};
 ghost use Rattle.world_core.specs.Sending.{delivered};
 ghost use Rattle.world_core.specs.SentMarks.{AreMarked, SameBeside};
 ghost use Rattle.world_core.specs.Reached.{notice_if, ins_if, came_of, framed_ins, AreReached, AreSent};
 
-use crate::notices::Notice;
 use crate::world::World;
 use dom_history::{Fate, Program};
-use node_core::{Emitted, Incoming};
+use node_core::Emitted;
 use page_store::Pages;
-use ring_links::Link;
+use ring_links::{Notice, is_gone};
 use ring_messages::Frame;
 use std::alloc::Global;
 use uid_names::{NoMemory, NodeId};
-
-/// A copy.
-fn copy(alloc: Global, frame: &Frame) -> Result<Frame, NoMemory>
-    ensures { IfOk result (λ copy. copy ≡ frame.now) }
-{
-    let body = frame.body().copy(alloc)?;
-    Ok(Frame::new(
-        frame.from(),
-        frame.to(),
-        frame.proc(),
-        frame.number(),
-        frame.tick(),
-        body,
-    ))
-}
-
-/// A frame is sent on a link that is delivered twice.
-#[inline(never)]
-fn put_twice(
-    alloc: Global,
-    link: &mut Link<Incoming>,
-    frame: Frame,
-    after: u32,
-) -> Result<(), NoMemory>
-    requires few { link.old.frames < 2 ^ 63 }
-    ensures { OnOk result (link.new ≡ frame_sent (fates.Twice after) (received.Frame frame) link.old) }
-{
-    let again = copy(alloc, &frame)?;
-    link.twice(alloc, Incoming::Frame(frame), Incoming::Frame(again), after)
-}
-
-/// A frame of this fate is sent on a link.
-#[inline(always)]
-pub(crate) fn put(
-    alloc: Global,
-    link: &mut Link<Incoming>,
-    fate: Fate,
-    frame: Frame,
-) -> Result<(), NoMemory>
-    requires few { link.old.frames < 2 ^ 63 }
-    ensures { OnOk result (link.new ≡ frame_sent fate (received.Frame frame) link.old) }
-{
-    match fate {
-        Fate::Pass => link.pass(alloc, Incoming::Frame(frame)),
-        Fate::Lose => link.lose(alloc),
-        Fate::Late(after) => link.late(alloc, Incoming::Frame(frame), after),
-        Fate::Twice(after) => put_twice(alloc, link, frame, after),
-    }
-}
 
 /// Where a node stands among all.
 fn place_of(node: NodeId) -> usize
@@ -77,15 +24,6 @@ fn place_of(node: NodeId) -> usize
     ensures bound { result < MAX_NODES }
 {
     usize::from(node.number()) - 1
-}
-
-fn is_gone(fate: Fate) -> bool
-    ensures { result ≡ is_gone_fate fate }
-{
-    match fate {
-        Fate::Lose | Fate::Late(_) => true,
-        Fate::Pass | Fate::Twice(_) => false,
-    }
 }
 
 impl<P: Program, G: Pages> World<P, G> {
@@ -137,7 +75,8 @@ impl<P: Program, G: Pages> World<P, G> {
         self.deliver_at(alloc, at, to, fate, frame)
     }
 
-    /// The same of a frame that is lost or late. Not inlined: such frames are few.
+    /// A frame that is lost or late is sent: it comes to its link, and a notice of it to the process that calls. Not
+    /// inlined: such frames are few.
     #[inline(never)]
     fn send_gone(
         &mut self,

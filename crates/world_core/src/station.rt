@@ -12,12 +12,11 @@ ghost use Rattle.world_core.specs.Firsts.{first_links};
 ghost use Rattle.world_core.specs.Stations.{comings, candidates, start, starts_of, notice_at, noticed, oldest, oldest_of, what_of, is_open_notice, open_ones};
 
 use crate::coming::{Coming, Source};
-use crate::notices::Notice;
-use crate::sending::put;
+use crate::notices::incoming_of;
 use dom_history::{Fate, Program, What};
 use node_core::{Emitted, Incoming, Node};
 use page_store::Pages;
-use ring_links::{Link, Waiting};
+use ring_links::{Link, Notice, Waiting};
 use ring_messages::Frame;
 use std::alloc::Global;
 use std::mem::replace;
@@ -116,7 +115,7 @@ fn find(notices: &[Notice], at: usize) -> Option<&Notice>
 fn is_open<P: Program, G: Pages>(node: &Node<P, G>, notice: &Notice) -> bool
     ensures { result ≡ is_open_notice node.now notice.now }
 {
-    node.enabled(&notice.what(), &notice.incoming())
+    node.enabled(&notice.what(), &incoming_of(notice))
 }
 
 /// A notice, which is the one at this place. Not inlined, as below: notices are few, and what they need would be blanked
@@ -131,7 +130,7 @@ fn put_notice<P: Program, G: Pages>(
     ensures { OnOk result (list.new.items ≡ list.old.items ++ comings node.now (notice_at i notice.now ∷ [])) }
 {
     let (what, source) = (notice.what(), Source::Notice(i));
-    put_enabled(node, list, Coming { what, source }, &notice.incoming())
+    put_enabled(node, list, Coming { what, source }, &incoming_of(notice))
 }
 
 /// Notices.
@@ -258,10 +257,10 @@ impl<P: Program, G: Pages> Station<P, G> {
     ghost use Rattle.std.specs.Prelude.{◌<◌, ◌^◌, Option, Some, IfSome, IsSomeAnd, remove};
     ghost use Rattle.node_runs.specs.Incomings.{tick_of};
     ghost use Rattle.node_runs.specs.Incomings.Incoming.{Nothing};
-    ghost use Rattle.node_core.specs.Nodes.{is_enabled};
-    ghost use Rattle.world_core.specs.Stations.{notice_what, notice_incoming};
+    ghost use Rattle.node_core.specs.Nodes.{is_enabled, Does};
+    ghost use Rattle.ring_links.specs.Notices.{notice_what, notice_incoming};
     ghost use Rattle.world_core.specs.Sending.{told, still, delivered, marked};
-    ghost use Rattle.world_core.specs.Listed.{IsListed, IsKept, event_at, Does, IsDone, less_at};
+    ghost use Rattle.world_core.specs.Listed.{IsListed, IsKept, event_at, IsDone, less_at};
 
     /// Notices whose call is open no more go.
     fn keep_open(&mut self, alloc: Global) -> Result<(), NoMemory>
@@ -274,7 +273,7 @@ impl<P: Program, G: Pages> Station<P, G> {
         self.drop_closed(alloc)
     }
 
-    /// The same of one notice and more.
+    /// Notices whose call is open no more go, where there is one notice and more.
     #[inline(never)]
     fn drop_closed(&mut self, alloc: Global) -> Result<(), NoMemory>
         ensures notices { OnOk result (self.new.notices.items ≡ open_ones self.old.node self.old.notices.items) }
@@ -353,7 +352,8 @@ impl<P: Program, G: Pages> Station<P, G> {
         ensures listed { OnOk result (own ≡ false → IsListed self.old → IsListed self.new) }
     {
         let waits = self.waits(at);
-        put(alloc, &mut self.ins[at].link, fate, frame)?;
+        let frame = Incoming::Frame(frame);
+        self.ins[at].link.send(alloc, fate, frame)?;
         if own || waits {
             return Ok(());
         }
@@ -415,7 +415,7 @@ impl<P: Program, G: Pages> Station<P, G> {
         ensures ins { self.new.ins ≡ self.old.ins }
     {
         let emitted = match find(self.notices.as_slice(), at) {
-            Some(notice) => self.node.step(alloc, what, &notice.incoming())?,
+            Some(notice) => self.node.step(alloc, what, &incoming_of(notice))?,
             None => unreachable!(),
         };
         self.notices.remove(at);

@@ -104,7 +104,8 @@ impl<P: Program, G: Pages> World<P, G> {
         Ok(self.take_turn(alloc, choice)?.is_some())
     }
 
-    /// The same; the place of the node whose event was done.
+    /// Does the enabled event at the place `choice`, counted on from the first behind the last; the place of the node whose
+    /// event was done, None where none is enabled. Without memory the world is spent.
     pub(crate) fn take_turn(
         &mut self,
         alloc: Global,

@@ -65,7 +65,7 @@ same-added : (n : ℕ) (o : Option Message) (from to : ℕ) (xs : List Message) 
 same-added n None from to xs e = refl
 same-added n (Some m) from to xs e = same-if (from == n) (to == m.to) m xs e
 
-no-entry : (b c : Bool) (x : Entry) → c ≡ false → entry_if (b && c) x ≡ []
+pub no-entry : (b c : Bool) (x : Entry) → c ≡ false → entry_if (b && c) x ≡ []
 no-entry true c x h = ap (λ y. entry_if y x) h
 no-entry false c x h = refl
 

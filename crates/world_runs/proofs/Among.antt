@@ -1,7 +1,7 @@
 -- What is among the items of a list.
 use Rattle.std.proofs.Common.{◌≡◌, ℕ, zero, suc, Bool, true, false, cond, List, [], ◌∷◌, ◌++◌, map, Some, inl, inr, refl, sym, ap, ◌∙◌}
 use Rattle.std.specs.Prelude.{◌⊎◌, filter, flat_map, slice_get}
-use Rattle.node_runs.proofs.Somes.{some-is}
+use Rattle.std.proofs.lemmas.Option.{same_Some}
 
 abbrev pub Among : {A : Type 0} → A → List A → Type 0
 Among x [] = ⊥
@@ -9,7 +9,7 @@ Among x (y ∷ ys) = (x ≡ y) ⊎ Among x ys
 
 pub among-get : {A : Type 0} (xs : List A) (k : ℕ) (x : A) → slice_get xs k ≡ Some x → Among x xs
 among-get [] k x e = absurd (cc)
-among-get (y ∷ ys) zero x e = inl (sym (some-is y x e))
+among-get (y ∷ ys) zero x e = inl (sym (same_Some y x e))
 among-get (y ∷ ys) (suc k) x e = inr (among-get ys k x e)
 
 pub among-append : {A : Type 0} (x : A) (xs ys : List A) → Among x (xs ++ ys) → Among x xs ⊎ Among x ys

@@ -18,6 +18,7 @@ use Rattle.ring_messages.specs.Bodies.{Ask, Answer}
 use Rattle.ring_messages.specs.Frames.{Message, caller_of}
 use Rattle.ring_messages.specs.Ranges.{IsBody}
 use Rattle.uid_names.specs.Names.{ProcName, ObjectName}
+use Rattle.uid_names.proofs.Passed.{equal}
 use Rattle.fault_handler.specs.Desks.{DeskState, at, put_at}
 use Rattle.fault_handler.specs.Invariant.{IsProc}
 use Rattle.fault_handler.specs.Outcomes.{Turn, Moved}
@@ -33,7 +34,6 @@ use Rattle.node_runs.specs.Agreements.{Agrees}
 use Rattle.node_runs.specs.NodesKeep.{IsNodeOf}
 use Rattle.node_runs.specs.SentFrames.{IsFrame, IsIncoming}
 use Rattle.node_runs.specs.RunHistories.{is_fault}
-use Rattle.node_runs.proofs.Bools.{equal}
 use Rattle.node_runs.proofs.CallSteps.{IsUnasking}
 use Rattle.node_runs.proofs.MakingRoom.{always-may}
 use Rattle.world_runs.specs.Faults.{CallName, call_if, fault_by, IsFaultlessNote}

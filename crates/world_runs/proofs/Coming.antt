@@ -1,6 +1,7 @@
 -- What may come to a node was due there.
 use Rattle.std.proofs.Common.{◌≡◌, ℕ, Bool, true, false, List, [], ◌∷◌, ◌++◌, Option, Some, None, inl, inr, refl, sym, subst}
 use Rattle.std.specs.Prelude.{◌==◌, not, filter, flat_map}
+use Rattle.std.proofs.lemmas.Bool.{not-true}
 use Rattle.dom_history.specs.declared.event.What.{What}
 use Rattle.dom_history.specs.declared.event.What.TheVariants.{Begin, Go, Take, Notice, Ready, Mark}
 use Rattle.dom_history.specs.declared.plan.FateRow.{FateRow}
@@ -8,7 +9,6 @@ use Rattle.ring_messages.specs.Frames.{Message, caller_of}
 use Rattle.fault_handler.specs.Desks.{procs}
 use Rattle.node_runs.specs.Doings.{node_numbers}
 use Rattle.node_runs.specs.Runs.{World, numbered}
-use Rattle.node_runs.proofs.Bools.{not-true}
 use Rattle.world_runs.specs.Waiting.{Entry, waiting}
 use Rattle.world_runs.specs.Gone.{FrameName, gone_in, was_told, notice_if, notice_of, notices_at}
 use Rattle.world_runs.specs.Turns.{starts_of, oldest, takes_at, coming_to}

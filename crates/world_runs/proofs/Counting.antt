@@ -2,6 +2,7 @@
 use Rattle.std.proofs.Common.{◌≡◌, ℕ, ◌+◌, ◌≤◌, suc, Bool, true, false, cond, List, length, Option, Some, None, IfSome, inl, inr, refl, sym, ap, subst, ◌∙◌, arith}
 use Rattle.std.specs.Prelude.{◌==◌, ◌&&◌}
 use Rattle.std.proofs.lemmas.Bool.{cases_eq}
+use Rattle.std.proofs.lemmas.Option.{same_Some}
 use Rattle.uid_names.specs.Names.{ProcName, same_proc}
 use Rattle.dom_history.specs.declared.event.What.{What}
 use Rattle.dom_history.specs.declared.event.What.TheVariants.{Begin, Go, Take, Notice, Ready, Mark}
@@ -12,7 +13,6 @@ use Rattle.node_runs.specs.NodeStates.{NodeState}
 use Rattle.node_runs.specs.Incomings.{Incoming, tick_of}
 use Rattle.node_runs.specs.Runs.{World, SentMark, Choice, numbered, taken, told_if, told_of, marked, mark_of, incoming_of, frames_after, world_after}
 use Rattle.node_runs.specs.CallsKeep.{EachOf}
-use Rattle.node_runs.proofs.Somes.{some-is}
 use Rattle.node_runs.proofs.Calls.{put-same, put-other, frames-one}
 use Rattle.node_runs.proofs.Receiving.{EachOf-more, numbered-each}
 use Rattle.node_runs.proofs.Worlds.{IsNext, place_at, every-run}
@@ -24,7 +24,7 @@ use Rattle.world_runs.proofs.TimelyRuns.{next-node, next-tick}
 -- the tick of what is received is not above those of frames and marks
 module _ (most : ℕ) (w : World) (frames : (from to : ℕ) → EachOf (λ m. m.tick ≤ most) (w.frames from to)) (marks : (from phase : ℕ) (m : SentMark) → mark_of w from phase ≡ Some m → m.tick ≤ most) where
   tick-low : (i j : Incoming) → Some i ≡ Some j → tick_of i ≤ most → tick_of j ≤ most
-  tick-low i j e low = subst (λ (x : Incoming). tick_of x ≤ most) (some-is i j e) low
+  tick-low i j e low = subst (λ (x : Incoming). tick_of x ≤ most) (same_Some i j e) low
 
   nothing-low : (j : Incoming) → Some Incoming.Nothing ≡ Some j → tick_of j ≤ most
   nothing-low j e = tick-low Incoming.Nothing j e (omega arith)
@@ -69,7 +69,7 @@ mark-after n t from phase most (Mark a k) o m low before e = before m e
 mark-after n t from phase most (Ready k) o m low before e = by_test ((n == from) && (k == phase)) e
   where
     by_test : (b : Bool) → cond b (Some (record { node = n; phase = k; tick = t })) o ≡ Some m → m.tick ≤ most
-    by_test true e = subst (λ (x : SentMark). x.tick ≤ most) (some-is (record { node = n; phase = k; tick = t }) m e) low
+    by_test true e = subst (λ (x : SentMark). x.tick ≤ most) (same_Some (record { node = n; phase = k; tick = t }) m e) low
     by_test false e = before m e
 
 module _ (s : Setup) (old : World) (c : Choice) (new : World) (is : IsNext s old c new) (before : AreLow old) where

@@ -3,7 +3,10 @@ use Rattle.std.proofs.Common.{◌≡◌, ℕ, zero, suc, ◌*◌, ◌<◌, ◌�
 use Rattle.std.specs.Prelude.{◌⊎◌, ◌==◌, ◌&&◌, ◌^◌, cond, nat_le, sum}
 use Rattle.std.proofs.lemmas.Bool.{cases_eq, cases_lt, cases_order}
 use Rattle.std.proofs.lemmas.Bool.Decides.{nat_tests}
+use Rattle.std.proofs.lemmas.Option.{same_Some}
 use Rattle.uid_names.specs.Steps.{◌>>=◌}
+use Rattle.uid_names.proofs.Passed.{equal}
+use Rattle.uid_names.proofs.Somes.{bind-some}
 use Rattle.dom_history.specs.declared.event.What.{What}
 use Rattle.dom_history.specs.declared.plan.FateRow.{FateRow}
 use Rattle.ring_messages.specs.Frames.{Message}
@@ -12,20 +15,19 @@ use Rattle.node_runs.specs.NodeStates.{NodeState}
 use Rattle.node_runs.specs.Doings.{node_numbers}
 use Rattle.node_runs.specs.NodesKeep.{IsTimely}
 use Rattle.node_runs.specs.Runs.{World, SentMark, first_world, mark_of, frames_after}
-use Rattle.node_runs.proofs.Somes.{some-is, bind-some}
 use Rattle.node_runs.proofs.Calls.{put-same, put-other, frames-one}
 use Rattle.world_runs.specs.Turns.{enabled_events, turn, after_turns}
 use Rattle.dom_history.specs.declared.event.What.TheVariants.{Begin, Go, Take, Notice, Ready, Mark}
 use Rattle.dom_history.specs.declared.event.Sent.{Sent}
 use Rattle.node_runs.specs.CallsKeep.{EachOf}
-use Rattle.node_runs.proofs.Bools.{equal}
 use Rattle.node_runs.proofs.Receiving.{EachOf-more}
 use Rattle.world_runs.proofs.Sent.{IsSent, step-sent}
 use Rattle.world_runs.proofs.Alike.{marked_by, marks-marked}
 use Rattle.world_runs.proofs.Counting.{incoming-low}
 use Rattle.world_runs.proofs.Merging.{turns-merge}
 use Rattle.world_runs.proofs.TimelyTurns.{IsTimelyTurn, timely-turn, every-timely}
-use Rattle.world_runs.specs.Draws.{drawn, state_after, draws, turns, IsBelow, EndsIn, ComesToLast, ticks_in}
+use Rattle.drawn_numbers.specs.Draws.{drawn, state_after}
+use Rattle.world_runs.specs.Draws.{draws, turns, IsBelow, EndsIn, ComesToLast, ticks_in}
 use Rattle.world_runs.proofs.Turning.{IsTurn, act_place, turn-is, turn-tick, node-after, ticks-stay}
 use Rattle.world_runs.proofs.Happening.{none-some, turn-none, none-turn}
 
@@ -38,7 +40,7 @@ module _ (s : Setup) (plan : List FateRow) (seed : ℕ) where
   turn-then k v w e f = ap (λ (o : Option World). o >>= λ (x : World). turn s plan x (drawn (state_after seed (suc k)))) e ∙ f
 
   same-world : (j k : ℕ) (u w : World) → j ≡ k → turns s plan seed j ≡ Some u → turns s plan seed k ≡ Some w → u ≡ w
-  same-world j k u w same e f = some-is u w (sym e ∙ (ap (turns s plan seed) same ∙ f))
+  same-world j k u w same e f = same_Some u w (sym e ∙ (ap (turns s plan seed) same ∙ f))
 
   -- ticks never fall over turns
   ticks-to : (k j : ℕ) (u w : World) → j ≤ k → turns s plan seed j ≡ Some u → turns s plan seed k ≡ Some w → (n : ℕ) → (u.nodes n).tick ≤ (w.nodes n).tick
@@ -80,7 +82,7 @@ module _ (s : Setup) (plan : List FateRow) (seed : ℕ) where
   who : (last n : ℕ) (a : ComesToLast s plan seed last n) → (act : ℕ) × (n ≡ act) × ((m : ℕ) → (a.after.nodes m).tick ≡ last → m ≡ act)
   who last n a =
       let found = next-turn a.count a.after a.next in
-      let same = some-is found.0 a.before (sym found.1 ∙ a.comes) in
+      let same = same_Some found.0 a.before (sym found.1 ∙ a.comes) in
       let is = turn-is s plan a.before (drawn (state_after seed (suc a.count))) a.after (subst (λ (x : World). turn s plan x (drawn (state_after seed (suc a.count))) ≡ Some a.after) same found.2) in
       (is.act.node, only is n a.tick, only is)
     where
@@ -138,7 +140,7 @@ rises old new stay =
     (λ m. omega (arith, a, b, c, d, e, f, g, h, m))
     (λ m. omega (arith, a, b, c, d, e, f, g, h, m))
 
-all-below : (last : ℕ) (ticks : ℕ → ℕ) → ((n : ℕ) → ticks n < last) → sum (map ticks node_numbers) < 8 * last
+pub all-below : (last : ℕ) (ticks : ℕ → ℕ) → ((n : ℕ) → ticks n < last) → sum (map ticks node_numbers) < 8 * last
 all-below last ticks below =
     let a = below 1 in let b = below 2 in let c = below 3 in let d = below 4 in let e = below 5 in let f = below 6 in let g = below 7 in let h = below 8 in
     omega (arith, a, b, c, d, e, f, g, h)
@@ -196,7 +198,7 @@ module _ (s : Setup) (setup : IsSetup s) (plan : List FateRow) where
       where
         by_test : (b d : Bool) → (n0 == from) ≡ b → cond (b && d) (Some (record { node = n0; phase = k; tick = turn.is.step.node.tick })) o ≡ Some m → m.tick ≤ (new.nodes from).tick
         by_test true true is f =
-            (let same = ap (λ (x : SentMark). x.tick) (some-is (record { node = n0; phase = k; tick = turn.is.step.node.tick }) m f) in
+            (let same = ap (λ (x : SentMark). x.tick) (same_Some (record { node = n0; phase = k; tick = turn.is.step.node.tick }) m f) in
             let t = ap (λ (i : ℕ). (new.nodes i).tick) (equal n0 from is) in let g = now in omega (arith, same, t, g))
         by_test true false is f = each m f
         by_test false d is f = each m f

@@ -1,10 +1,12 @@
 -- No reply is that of a link fault but where a call is given up.
 use Rattle.std.proofs.Common.{◌≡◌, ℕ, Bool, true, false, Option, Some, None, refl, sym, ap, subst, ◌∙◌}
 use Rattle.std.specs.Prelude.{◌&&◌, nat_le, Result, Ok, Err}
+use Rattle.std.proofs.lemmas.Option.{same_Some}
 use Rattle.uid_names.specs.Names.{ObjectName, ProcName}
 use Rattle.uid_names.specs.Openings.{Start}
 use Rattle.uid_names.specs.Steps.{◌>>=◌}
 use Rattle.uid_names.specs.declared.mode.ObjKind.{ObjKind}
+use Rattle.uid_names.proofs.Somes.{bind-some, map-some}
 use Rattle.dom_history.specs.declared.op.Op.{Op}
 use Rattle.dom_history.specs.declared.op.Op.TheVariants as ops
 use Rattle.dom_history.specs.declared.op.Reply.{Reply}
@@ -35,7 +37,6 @@ use Rattle.desk_laws.proofs.Facts.{Always-then}
 use Rattle.node_runs.specs.RunHistories.{is_fault}
 use Rattle.node_runs.specs.Operations.{new_by, list_by, begun, gone_on, Said, said_to_new, said_to_list, said_to_lock, said_to_call, said_by, said_of, answered}
 use Rattle.node_runs.specs.Agreements.{IsCallOpen, IsCalling}
-use Rattle.node_runs.proofs.Somes.{some-is, map-some, bind-some}
 
 abbrev pub IsFaultlessTurn : Turn → Type 0
 IsFaultlessTurn (Turn.Ends reply) = is_fault reply ≡ false
@@ -71,13 +72,13 @@ refuses-faultless d p c reply (Refuses.delete_unheld u a) = refl
 refuses-faultless d p c reply (Refuses.delete_mode u a b) = refl
 
 answer-faultless : (a : LockAnswer) (reply : Reply) → answer_reply a ≡ Some reply → is_fault reply ≡ false
-answer-faultless (LockAnswer.Granted u m grant stamp room length) reply e = ap is_fault (sym (some-is replies.Fine reply e))
-answer-faultless (LockAnswer.Refused q held) reply e = ap is_fault (sym (some-is (replies.Conflict q held) reply e))
-answer-faultless (LockAnswer.Gone u) reply e = ap is_fault (sym (some-is replies.NoObject reply e))
+answer-faultless (LockAnswer.Granted u m grant stamp room length) reply e = ap is_fault (sym (same_Some replies.Fine reply e))
+answer-faultless (LockAnswer.Refused q held) reply e = ap is_fault (sym (same_Some (replies.Conflict q held) reply e))
+answer-faultless (LockAnswer.Gone u) reply e = ap is_fault (sym (same_Some replies.NoObject reply e))
 answer-faultless (LockAnswer.PageSettled u delete taken stamp) reply e = absurd (cc)
 answer-faultless (LockAnswer.LengthSettled u length delete taken stamp) reply e = absurd (cc)
-answer-faultless (LockAnswer.Released u) reply e = ap is_fault (sym (some-is replies.Fine reply e))
-answer-faultless (LockAnswer.Removed u) reply e = ap is_fault (sym (some-is replies.Fine reply e))
+answer-faultless (LockAnswer.Released u) reply e = ap is_fault (sym (same_Some replies.Fine reply e))
+answer-faultless (LockAnswer.Removed u) reply e = ap is_fault (sym (same_Some replies.Fine reply e))
 
 map-faultless : (r : Result (ℕ × Bool) MapRefusal) → is_fault (map_reply r) ≡ false
 map-faultless (Ok (address, fresh)) = refl
@@ -130,7 +131,7 @@ module _ (d : DeskState) (p : ℕ) (is : IsDesk d) (proc : IsProc p) where
 
   -- it goes on after a wait
   same-accessed : (a b : Accessed) → Some a ≡ Some b → Always p IsFaultless a → Always p IsFaultless b
-  same-accessed a b e = subst (Always p IsFaultless) (some-is a b e)
+  same-accessed a b e = subst (Always p IsFaultless) (same_Some a b e)
 
   pub gone_on-faultless : (op : Op) → IsOp op → IsIdle d p → (accessed : Accessed) → gone_on d p op ≡ Some accessed → Always p IsFaultless accessed
   gone_on-faultless (ops.Load spot count) range idle accessed e = same-accessed _ accessed e (cause-faultless (Cause.Accesses (DeskOp.Loads spot count)) tt (idle, range))
@@ -146,7 +147,7 @@ module _ (d : DeskState) (p : ℕ) (is : IsDesk d) (proc : IsProc p) where
 
   -- an answer comes
   by-said : (said : Said) (x : Said) → Some x ≡ Some said → Always p IsFaultless (answered d p x) → Always p IsFaultless (answered d p said)
-  by-said said x e = subst (λ (y : Said). Always p IsFaultless (answered d p y)) (some-is x said e)
+  by-said said x e = subst (λ (y : Said). Always p IsFaultless (answered d p y)) (same_Some x said e)
 
   new-answered : (x : Answer) (said : Said) → said_to_new x ≡ Some said → Always p IsFaultless (answered d p said)
   new-answered (Answer.Made u) said says = by-said said (Said.Replies (replies.Made u)) says refl

@@ -4,8 +4,11 @@ use Rattle.std.specs.Prelude.{◌==◌, ◌⊎◌, ◌&&◌, filter, option_to_l
 use Rattle.std.specs.List.{AllByRecursion}
 use Rattle.std.proofs.lemmas.List.Elements.{All-from_recursion}
 use Rattle.std.proofs.lemmas.Bool.{cases_eq, eq-eqb}
+use Rattle.std.proofs.lemmas.Option.{same_Some}
 use Rattle.uid_names.proofs.ListLemmas.{by_cases}
 use Rattle.uid_names.specs.Names.{ProcName, same_proc}
+use Rattle.uid_names.proofs.Passed.{left-true, right-true, equal}
+use Rattle.uid_names.proofs.Orders.{same_proc_is}
 use Rattle.dom_history.specs.declared.event.What.{What}
 use Rattle.dom_history.specs.declared.event.What.TheVariants.{Begin, Go, Take, Notice, Ready, Mark}
 use Rattle.dom_history.specs.Events.{Happening}
@@ -24,8 +27,6 @@ use Rattle.node_runs.specs.NodesKeep.{IsNodeOf, IsTimely}
 use Rattle.node_runs.specs.Runs.{Noted, World, first_world, Choice, put, numbered, told_if, told_of, incoming_of, world_after}
 use Rattle.node_runs.specs.Deliveries.{noticed_by, noticed_in}
 use Rattle.node_runs.specs.CallsKeep.{EachOf}
-use Rattle.node_runs.proofs.Somes.{some-is}
-use Rattle.node_runs.proofs.Bools.{left-true, right-true, equal}
 use Rattle.node_runs.proofs.SettingUp.{given-procs, setup-gives}
 use Rattle.node_runs.proofs.Calls.{put-same, put-other}
 use Rattle.node_runs.proofs.CallSteps.{IsUnasking}
@@ -43,15 +44,9 @@ same-call : (c : CallName) → same_call c c ≡ true
 same-call c = ap (λ b. (b && (c.proc.number == c.proc.number)) && (c.number == c.number)) (eq-eqb c.proc.node c.proc.node refl)
     ∙ ap (λ b. b && (c.number == c.number)) (eq-eqb c.proc.number c.proc.number refl) ∙ eq-eqb c.number c.number refl
 
-proc-is : (p q : ProcName) → same_proc p q ≡ true → p ≡ q
-proc-is p q h =
-    let a = equal p.node q.node (left-true _ _ h) in
-    let b = equal p.number q.number (right-true (p.node == q.node) _ h) in
-    ap (λ k. let x : ProcName = record { node = k; number = p.number } in x) a ∙ ap (λ k. let x : ProcName = record { node = q.node; number = k } in x) b
-
 call-is : (c d : CallName) → same_call c d ≡ true → c ≡ d
 call-is c d h =
-    let a = proc-is c.proc d.proc (left-true _ _ h) in
+    let a = same_proc_is c.proc d.proc (left-true _ _ h) in
     let b = equal c.number d.number (right-true (same_proc c.proc d.proc) _ h) in
     ap (λ p. let x : CallName = record { proc = p; number = c.number } in x) a ∙ ap (λ k. let x : CallName = record { proc = d.proc; number = k } in x) b
 
@@ -86,7 +81,7 @@ abbrev call_in : Option OpenOp → Asked → Asked
 call_in None none = none
 call_in (Some o) none = awaited_call o.awaits none
 
-call-same : (o p : BegunOp) (c d : Asked) → asking o c ≡ asking p d → c ≡ d
+pub call-same : (o p : BegunOp) (c d : Asked) → asking o c ≡ asking p d → c ≡ d
 call-same o p c d e = ap (λ (x : Option OpenOp). call_in x c) e
 
 no-call : (x : Option OpenOp) (o : BegunOp) (c : Asked) → IsUnasking x → x ≡ asking o c → ⊥
@@ -223,7 +218,7 @@ told-number p None number tick e = absurd (cc)
 told-number p (Some m) number tick e = (m, refl, by_test (same_proc (caller_of m) p) e)
   where
     by_test : (b : Bool) → told_if b m ≡ Some (Incoming.Gone number tick) → m.number ≡ number
-    by_test true e = ap number_in (some-is (Incoming.Gone m.number m.tick) (Incoming.Gone number tick) e)
+    by_test true e = ap number_in (same_Some (Incoming.Gone m.number m.tick) (Incoming.Gone number tick) e)
     by_test false e = absurd (cc)
 
 -- the same of counts that are equal

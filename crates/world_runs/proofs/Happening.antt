@@ -1,10 +1,11 @@
 -- Each enabled event can be done, and what an event receives stays.
-use Rattle.std.proofs.Common.{◌≡◌, ℕ, zero, suc, ◌<◌, ◌≤◌, ◌%◌, true, List, [], ◌∷◌, length, map, Option, Some, None, refl, sym, ap, subst, ◌∙◌, arith}
-use Rattle.std.specs.Prelude.{◌^◌, slice_get}
+use Rattle.std.proofs.Common.{◌≡◌, ℕ, ◌<◌, ◌≤◌, ◌%◌, true, List, [], ◌∷◌, length, map, Option, Some, None, refl, sym, ap, subst, ◌∙◌, arith}
+use Rattle.std.specs.Prelude.{◌^◌}
 use Rattle.dom_history.specs.declared.event.What.{What}
 use Rattle.dom_history.specs.declared.plan.FateRow.{FateRow}
 use Rattle.dom_history.specs.Objects.{is_node}
 use Rattle.uid_names.specs.Steps.{◌>>=◌}
+use Rattle.uid_names.proofs.ListLemmas.{get-within}
 use Rattle.node_runs.specs.Setups.{Setup, IsSetup, given}
 use Rattle.node_runs.specs.NodeStates.{NodeState}
 use Rattle.node_runs.specs.Incomings.{Incoming}
@@ -51,11 +52,6 @@ module _ (s : Setup) (setup : IsSetup s) (w : World) (merged : Merged s w) (time
 
   pub listed-happens : (plan : List FateRow) (a : Act) → IsListed s plan w a → (v : World) × (does s w a ≡ Some v)
   listed-happens plan a is = by-incoming a (incoming_of w a.node a.what) is.node refl is.may
-
-get-within : {A : Type 0} (xs : List A) (k : ℕ) → k < length xs → (x : A) × (slice_get xs k ≡ Some x)
-get-within [] k within = absurd (omega (arith, within))
-get-within (x ∷ xs) zero within = (x, refl)
-get-within (x ∷ xs) (suc k) within = get-within xs k (omega (arith, within))
 
 some-turn : (s : Setup) (plan : List FateRow) (w v : World) (choice : ℕ) (acts : List Act) (a : Act) → enabled_events s plan w ≡ acts → chosen acts choice ≡ Some a → does s w a ≡ Some v → turn s plan w choice ≡ Some v
 some-turn s plan w v choice acts a is found done = ap (λ (xs : List Act). chosen xs choice >>= does s w) is ∙ ap (λ (o : Option Act). o >>= does s w) found ∙ done

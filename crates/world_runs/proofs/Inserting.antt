@@ -4,6 +4,7 @@ use Rattle.std.specs.Prelude.{◌==◌, ◌&&◌, max, map}
 use Rattle.std.proofs.lemmas.Bool.Decides.{nat_tests}
 use Rattle.uid_names.proofs.ListLemmas.{by_cases}
 use Rattle.uid_names.specs.declared.ids.Place.{Place}
+use Rattle.uid_names.proofs.Passed.{left-true, right-true, equal}
 use Rattle.dom_history.specs.declared.event.What.{What}
 use Rattle.dom_history.specs.declared.event.What.TheVariants.{Begin, Go, Take, Notice, Ready, Mark}
 use Rattle.dom_history.specs.declared.event.Sent.{Sent}
@@ -17,7 +18,6 @@ use Rattle.node_runs.specs.Incomings.{Incoming, tick_of}
 use Rattle.node_runs.specs.Outcomes.{Stepped}
 use Rattle.node_runs.specs.Steps.{step_of}
 use Rattle.node_runs.specs.Runs.{World, SentMark, Choice, choice_of, put, numbered, incoming_of, mark_of, is_above, world_with, world_if, after_step, receiving, next_if, next, then_next, world_of}
-use Rattle.node_runs.proofs.Bools.{left-true, right-true, equal}
 use Rattle.node_runs.proofs.Calls.{put-same, put-other}
 use Rattle.node_runs.proofs.Ticks.{step_of-tick}
 use Rattle.node_runs.proofs.Worlds.{place_at, IsNext, next-is}
@@ -51,7 +51,7 @@ above-both p e (x ∷ older) above later = of-two (place_lt x.place e.place) (pu
     of-two true rest = later
     of-two false rest = above
 
-sent-tick : (t : ℕ) (f : Option Message) (x : Option Sent) → IsSent t f x → IfSome f (λ m. m.tick ≡ t)
+pub sent-tick : (t : ℕ) (f : Option Message) (x : Option Sent) → IsSent t f x → IfSome f (λ m. m.tick ≡ t)
 sent-tick t None x is = tt
 sent-tick t (Some m) None is = absurd is
 sent-tick t (Some m) (Some x) is = is.0

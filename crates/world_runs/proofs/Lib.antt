@@ -25,6 +25,7 @@ pub mod Counting
 pub mod LostFrames
 pub mod Ending
 pub mod Sorting
+pub mod TurnedLists
 pub mod Alone
 pub mod Picking
 pub mod AskedNodes

@@ -69,15 +69,20 @@ next-copies : (fate : ℕ → Fate) (j n : ℕ) → copies fate j (n + 1) ≡ co
 next-copies fate j n = subst (λ m. copies fate j m ≡ copies fate j n ++ copy_if (falls_behind m j (fate m)) m) (sym (add-one n)) refl
 
 module _ (fate : ℕ → Fate) (ss : List Sending) (taken : ℕ) where
+  -- what falls behind the next frame and later ones, with its own copy
+  next-later : (link : Link) → IsLinkOf fate ss taken link → (k : ℕ) → frames_in ss + 1 ≡ k → (j : ℕ) → frames_in ss < j → copies fate j (frames_in ss + 1) ≡ falling j (link.later ++ later_of k (fate k))
+  next-later link is k same j above =
+      next-copies fate j (frames_in ss)
+      ∙ ap (λ (ks : List ℕ). ks ++ copy_if (falls_behind (frames_in ss + 1) j (fate (frames_in ss + 1))) (frames_in ss + 1)) (is.later j above)
+      ∙ ap (λ (i : ℕ). falling j link.later ++ copy_if (falls_behind i j (fate i)) i) same
+      ∙ ap (λ (ks : List ℕ). falling j link.later ++ ks) (sym (falling-own k j (fate k)))
+      ∙ sym (falling-append j link.later (later_of k (fate k)))
+
   -- a frame is sent
-  frame-later : (link : Link) → IsLinkOf fate ss taken link → (k : ℕ) → frames_in ss + 1 ≡ k → (j : ℕ) → k < j → copies fate j (frames_in ss + 1) ≡ falling j (staying k link.later ++ later_of k (fate k))
+  frame-later : (link : Link) → IsLinkOf fate ss taken link → (k : ℕ) → frames_in ss + 1 ≡ k → (j : ℕ) → k < j → copies fate j (frames_in ss + 1) ≡ falling j (staying k (link.later ++ later_of k (fate k)))
   frame-later link is k same j above =
       let differs : (k == j) ≡ false = ne_eqb k j (λ e. absurd (omega (arith, e, above))) in
-      next-copies fate j (frames_in ss)
-      ∙ ap (λ (ks : List ℕ). ks ++ copy_if (falls_behind (frames_in ss + 1) j (fate (frames_in ss + 1))) (frames_in ss + 1)) (is.later j (omega (arith, same, above)) ∙ sym (falling-staying k j link.later differs))
-      ∙ ap (λ (i : ℕ). falling j (staying k link.later) ++ copy_if (falls_behind i j (fate i)) i) same
-      ∙ ap (λ (ks : List ℕ). falling j (staying k link.later) ++ ks) (sym (falling-own k j (fate k)))
-      ∙ sym (falling-append j (staying k link.later) (later_of k (fate k)))
+      next-later link is k same j (omega (arith, same, above)) ∙ sym (falling-staying k j (link.later ++ later_of k (fate k)) differs)
 
   put-behind : (link : Link) (more : List Entry) → IsLinkOf fate ss taken link → link.queue ++ more ≡ drop taken (entries fate ss ++ more)
   put-behind link more is = ap (λ (es : List Entry). es ++ more) is.queue ∙ sym (drop-append-le taken (entries fate ss) more is.enough)
@@ -85,21 +90,21 @@ module _ (fate : ℕ → Fate) (ss : List Sending) (taken : ℕ) where
   still-enough : (link : Link) (more : List Entry) → IsLinkOf fate ss taken link → taken ≤ length (entries fate ss ++ more)
   still-enough link more is = let e = length-append (entries fate ss) more in let f = is.enough in omega (arith, e, f)
 
-  frame-sent : (link : Link) → IsLinkOf fate ss taken link → IsLinkOf fate (Sending.Frame ∷ ss) taken (frame_sent (fate (link.frames + 1)) link)
+  pub frame-sent : (link : Link) → IsLinkOf fate ss taken link → IsLinkOf fate (Sending.Frame ∷ ss) taken (frame_sent (fate (link.frames + 1)) link)
   frame-sent link is =
       let same : frames_in ss + 1 ≡ link.frames + 1 = ap (λ k. k + 1) (sym is.frames) in
       let n = frames_in ss in
       record {
         frames = sym same;
         queue =
-            ap (λ k. link.queue ++ map Entry.Copy (in_place k (fate k) ++ falling k link.later)) (sym same)
-            ∙ ap (λ (ks : List ℕ). link.queue ++ map Entry.Copy (in_place (n + 1) (fate (n + 1)) ++ ks)) (sym (is.later (n + 1) (omega arith)))
+            ap (λ k. link.queue ++ map Entry.Copy (in_place k (fate k) ++ falling k (link.later ++ later_of k (fate k)))) (sym same)
+            ∙ ap (λ (ks : List ℕ). link.queue ++ map Entry.Copy (in_place (n + 1) (fate (n + 1)) ++ ks)) (sym (next-later link is (n + 1) refl (n + 1) (omega arith)))
             ∙ put-behind link (map Entry.Copy (due fate n)) is;
         enough = still-enough link (map Entry.Copy (due fate n)) is;
         later = λ j above. frame-later link is (link.frames + 1) same j (omega (arith, same, above));
       }
 
-  mark-sent : (link : Link) (phase : ℕ) → IsLinkOf fate ss taken link → IsLinkOf fate (Sending.Mark phase ∷ ss) taken (mark_sent phase link)
+  pub mark-sent : (link : Link) (phase : ℕ) → IsLinkOf fate ss taken link → IsLinkOf fate (Sending.Mark phase ∷ ss) taken (mark_sent phase link)
   mark-sent link phase is = record {
     frames = is.frames;
     queue = put-behind link (Entry.Mark phase ∷ []) is;
@@ -116,7 +121,7 @@ module _ (fate : ℕ → Fate) (ss : List Sending) (taken : ℕ) where
     later = is.later;
   }
 
-sent-all : (fate : ℕ → Fate) (xs ss : List Sending) (taken : ℕ) (link : Link) → IsLinkOf fate ss taken link → IsLinkOf fate (xs ++ ss) taken (link_after fate xs link)
+pub sent-all : (fate : ℕ → Fate) (xs ss : List Sending) (taken : ℕ) (link : Link) → IsLinkOf fate ss taken link → IsLinkOf fate (xs ++ ss) taken (link_after fate xs link)
 sent-all fate [] ss taken link is = is
 sent-all fate (Sending.Frame ∷ xs) ss taken link is = frame-sent fate (xs ++ ss) taken (link_after fate xs link) (sent-all fate xs ss taken link is)
 sent-all fate (Sending.Mark phase ∷ xs) ss taken link is = mark-sent fate (xs ++ ss) taken (link_after fate xs link) phase (sent-all fate xs ss taken link is)

@@ -6,6 +6,7 @@ use Rattle.std.specs.Option.{option_map}
 use Rattle.std.proofs.lemmas.Bool.{cases_eq, cases_lt, ne_eqb}
 use Rattle.std.proofs.lemmas.Bool.Decides.{nat_tests}
 use Rattle.std.proofs.lemmas.List.Elements.{recursion_from_All}
+use Rattle.std.proofs.lemmas.Option.{same_Some}
 use Rattle.uid_names.proofs.ListLemmas.{by_cases}
 use Rattle.dom_history.specs.declared.event.What.{What}
 use Rattle.dom_history.specs.declared.event.What.TheVariants.{Begin, Go, Take, Notice, Ready, Mark}
@@ -19,7 +20,6 @@ use Rattle.node_runs.specs.NodesKeep.{IsTimely}
 use Rattle.node_runs.specs.Runs.{World, Choice, choice_of, numbered, world_after, world_of, IsRun}
 use Rattle.node_runs.specs.Deliveries.{is_gone, noticed_by, noticed_in, IsPlanned}
 use Rattle.node_runs.specs.CallsKeep.{EachOf}
-use Rattle.node_runs.proofs.Somes.{some-is}
 use Rattle.node_runs.proofs.Worlds.{IsNext, place_at, every-run}
 use Rattle.world_runs.specs.Sendings.{frame_to, frames_in, frames_on}
 use Rattle.world_runs.specs.Gone.{FrameName, frame_if, gone_by, gone_in}
@@ -164,7 +164,7 @@ different (x ∷ xs) pairs = (
 
 -- the events of a run
 pub done-is : (s : Setup) (es : List Happening) (w : World) → IsRun s es → world_of s es ≡ Some w → w.done ≡ es
-done-is s es w run is = some-is w.done es (sym (ap (λ (o : Option World). option_map (λ (x : World). x.done) o) is) ∙ run)
+done-is s es w run is = same_Some w.done es (sym (ap (λ (o : Option World). option_map (λ (x : World). x.done) o) is) ∙ run)
 
 pub few-faults : (s : Setup) → IsSetup s → (plan : List FateRow) (es : List Happening) (w : World) → IsPlanned s plan es → world_of s es ≡ Some w → IsTimely w → 8 * length (faults_in w.trace) ≤ length (gone_in plan es)
 few-faults s setup plan es w planned is timely =

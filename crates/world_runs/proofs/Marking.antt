@@ -1,9 +1,10 @@
 -- A node sends the mark of a phase once.
 use Rattle.std.proofs.Common.{◌≡◌, ℕ, ◌<◌, Bool, true, false, cond, List, ◌∷◌, Some, inl, inr, refl, sym, subst, arith}
 use Rattle.std.specs.Prelude.{◌⊎◌, ◌==◌, ◌&&◌, find}
-use Rattle.std.proofs.lemmas.Bool.{cases_eq}
+use Rattle.std.proofs.lemmas.Bool.{cases_eq, not-true}
 use Rattle.uid_names.proofs.ListLemmas.{by_cases}
 use Rattle.uid_names.specs.Names.{ObjectName}
+use Rattle.uid_names.proofs.Passed.{left-true, right-true, equal}
 use Rattle.dom_history.specs.declared.event.What.{What}
 use Rattle.dom_history.specs.declared.event.What.TheVariants.{Begin, Go, Take, Notice, Ready, Mark}
 use Rattle.fault_handler.specs.Outcomes.{Turn, Moved}
@@ -15,7 +16,6 @@ use Rattle.node_runs.specs.Doings.{begun_at, stage_of, ticked, in_next_phase}
 use Rattle.node_runs.specs.Dones.{Did, paused, finished, began, resumed, served, passed_over, heard, ignored, resent, gave_up, got_ready, marked}
 use Rattle.node_runs.specs.Steps.{step_of}
 use Rattle.node_runs.specs.Runs.{World, SentMark, Choice, put, mark_of, marks_after, world_after}
-use Rattle.node_runs.proofs.Bools.{left-true, right-true, not-true, equal}
 use Rattle.node_runs.proofs.Doing.{step_of-did}
 use Rattle.node_runs.proofs.Calls.{put-same, put-other}
 use Rattle.node_runs.proofs.Worlds.{IsNext, every-run}
@@ -41,7 +41,7 @@ ready-sent : (n : NodeState) (phase : ℕ) → HasSent n phase → HasSent (reco
 ready-sent n phase (inl below) = inl below
 ready-sent n phase (inr (same, ready)) = inr (same, refl)
 
-did-marks : (g : Given) (n : NodeState) (what : What) (incoming : Incoming) (s : Stepped) → Did g n what incoming s → (phase : ℕ) → HasSent n phase → HasSent s.node phase
+pub did-marks : (g : Given) (n : NodeState) (what : What) (incoming : Incoming) (s : Stepped) → Did g n what incoming s → (phase : ℕ) → HasSent n phase → HasSent s.node phase
 did-marks g n what incoming s (paused p has none is) phase sent = sent
 did-marks g n what incoming s (finished p has none is) phase sent = sent
 did-marks g n what incoming s (began p op to has none is may) phase sent = moved-marks g n p (begun_at g n op) Stage.Starts to phase sent

@@ -1,6 +1,7 @@
 -- The events of turns are a run by place, which leads to the same.
 use Rattle.std.proofs.Common.{◌≡◌, ℕ, cond, List, ◌∷◌, map, Some, refl, sym, ap, subst, ◌∙◌}
 use Rattle.std.specs.Prelude.{◌==◌, ◌≤◌, ◌^◌}
+use Rattle.std.proofs.lemmas.Option.{same_Some}
 use Rattle.dom_history.specs.declared.plan.FateRow.{FateRow}
 use Rattle.dom_history.specs.Events.{Happening}
 use Rattle.node_runs.specs.Setups.{Setup, IsSetup, given}
@@ -11,7 +12,6 @@ use Rattle.node_runs.specs.Steps.{step_of, named_step}
 use Rattle.node_runs.specs.SentFrames.{IsFrame, IsIncoming}
 use Rattle.node_runs.specs.NodesKeep.{IsTimely}
 use Rattle.node_runs.specs.Runs.{World, first_world, choice_of, incoming_of, world_with, world_of}
-use Rattle.node_runs.proofs.Somes.{some-is}
 use Rattle.node_runs.proofs.SettingUp.{setup-gives}
 use Rattle.node_runs.proofs.Happening.{enabled-happens}
 use Rattle.node_runs.proofs.Receiving.{incoming-is}
@@ -60,7 +60,7 @@ module _ (s : Setup) (setup : IsSetup s) (plan : List FateRow) where
           let g = given s n in
           let found = enabled-happens g (merged.world.nodes n) is.act.what is.incoming (setup-gives s setup n is.node) (kept.nodes n is.node) frame-is
           (ap (λ (x : NodeState). enabled g x is.act.what is.incoming) (sym (merged.like.nodes n)) ∙ is.may) in
-          let same : found.0 ≡ is.step = some-is found.0 is.step (sym found.1 ∙ ap (λ (x : NodeState). named_step g x is.act.what is.incoming) (sym (merged.like.nodes n)) ∙ is.steps) in
+          let same : found.0 ≡ is.step = same_Some found.0 is.step (sym found.1 ∙ ap (λ (x : NodeState). named_step g x is.act.what is.incoming) (sym (merged.like.nodes n)) ∙ is.steps) in
           subst (λ (x : Stepped). step_of g (merged.world.nodes n) is.act.what is.incoming x.effects.dropped ≡ Some x) same found.2
 
       inserted : Inserts s (by_place old.done) merged.world n is.act.what is.step

@@ -6,6 +6,7 @@ use Rattle.std.proofs.lemmas.Bool.Decides.{nat_tests}
 use Rattle.std.proofs.lemmas.List.Elements.{All-from_recursion}
 use Rattle.uid_names.proofs.ListLemmas.{by_cases}
 use Rattle.uid_names.specs.Names.{ProcName}
+use Rattle.uid_names.proofs.Passed.{left-true, equal}
 use Rattle.dom_history.specs.declared.event.What.{What}
 use Rattle.dom_history.specs.declared.event.What.TheVariants.{Begin, Go, Take, Notice, Ready, Mark}
 use Rattle.dom_history.specs.declared.event.Sent.{Sent}
@@ -21,7 +22,6 @@ use Rattle.node_runs.specs.SentFrames.{IsIncoming}
 use Rattle.node_runs.specs.NodesKeep.{IsTimely}
 use Rattle.node_runs.specs.CallsKeep.{EachOf}
 use Rattle.node_runs.specs.Runs.{World, SentMark, Choice, choice_of, numbered, taken, told_of, marked, mark_of, incoming_of, frames_after, world_after, world_of, IsRun}
-use Rattle.node_runs.proofs.Bools.{left-true, equal}
 use Rattle.node_runs.proofs.Calls.{frames-one}
 use Rattle.node_runs.proofs.Nodes.{Keeps}
 use Rattle.node_runs.proofs.Reaching.{step_of-keeps}

@@ -7,6 +7,7 @@ use Rattle.std.proofs.lemmas.List.Elements.{filter-append}
 use Rattle.std.proofs.lemmas.Grind.{flat_map-append}
 use Rattle.std.proofs.lemmas.List.Folds.{list_any-append}
 use Rattle.uid_names.specs.Names.{ProcName, same_proc}
+use Rattle.uid_names.proofs.Passed.{left-true, equal}
 use Rattle.dom_history.specs.declared.event.What.{What}
 use Rattle.dom_history.specs.declared.event.What.TheVariants.{Begin, Go, Take, Notice, Ready, Mark}
 use Rattle.dom_history.specs.declared.event.Sent.{Sent}
@@ -21,7 +22,6 @@ use Rattle.node_runs.specs.NodeStates.{proc_of}
 use Rattle.node_runs.specs.NodesKeep.{IsTimely}
 use Rattle.node_runs.specs.Deliveries.{is_gone, noticed_by, noticed_in}
 use Rattle.node_runs.specs.Runs.{World, numbered, told_if, told_of, incoming_of}
-use Rattle.node_runs.proofs.Bools.{left-true, equal}
 use Rattle.node_runs.proofs.Receiving.{numbered-each}
 use Rattle.world_runs.specs.Sendings.{frame_to, sent_by, sendings, frames_in, frames_on}
 use Rattle.world_runs.specs.Gone.{FrameName, same_frame, gone_by, gone_in, was_told, notice_if, notice_of}
@@ -71,11 +71,11 @@ gone-within plan (e ∷ older) f is = elim (among-append f (gone_in plan older) 
 ]
 
 -- nobody was told yet of the frame that is sent next
-apart-test : (es : List Happening) (f h : FrameName) (b : Bool) → IsWithin es h → f.2 ≡ frames_on f.0 f.1 es + 1 → same_frame f h ≡ b → b ≡ false
+pub apart-test : (es : List Happening) (f h : FrameName) (b : Bool) → IsWithin es h → f.2 ≡ frames_on f.0 f.1 es + 1 → same_frame f h ≡ b → b ≡ false
 apart-test es f h true within next is = absurd (let e = frame-is f h is in let w : f.2 ≤ frames_on f.0 f.1 es = subst (IsWithin es) (sym e) within in omega (arith, w, next))
 apart-test es f h false within next is = refl
 
-not-among : (es : List Happening) (f : FrameName) (hs : List FrameName) → AllByRecursion (IsWithin es) hs → f.2 ≡ frames_on f.0 f.1 es + 1 → list_any (same_frame f) hs ≡ false
+pub not-among : (es : List Happening) (f : FrameName) (hs : List FrameName) → AllByRecursion (IsWithin es) hs → f.2 ≡ frames_on f.0 f.1 es + 1 → list_any (same_frame f) hs ≡ false
 not-among es f [] all next = refl
 not-among es f (h ∷ hs) all next =
     ap (λ b. b || list_any (same_frame f) hs) (apart-test es f h (same_frame f h) all.0 next refl) ∙ not-among es f hs all.1 next

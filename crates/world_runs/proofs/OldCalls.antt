@@ -1,14 +1,14 @@
 -- No frame is of a call above the last one of its process, so a call that is open no more is never open again.
-use Rattle.std.proofs.Common.{◌≡◌, ℕ, ◌≤◌, Bool, true, false, cond, List, Option, Some, None, IfSome, inl, inr, refl, sym, ap, subst, ◌∙◌, arith}
+use Rattle.std.proofs.Common.{◌≡◌, ℕ, ◌≤◌, Bool, true, cond, List, Option, Some, None, IfSome, inl, inr, refl, sym, ap, subst, ◌∙◌, arith}
 use Rattle.std.specs.Prelude.{◌==◌, not, ◌&&◌}
 use Rattle.std.proofs.lemmas.Bool.{cases_eq}
+use Rattle.uid_names.proofs.Passed.{left-true, right-true, equal}
 use Rattle.dom_history.specs.declared.event.What.{What}
 use Rattle.dom_history.specs.declared.event.What.TheVariants.{Notice}
 use Rattle.dom_history.specs.declared.plan.FateRow.{FateRow}
-use Rattle.ring_messages.specs.declared.body.Body.{Body}
-use Rattle.ring_messages.specs.declared.body.Body.TheVariants as bodies
-use Rattle.ring_messages.specs.Bodies.{Ask, Answer, ask_of, body_of_ask, body_of_answer, is_request}
+use Rattle.ring_messages.specs.Bodies.{Ask, Answer, ask_of, body_of_ask}
 use Rattle.ring_messages.specs.Frames.{Message, caller_of}
+use Rattle.ring_messages.proofs.Asking.{asks-request, answers-no-request, asked-seen, request-is}
 use Rattle.fault_handler.specs.Invariant.{IsProc}
 use Rattle.fault_handler.specs.Outcomes.{Turn, Moved}
 use Rattle.page_server.specs.Serving.{reply_to}
@@ -22,7 +22,6 @@ use Rattle.node_runs.specs.Agreements.{Agrees}
 use Rattle.node_runs.specs.NodesKeep.{IsNodeOf, IsTimely}
 use Rattle.node_runs.specs.Runs.{World, first_world, put, frames_after}
 use Rattle.node_runs.specs.CallsKeep.{EachOf}
-use Rattle.node_runs.proofs.Bools.{left-true, right-true, equal}
 use Rattle.node_runs.proofs.SettingUp.{given-procs, setup-gives}
 use Rattle.node_runs.proofs.Receiving.{EachOf-more, incoming-is}
 use Rattle.node_runs.proofs.Calls.{put-same, put-other, frames-one}
@@ -30,50 +29,6 @@ use Rattle.node_runs.proofs.CallSteps.{IsReply, IsNoCall, IsUnasking, CallStep, 
 use Rattle.world_runs.specs.Turns.{after_turns}
 use Rattle.world_runs.proofs.TimelyTurns.{IsTimelyTurn, every-timely}
 use Rattle.world_runs.proofs.Numbering.{AreNumbered, first-numbered, later-numbered, did, kept-node, node-is}
-
-request-is : (b : Body) (ask : Ask) → ask_of b ≡ Some ask → is_request b ≡ true
-request-is (bodies.PageIn u k) ask e = refl
-request-is (bodies.PageOut u k grant base bytes) ask e = refl
-request-is (bodies.AttrOut u n grant base) ask e = refl
-request-is (bodies.Lock u m) ask e = refl
-request-is (bodies.Unlock u) ask e = refl
-request-is (bodies.Remove u) ask e = refl
-request-is (bodies.Make kind room) ask e = refl
-request-is (bodies.List after) ask e = refl
-request-is (bodies.Page stamp bytes) ask e = absurd (cc)
-request-is (bodies.Stored stamp) ask e = absurd (cc)
-request-is (bodies.Stale stamp) ask e = absurd (cc)
-request-is bodies.NoGrant ask e = absurd (cc)
-request-is bodies.NoObject ask e = absurd (cc)
-request-is (bodies.Granted grant stamp kind room n) ask e = absurd (cc)
-request-is (bodies.Conflict p m) ask e = absurd (cc)
-request-is bodies.Done ask e = absurd (cc)
-request-is (bodies.Made u) ask e = absurd (cc)
-request-is bodies.NoSpace ask e = absurd (cc)
-request-is (bodies.Listed rows more) ask e = absurd (cc)
-
-asks-request : (ask : Ask) → is_request (body_of_ask ask) ≡ true
-asks-request (Ask.PageIn u k) = refl
-asks-request (Ask.PageOut u k grant base bytes) = refl
-asks-request (Ask.AttrOut u n grant base) = refl
-asks-request (Ask.Lock u m) = refl
-asks-request (Ask.Unlock u) = refl
-asks-request (Ask.Remove u) = refl
-asks-request (Ask.Make kind room) = refl
-asks-request (Ask.ListLocks after) = refl
-
-answers-none : (a : Answer) → is_request (body_of_answer a) ≡ false
-answers-none (Answer.Page stamp bytes) = refl
-answers-none (Answer.Stored stamp) = refl
-answers-none (Answer.Stale stamp) = refl
-answers-none Answer.NoGrant = refl
-answers-none Answer.NoObject = refl
-answers-none (Answer.Granted grant stamp kind room n) = refl
-answers-none (Answer.Conflict p m) = refl
-answers-none Answer.Done = refl
-answers-none (Answer.Made u) = refl
-answers-none Answer.NoSpace = refl
-answers-none (Answer.Listed rows more) = refl
 
 -- a frame is of a call that its process made
 abbrev pub IsOfPast : (ℕ → NodeState) → Message → Type 0
@@ -83,18 +38,8 @@ abbrev pub IsFramePast : (ℕ → NodeState) → Incoming → Type 0
 IsFramePast nodes (Incoming.Frame m) = IsProc m.proc × IsOfPast nodes m
 IsFramePast nodes incoming = Unit {0}
 
-asks-own : (ask : Ask) → ask_of (body_of_ask ask) ≡ Some ask
-asks-own (Ask.PageIn u k) = refl
-asks-own (Ask.PageOut u k grant base bytes) = refl
-asks-own (Ask.AttrOut u n grant base) = refl
-asks-own (Ask.Lock u m) = refl
-asks-own (Ask.Unlock u) = refl
-asks-own (Ask.Remove u) = refl
-asks-own (Ask.Make kind room) = refl
-asks-own (Ask.ListLocks after) = refl
-
 no-reply : (ask : Ask) → ask_of (body_of_ask ask) ≡ None → ⊥
-no-reply ask none = let own = asks-own ask in absurd (let e = sym none ∙ own in cc)
+no-reply ask none = let own = asked-seen ask in absurd (let e = sym none ∙ own in cc)
 
 -- a reply that an event sends is of the call of the request that it serves
 module _ (nodes : ℕ → NodeState) (g : Given) (n : NodeState) where
@@ -111,7 +56,7 @@ request-caller : (m : Message) (ask : Ask) → ask_of m.body ≡ Some ask → (c
 request-caller m ask asks = ap (λ (b : Bool). cond b m.from m.to) (request-is m.body ask asks)
 
 reply-caller : (m : Message) (tick : ℕ) (answer : Answer) → (caller_of (reply_to m tick answer)).node ≡ m.from
-reply-caller m tick answer = ap (λ (b : Bool). cond b m.to m.from) (answers-none answer)
+reply-caller m tick answer = ap (λ (b : Bool). cond b m.to m.from) (answers-no-request answer)
 
 did-replies : (nodes : ℕ → NodeState) (g : Given) (n : NodeState) (what : What) (incoming : Incoming) (s : Stepped) → IsFramePast nodes incoming → Did g n what incoming s → IsReply g s.frame → IfSome s.frame (IsOfPast nodes)
 did-replies nodes g n what incoming s past (paused p has none is) reply = tt

@@ -2,6 +2,7 @@
 use Rattle.std.proofs.Common.{◌≡◌, ℕ, ◌+◌, ◌<◌, ◌≤◌, Bool, true, false, cond, List, [], ◌∷◌, length, Option, Some, None, IfSome, refl, sym, ap, subst, ◌∙◌, arith}
 use Rattle.std.specs.Prelude.{◌==◌, ◌&&◌}
 use Rattle.std.proofs.lemmas.Bool.Decides.{nat_tests}
+use Rattle.std.proofs.lemmas.Option.{same_Some}
 use Rattle.uid_names.proofs.ListLemmas.{by_cases}
 use Rattle.uid_names.specs.Names.{ProcName, same_proc}
 use Rattle.dom_history.specs.declared.event.What.{What}
@@ -9,7 +10,6 @@ use Rattle.dom_history.specs.declared.event.What.TheVariants.{Begin, Go, Take, N
 use Rattle.ring_messages.specs.Frames.{Message, caller_of}
 use Rattle.node_runs.specs.Incomings.{Incoming, tick_of}
 use Rattle.node_runs.specs.Runs.{World, SentMark, numbered, taken, told_if, told_of, marked, mark_of, incoming_of}
-use Rattle.node_runs.proofs.Somes.{some-is}
 use Rattle.world_runs.specs.ByPlace.{IsLike}
 use Rattle.world_runs.proofs.Alike.{added, marked_by}
 
@@ -19,7 +19,7 @@ IsFound {A} Fine tick there here = (x : A) → there ≡ Some x → Fine (tick x
 
 module _ (Fine : ℕ → Type 0) where
   fine-tick : (i incoming : Incoming) → Some i ≡ Some incoming → Fine (tick_of incoming) → Fine (tick_of i)
-  fine-tick i incoming e fine = subst (λ (x : Incoming). Fine (tick_of x)) (sym (some-is i incoming e)) fine
+  fine-tick i incoming e fine = subst (λ (x : Incoming). Fine (tick_of x)) (sym (same_Some i incoming e)) fine
 
   taken-as : (there here : Option Message) → IsFound Fine (λ m. m.tick) there here → (i : Incoming) → taken there ≡ Some i → Fine (tick_of i) → taken here ≡ Some i
   taken-as None here same i e fine = absurd (cc)
@@ -76,7 +76,7 @@ numbered-older k y xs within =
 module _ (t k : ℕ) (m : Message) (early : m.tick < t) where
   newest-back : (x : Message) (xs : List Message) (b : Bool) → x.tick ≡ t → (k == length xs + 1) ≡ b → numbered k (x ∷ xs) ≡ Some m → numbered k xs ≡ Some m
   newest-back x xs true late is found =
-      let same : x ≡ m = some-is x m (sym (ap (λ b. cond b (Some x) (numbered k xs)) is) ∙ found) in
+      let same : x ≡ m = same_Some x m (sym (ap (λ b. cond b (Some x) (numbered k xs)) is) ∙ found) in
       let tick : x.tick ≡ m.tick = ap (λ (y : Message). y.tick) same in absurd (omega arith)
   newest-back x xs false late is found = sym (ap (λ b. cond b (Some x) (numbered k xs)) is) ∙ found
 
@@ -102,7 +102,7 @@ frame-forth k n m (Some x) from to xs found = beside-forth (from == n) (to == x.
 -- the same of a mark
 module _ (n t from phase : ℕ) (m : SentMark) where
   if-back : (b : Bool) (k : ℕ) (o : Option SentMark) → m.tick < t → cond b (Some (record { node = n; phase = k; tick = t })) o ≡ Some m → o ≡ Some m
-  if-back true k o early found = absurd (let e : t ≡ m.tick = ap (λ (x : SentMark). x.tick) (some-is (record { node = n; phase = k; tick = t }) m found) in omega (arith, e))
+  if-back true k o early found = absurd (let e : t ≡ m.tick = ap (λ (x : SentMark). x.tick) (same_Some (record { node = n; phase = k; tick = t }) m found) in omega (arith, e))
   if-back false k o early found = found
 
   pub mark-back : (what : What) (o : Option SentMark) → m.tick < t → marked_by n t what from phase o ≡ Some m → o ≡ Some m

@@ -6,12 +6,10 @@ use Rattle.std.proofs.lemmas.Bool.Decides.{nat_tests}
 use Rattle.uid_names.specs.declared.ids.Place.{Place}
 use Rattle.dom_history.specs.Events.{Happening}
 use Rattle.dom_history.specs.Histories.{place_lt}
+use Rattle.dom_history.proofs.Places.{place_lt-trans}
 use Rattle.node_runs.specs.Runs.{is_above, AreRising}
 use Rattle.world_runs.specs.ByPlace.{events_of}
 use Rattle.world_runs.proofs.Among.{Among, among-filter, cons-tails}
-
-place-trans : (a b c : Place) → place_lt a b ≡ true → place_lt b c ≡ true → place_lt a c ≡ true
-place-trans a b c h i = grind (arith, nat_tests, h, i)
 
 place-not : (a b : Place) → place_lt a b ≡ true → place_lt b a ≡ true → ⊥
 place-not a b h i = grind (arith, nat_tests, h, i)
@@ -20,12 +18,12 @@ place-not a b h i = grind (arith, nat_tests, h, i)
 below : (p : Place) (es : List Happening) → is_above p es ≡ true → AreRising es → (e : Happening) → Among e es → place_lt e.place p ≡ true
 below p [] above rising e is = absurd is
 below p (x ∷ older) above rising e (inl same) = ap (λ (y : Happening). place_lt y.place p) same ∙ above
-below p (x ∷ older) above rising e (inr is) = place-trans e.place x.place p (below x.place older rising.0 rising.1 e is) above
+below p (x ∷ older) above rising e (inr is) = place_lt-trans e.place x.place p (below x.place older rising.0 rising.1 e is) above
 
-own-first : (n : ℕ) (e : Happening) (es : List Happening) → e.place.node ≡ n → events_of n (e ∷ es) ≡ e ∷ events_of n es
+pub own-first : (n : ℕ) (e : Happening) (es : List Happening) → e.place.node ≡ n → events_of n (e ∷ es) ≡ e ∷ events_of n es
 own-first n e es same = ap (λ (b : Bool). cond b (e ∷ events_of n es) (events_of n es)) (eq-eqb e.place.node n same)
 
-other-first : (n : ℕ) (e : Happening) (es : List Happening) → e.place.node ≢ n → events_of n (e ∷ es) ≡ events_of n es
+pub other-first : (n : ℕ) (e : Happening) (es : List Happening) → e.place.node ≢ n → events_of n (e ∷ es) ≡ events_of n es
 other-first n e es differs = ap (λ (b : Bool). cond b (e ∷ events_of n es) (events_of n es)) (ne_eqb e.place.node n differs)
 
 abbrev SameEvents : List Happening → List Happening → Type 0

@@ -1,8 +1,9 @@
 -- What is taken from a link was put there, in order; and what was put there are its deliveries.
-use Rattle.std.proofs.Common.{◌≡◌, ℕ, ◌+◌, Bool, true, false, cond, List, [], ◌∷◌, ◌++◌, length, map, drop, Option, Some, None, inl, inr, refl, sym, ap, subst, ◌∙◌, append_assoc, append-nil, add-one, arith}
+use Rattle.std.proofs.Common.{◌≡◌, ℕ, ◌+◌, Bool, true, false, cond, List, [], ◌∷◌, ◌++◌, length, map, drop, Option, Some, None, refl, sym, ap, subst, ◌∙◌, append_assoc, append-nil, add-one, arith}
 use Rattle.std.specs.Prelude.{◌==◌, ◌&&◌, not}
-use Rattle.std.proofs.lemmas.Bool.{cases_eq, eq-eqb, ne_eqb}
+use Rattle.std.proofs.lemmas.Bool.{eq-eqb}
 use Rattle.std.proofs.Math.Seq.{drop-append_seam}
+use Rattle.uid_names.proofs.Passed.{left-true, right-true, eqb-sym, equal}
 use Rattle.dom_history.specs.declared.event.What.{What}
 use Rattle.dom_history.specs.declared.event.What.TheVariants.{Begin, Go, Take, Notice, Ready, Mark}
 use Rattle.dom_history.specs.declared.event.Sent.{Sent}
@@ -19,7 +20,6 @@ use Rattle.world_runs.proofs.Alike.{added}
 use Rattle.world_runs.proofs.Sent.{IsSent}
 use Rattle.world_runs.proofs.Coming.{IsDue}
 use Rattle.node_runs.specs.Runs.{World}
-use Rattle.node_runs.proofs.Bools.{left-true, right-true, equal}
 
 -- the frames among what was sent
 pub frames-append : (xs ys : List Sending) → frames_in (xs ++ ys) ≡ frames_in xs + frames_in ys
@@ -46,9 +46,6 @@ one-frame false = refl
 pub of-node : (b : Bool) (from to : ℕ) (e : Happening) → frames_in (sent_if b from to e) ≡ cond b (frames_in (frame_to to e.effects.sent)) 0
 of-node true from to e = let a = frames-append (mark_to from to e.what) (frame_to to e.effects.sent) in let z = no-frames from to e.what in omega (arith, a, z)
 of-node false from to e = refl
-
-pub eqb-sym : (a b : ℕ) → (a == b) ≡ (b == a)
-eqb-sym a b = elim (cases_eq a b) [ inl same ↦ eq-eqb a b same ∙ sym (eq-eqb b a (sym same)) | inr differs ↦ ne_eqb a b differs ∙ sym (ne_eqb b a (λ e. differs (sym e))) ]
 
 pub cond-same : (b : Bool) (k : ℕ) → cond b k k ≡ k
 cond-same true k = refl
@@ -153,7 +150,7 @@ copies-map [] = refl
 copies-map (k ∷ ks) = ap (λ (xs : List ℕ). k ∷ xs) (copies-map ks)
 
 next-deliveries : (fate : ℕ → Fate) (n : ℕ) → deliveries fate (n + 1) ≡ deliveries fate n ++ due fate n
-next-deliveries fate n = subst (λ m. deliveries fate m ≡ deliveries fate n ++ (in_place m (fate m) ++ copies fate m n)) (sym (add-one n)) refl
+next-deliveries fate n = subst (λ m. deliveries fate m ≡ deliveries fate n ++ (in_place m (fate m) ++ copies fate m m)) (sym (add-one n)) refl
 
 -- the copies among all entries of a link are its deliveries
 put-deliveries : (fate : ℕ → Fate) (ss : List Sending) → copies_of (entries fate ss) ≡ deliveries fate (frames_in ss)

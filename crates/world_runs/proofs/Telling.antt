@@ -5,6 +5,7 @@ use Rattle.std.specs.List.{list_any, AllByRecursion}
 use Rattle.std.proofs.lemmas.Bool.{eq-eqb, or_parts}
 use Rattle.std.proofs.lemmas.List.Elements.{All-from_recursion}
 use Rattle.uid_names.proofs.ListLemmas.{by_cases}
+use Rattle.uid_names.proofs.Passed.{left-true, right-true, equal}
 use Rattle.dom_history.specs.declared.event.What.{What}
 use Rattle.dom_history.specs.declared.event.What.TheVariants.{Begin, Go, Take, Notice, Ready, Mark}
 use Rattle.dom_history.specs.declared.event.Sent.{Sent}
@@ -14,7 +15,6 @@ use Rattle.dom_history.specs.Histories.{place_lt}
 use Rattle.dom_history.specs.Plans.{fate_of}
 use Rattle.node_runs.specs.Deliveries.{is_gone, noticed_by, noticed_in}
 use Rattle.node_runs.specs.Runs.{World}
-use Rattle.node_runs.proofs.Bools.{left-true, right-true, equal}
 use Rattle.world_runs.specs.ByPlace.{behind_if, put_in_place, by_place}
 use Rattle.world_runs.specs.Sendings.{frames_on}
 use Rattle.world_runs.specs.Gone.{FrameName, same_frame, frame_if, gone_by, gone_in, was_told}
@@ -156,15 +156,15 @@ pub told-kept : (plan : List FateRow) (w : World) (n : ℕ) (e : Happening) → 
 told-kept plan w n e due told = let after = told-by plan w n e.what due told in record { once = after.0; gone = after.1 }
 
 -- the same by place
-all-append : (P : FrameName → Type 0) (xs ys : List FrameName) → AllByRecursion P xs → AllByRecursion P ys → AllByRecursion P (xs ++ ys)
+pub all-append : (P : FrameName → Type 0) (xs ys : List FrameName) → AllByRecursion P xs → AllByRecursion P ys → AllByRecursion P (xs ++ ys)
 all-append P [] ys here there = there
 all-append P (x ∷ xs) ys here there = (here.0, all-append P xs ys here.1 there)
 
-all-left : (P : FrameName → Type 0) (xs ys : List FrameName) → AllByRecursion P (xs ++ ys) → AllByRecursion P xs
+pub all-left : (P : FrameName → Type 0) (xs ys : List FrameName) → AllByRecursion P (xs ++ ys) → AllByRecursion P xs
 all-left P [] ys all = tt
 all-left P (x ∷ xs) ys all = (all.0, all-left P xs ys all.1)
 
-all-right : (P : FrameName → Type 0) (xs ys : List FrameName) → AllByRecursion P (xs ++ ys) → AllByRecursion P ys
+pub all-right : (P : FrameName → Type 0) (xs ys : List FrameName) → AllByRecursion P (xs ++ ys) → AllByRecursion P ys
 all-right P [] ys all = all
 all-right P (x ∷ xs) ys all = all-right P xs ys all.1
 

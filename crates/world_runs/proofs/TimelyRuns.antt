@@ -2,6 +2,7 @@
 use Rattle.std.proofs.Common.{◌≡◌, ℕ, ◌+◌, List, [], ◌∷◌, Option, Some, None, inl, inr, refl, ap, subst, ◌∙◌, arith}
 use Rattle.std.specs.Prelude.{max}
 use Rattle.std.proofs.lemmas.Bool.{cases_eq}
+use Rattle.std.proofs.lemmas.Option.{same_Some}
 use Rattle.node_runs.specs.Setups.{Setup, IsSetup, given}
 use Rattle.node_runs.specs.NodeStates.{NodeState}
 use Rattle.node_runs.specs.Incomings.{tick_of}
@@ -10,7 +11,6 @@ use Rattle.node_runs.specs.Dones.{Did}
 use Rattle.node_runs.specs.SentFrames.{IsFrame, IsIncoming}
 use Rattle.node_runs.specs.NodesKeep.{IsTimely}
 use Rattle.node_runs.specs.Runs.{World, first_world, Choice, put, then_next, world_after}
-use Rattle.node_runs.proofs.Somes.{some-is}
 use Rattle.node_runs.proofs.Doing.{step_of-did}
 use Rattle.node_runs.proofs.Ticks.{step_of-tick}
 use Rattle.node_runs.proofs.Calls.{put-same, put-other}
@@ -55,7 +55,7 @@ module _ (s : Setup) (setup : IsSetup s) where
         later old c w (timely-next cs old c w has is was) (before old refl was)
 
     pub every-timely-run : (cs : List Choice) (w : World) → world_after s cs ≡ Some w → IsTimely w → P w
-    every-timely-run [] w e timely = subst P (some-is (first_world s) w e) first
+    every-timely-run [] w e timely = subst P (same_Some (first_world s) w e) first
     every-timely-run (c ∷ cs) w e timely = then-one cs c w (world_after s cs) refl (λ old before was. every-timely-run cs old before was) e timely
 
 -- what is received in such a run is as nodes send it

@@ -1,12 +1,13 @@
 -- Turns while no tick is above the greatest one: each is a step of its node.
 use Rattle.std.proofs.Common.{◌≡◌, ℕ, List, [], ◌∷◌, Some, sym, subst}
+use Rattle.std.proofs.lemmas.Option.{same_Some}
+use Rattle.uid_names.proofs.Somes.{bind-some}
 use Rattle.dom_history.specs.declared.plan.FateRow.{FateRow}
 use Rattle.node_runs.specs.Setups.{Setup, IsSetup, given}
 use Rattle.node_runs.specs.NodeStates.{NodeState}
 use Rattle.node_runs.specs.Steps.{step_of}
 use Rattle.node_runs.specs.NodesKeep.{IsTimely}
 use Rattle.node_runs.specs.Runs.{World, first_world}
-use Rattle.node_runs.proofs.Somes.{some-is, bind-some}
 use Rattle.world_runs.specs.Turns.{turn, after_turns}
 use Rattle.world_runs.proofs.Turning.{IsTurn, turn-is, timely-before}
 use Rattle.world_runs.proofs.Merging.{Merged, turns-merge, steps}
@@ -34,7 +35,7 @@ module _ (s : Setup) (setup : IsSetup s) (plan : List FateRow) where
   -- what holds at the start, and after each turn where it held before it, holds after all turns while they are timely
   module _ (P : World → Type 0) (first : P (first_world s)) (later : (old new : World) → IsTimelyTurn s plan old new → P old → P new) where
     pub every-timely : (cs : List ℕ) (w : World) → after_turns s plan cs ≡ Some w → IsTimely w → P w
-    every-timely [] w e timely = subst P (some-is (first_world s) w e) first
+    every-timely [] w e timely = subst P (same_Some (first_world s) w e) first
     every-timely (c ∷ cs) w e timely =
         let found = bind-some (after_turns s plan cs) (λ (v : World). turn s plan v c) w e in
         let is = turn-is s plan found.0 c w found.2 in

@@ -2,23 +2,23 @@
 use Rattle.std.proofs.Common.{◌≡◌, ℕ, ◌+◌, ◌≤◌, ◌%◌, true, List, [], ◌∷◌, length, Option, Some, None, inl, inr, refl, sym, ap, subst, ◌∙◌, arith}
 use Rattle.std.specs.Prelude.{max, filter}
 use Rattle.std.proofs.lemmas.Bool.{cases_eq}
+use Rattle.std.proofs.lemmas.Option.{same_Some}
 use Rattle.uid_names.specs.declared.ids.Place.{Place}
+use Rattle.uid_names.proofs.Somes.{bind-some, map-some}
 use Rattle.dom_history.specs.declared.event.What.{What}
 use Rattle.dom_history.specs.declared.plan.FateRow.{FateRow}
 use Rattle.dom_history.specs.Objects.{is_node}
-use Rattle.fault_handler.specs.Outcomes.{Turn}
 use Rattle.node_runs.specs.Setups.{Setup, Given, given}
-use Rattle.node_runs.specs.NodeStates.{BegunOp, NodeState}
+use Rattle.node_runs.specs.NodeStates.{NodeState}
 use Rattle.node_runs.specs.Incomings.{Incoming, tick_of, enabled}
-use Rattle.node_runs.specs.Outcomes.{Stepped, Stage, turned, moved}
+use Rattle.node_runs.specs.Outcomes.{Stepped, moved}
 use Rattle.node_runs.specs.Doings.{Doing, event_of, ticked, node_numbers}
 use Rattle.node_runs.specs.Rooms.{moved_as_named}
 use Rattle.node_runs.specs.Steps.{stepped_as_named, named_step}
 use Rattle.node_runs.specs.NodesKeep.{IsTimely}
 use Rattle.node_runs.specs.Runs.{World, put, first_world, incoming_of, world_with}
-use Rattle.node_runs.proofs.Somes.{some-is, map-some, bind-some}
 use Rattle.node_runs.proofs.Stepping.{leaves-steps}
-use Rattle.node_runs.proofs.Ticks.{step_of-tick}
+use Rattle.node_runs.proofs.Ticks.{step_of-tick, turned-tick}
 use Rattle.node_runs.proofs.Calls.{put-same, put-other}
 use Rattle.world_runs.specs.Turns.{Act, coming_to, is_enabled_by, is_enabled, enabled_at, enabled_events, happened, does_with, does, chosen, turn, after_turns}
 use Rattle.world_runs.proofs.Among.{Among, among-get, among-map, among-flat, among-filter}
@@ -65,7 +65,7 @@ module _ (s : Setup) (plan : List FateRow) (old new : World) (a : Act) (is : IsL
     may = may;
     step = step;
     steps = steps;
-    world = sym (some-is (world_with old (act_place a step) a.what step) new e);
+    world = sym (same_Some (world_with old (act_place a step) a.what step) new e);
   }
 
   does-is : does s old a ≡ Some new → IsTurn s plan old new
@@ -83,21 +83,15 @@ turn-is s plan old choice new e =
 -- what holds at the start, and after each turn where it held before it, holds after all turns
 module _ (s : Setup) (plan : List FateRow) (P : World → Type 0) (first : P (first_world s)) (later : (old new : World) → IsTurn s plan old new → P old → P new) where
   pub every-turn : (cs : List ℕ) (w : World) → after_turns s plan cs ≡ Some w → P w
-  every-turn [] w e = subst P (some-is (first_world s) w e) first
+  every-turn [] w e = subst P (same_Some (first_world s) w e) first
   every-turn (c ∷ cs) w e =
       let found = bind-some (after_turns s plan cs) (λ (v : World). turn s plan v c) w e in
       later found.0 w (turn-is s plan found.0 c w found.2) (every-turn cs found.0 found.1)
 
--- the tick of an event that drops the page that the cache names
-turned-tick : (g : Given) (n : NodeState) (p : ℕ) (o : BegunOp) (stage : Stage) (to : Turn) → (turned g n p o stage to).node.tick ≡ n.tick
-turned-tick g n p o stage (Turn.Ends reply) = refl
-turned-tick g n p o stage (Turn.Asks home ask) = refl
-turned-tick g n p o stage (Turn.Waits u k) = refl
-
 module _ (g : Given) (n : NodeState) (what : What) (incoming : Incoming) (may : enabled g n what incoming ≡ true) (step : Stepped) where
   by-event : (event : Doing) → event_of g (ticked n incoming) what incoming ≡ Some event → stepped_as_named g (ticked n incoming) event ≡ Some step → step.node.tick ≡ max n.tick (tick_of incoming) + 1
   by-event (Doing.Does done) comes e =
-      step_of-tick g n what incoming step.effects.dropped step (leaves-steps g n what incoming (Doing.Does done) step may comes (sym (some-is done step e)))
+      step_of-tick g n what incoming step.effects.dropped step (leaves-steps g n what incoming (Doing.Does done) step may comes (sym (same_Some done step e)))
   by-event (Doing.Moves p o stage accessed) comes e =
       let found = map-some (moved g (ticked n incoming) p o stage) (moved_as_named p accessed) step e in
       ap (λ (x : Stepped). x.node.tick) found.2 ∙ turned-tick g (record (ticked n incoming) { desk = found.0.desk }) p o stage found.0.turn

@@ -1,23 +1,11 @@
 -- The turns that a seed picks.
-use Rattle.std.specs.Prelude.{◌≡◌, ℕ, zero, suc, ◌+◌, ◌*◌, ◌/◌, ◌%◌, ◌^◌, ◌<◌, Option, Some, List, [], ◌∷◌, map, sum}
+use Rattle.std.specs.Prelude.{◌≡◌, ℕ, zero, suc, ◌<◌, Option, Some, List, [], ◌∷◌, map, sum}
+use Rattle.drawn_numbers.specs.Draws.{drawn, state_after}
 use Rattle.dom_history.specs.declared.plan.FateRow.{FateRow}
 use Rattle.node_runs.specs.Setups.{Setup}
 use Rattle.node_runs.specs.Doings.{node_numbers}
 use Rattle.node_runs.specs.Runs.{World}
 use Rattle.world_runs.specs.Turns.{enabled_events, after_turns}
-
--- the state of the generator after a draw
-abbrev pub next_state : ℕ → ℕ
-next_state state = (state * 6364136223846793005 + 1442695040888963407) % 2 ^ 64
-
--- what a draw gives, before it is brought below a bound
-abbrev pub drawn : ℕ → ℕ
-drawn state = state / 2 ^ 33
-
--- the state after so many draws
-abbrev pub state_after : ℕ → ℕ → ℕ
-state_after seed zero = seed
-state_after seed (suc k) = next_state (state_after seed k)
 
 -- what the first draws gave, the last first
 abbrev pub draws : ℕ → ℕ → List ℕ

@@ -9,7 +9,7 @@ use Rattle.node_runs.specs.Deliveries.{in_place}
 use Rattle.world_runs.specs.Sendings.{Sending, sent_by}
 use Rattle.world_runs.specs.Waiting.{Entry, entry_by}
 
--- a copy of the frame of this number falls behind that frame
+-- a copy of the frame of this number falls behind that frame, which is a later one or itself
 pub record Later : Type 0 where
   pub index : ℕ
   pub behind : ℕ
@@ -40,10 +40,11 @@ staying j later = filter (λ x. not (x.behind == j)) later
 abbrev pub frame_sent : Fate → Link → Link
 frame_sent fate link =
     let j = link.frames + 1 in
+    let later = link.later ++ later_of j fate in
     record {
       frames = j;
-      queue = link.queue ++ map Entry.Copy (in_place j fate ++ falling j link.later);
-      later = staying j link.later ++ later_of j fate;
+      queue = link.queue ++ map Entry.Copy (in_place j fate ++ falling j later);
+      later = staying j later;
     }
 
 abbrev pub mark_sent : ℕ → Link → Link

@@ -14,9 +14,9 @@ pub data Entry : Type 0 where
   Copy : (index : ℕ) → Entry
   Mark : (phase : ℕ) → Entry
 
--- the copies that are delivered behind so many frames and one more: of that one, and of earlier ones
+-- the copies that are delivered behind so many frames and one more: that one, then those that fall behind it
 abbrev pub due : (ℕ → Fate) → ℕ → List ℕ
-due fate n = in_place (n + 1) (fate (n + 1)) ++ copies fate (n + 1) n
+due fate n = in_place (n + 1) (fate (n + 1)) ++ copies fate (n + 1) (n + 1)
 
 -- a mark stands behind all copies that fall behind the frames sent before it
 abbrev pub put_by : (ℕ → Fate) → ℕ → Sending → List Entry

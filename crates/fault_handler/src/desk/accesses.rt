@@ -52,7 +52,7 @@ impl Desk {
         self.begun(alloc, proc, op)
     }
 
-    /// The same, as the definition has it.
+    /// Begins an access, or goes on with one: what comes of it is what the definition says, and no more.
     fn begun(&mut self, alloc: Global, proc: ProcId, op: &Op) -> Result<Access, NoMemory>
         requires idle { IsIdle self.old proc.number }
         requires access { IsSome (desk_op op.now) }

@@ -61,7 +61,7 @@ impl Desk {
         self.answered(alloc, proc, body)
     }
 
-    /// The same, as the definition has it.
+    /// A home answers an access: what comes of it is what the definition says, and no more.
     fn answered(&mut self, alloc: Global, proc: ProcId, body: &Body) -> Result<Access, NoMemory>
         requires access { IsAccessing self.old proc.number }
         requires fits { answers self.old proc.number body.now ≡ true }
@@ -283,7 +283,7 @@ impl Desk {
         Reply::LinkFault
     }
 
-    /// The same, as the definition has it.
+    /// What a process's load or store moved is in transit no more, as the definition says.
     fn failed(&mut self, proc: ProcId)
         requires access { IsAccessing self.old proc.number }
         ensures desk { IfSome (moving_of self.old proc.number) (λ t. self.new ≡ access_failed_of self.old proc.number t) }

@@ -1,17 +1,20 @@
 use Rattle.std.proofs.Common.{None, ap, ◌∙◌, sym, subst}
+use Rattle.naming_tree.specs.declared.site.Site.{Site}
+use Rattle.command_talks.specs.Commands.{talk_of}
 use Rattle.aegis_shell.specs.AnswerTexts.{path_too_long}
 use Rattle.aegis_shell.specs.Operations.{ops_of}
 use Rattle.aegis_shell.specs.States.{begins, talk_goes}
-use Rattle.aegis_shell.specs.Talks.{MayBeTold}
-use Rattle.aegis_shell.specs.declared.outcome.Outcome.TheVariants.{Written}
+use Rattle.command_talks.specs.Talks.{MayBeTold}
+use Rattle.command_talks.specs.declared.outcome.Outcome.TheVariants.{Written}
 use Rattle.aegis_shell.specs.declared.stage.Turn.TheVariants as turns
-use Rattle.aegis_shell.specs.declared.talk.Talk.{Talk}
-use Rattle.aegis_shell.proofs.Beginnings.{ranged_begun, talk_begins, long_begins}
+use Rattle.command_talks.specs.declared.talk.Talk.{Talk}
+use Rattle.command_talks.proofs.Begun.{ranged_begun}
+use Rattle.aegis_shell.proofs.Beginnings.{talk_begins, long_begins}
 use Rattle.aegis_shell.proofs.Calls.{leads_same, leads_by, asks_any, ends_asking}
 use Rattle.aegis_shell.proofs.begin.begin.Goals as goal
 
-pub talk-requires : goal.talk-requires
-talk-requires c = c.requires
+pub machine_for-requires : goal.machine_for-requires
+machine_for-requires c = c.requires
 
 pub returns-then-branch : goal.returns-then-branch
 returns-then-branch c =
@@ -26,10 +29,9 @@ returns-then-branch c =
 
 pub turn_of-requires : goal.turn_of-requires
 turn_of-requires c =
-    let part = c.args.work.now in
     let command = c.args.job.now.command in
     let found = rw c.in-Some.is at c.in_ok-machine.ensures in
-    subst (λ (t : Talk). MayBeTold t None) (sym found.1) (ranged_begun part c.args.working.now command found.0 c.requires)
+    subst (λ (t : Talk). MayBeTold t None) (sym found.1) (ranged_begun c.site.result.now c.args.working.now.dir command found.0 c.requires)
 
 pub returns-in-Some : goal.returns-in-Some
 returns-in-Some c =
@@ -40,7 +42,7 @@ returns-in-Some c =
     let short = sym c.in_ok-is_too_long.ensures ∙ c.if-branch.false in
     record {
       turn = leads_same c.turn_of.result (talk_goes c.in-Some.machine None) (begins part working c.args.object command) c.turn_of.ensures.turn
-          (ap (λ (t : Talk). talk_goes t None) found.1 ∙ talk_begins part working c.args.object command found.0 short c.requires);
+          (ap (λ (t : Talk). talk_goes t None) (found.1 ∙ ap (λ (s : Site). talk_of s working.dir command) c.site.ensures) ∙ talk_begins part working c.args.object command found.0 short c.requires);
       asks = asks_any (ops_of part.node command c.args.object) c.turn_of.result c.turn_of.ensures.asks;
     }
 

@@ -1,9 +1,10 @@
 use Rattle.std.proofs.Common.{◌≡◌, ℕ, List, ◌++◌, false, ap, ◌∙◌, sym, subst}
 use Rattle.std.specs.Prelude.{codes}
 use Rattle.aegis_shell.specs.Operations.{ops_of}
-use Rattle.aegis_shell.specs.Plans.{talks, makes}
+use Rattle.command_talks.specs.Commands.{talks}
+use Rattle.aegis_shell.specs.Plans.{makes}
 use Rattle.aegis_shell.specs.States.{Comes, begins, begins_by}
-use Rattle.aegis_shell.specs.declared.outcome.Outcome.TheVariants.{Written}
+use Rattle.command_talks.specs.declared.outcome.Outcome.TheVariants.{Written}
 use Rattle.script_reader.specs.declared.command.Command.{Command}
 use Rattle.aegis_shell.proofs.Beginnings.{told_begins, plain_begins}
 use Rattle.aegis_shell.proofs.Calls.{leads_same, leads_by, listing, list_asks, list_begins}

@@ -6,12 +6,12 @@ use Rattle.aegis_shell.specs.AnswerTexts.{is_done}
 use Rattle.aegis_shell.specs.Operations.{ops_of, second_of}
 use Rattle.aegis_shell.specs.States.{Comes, goes_on, on_first, on_list, talk_goes}
 use Rattle.aegis_shell.specs.Turns.{FitsStage}
-use Rattle.aegis_shell.specs.declared.outcome.Outcome.TheVariants.{Replied}
+use Rattle.command_talks.specs.declared.outcome.Outcome.TheVariants.{Replied}
 use Rattle.aegis_shell.specs.declared.stage.Stage.{Stage}
 use Rattle.aegis_shell.specs.declared.stage.Turn.TheVariants as turns
 use Rattle.aegis_shell.proofs.Beginnings.{talk_hears}
 use Rattle.aegis_shell.proofs.Calls.{leads_same, leads_by, asks_any, replies_asking, other_ends}
-use Rattle.aegis_shell.proofs.Readies.{talk_told}
+use Rattle.command_talks.proofs.Readies.{talk_told}
 use Rattle.aegis_shell.proofs.go.go.Goals as goal
 
 pub unreachable-requires : goal.unreachable-requires

@@ -1,7 +1,7 @@
 use Rattle.std.proofs.Common.{refl, arith}
+use Rattle.uid_names.proofs.Somes.{there_is}
 use Rattle.fault_handler.specs.Accesses.{desk_op, access_of}
 use Rattle.fault_handler.specs.Outcomes.{as_access, Gives}
-use Rattle.fault_handler.proofs.TransitKeeps.{there_is}
 use Rattle.fault_handler.proofs.Outcomes.{IsAfter, Holds}
 use Rattle.fault_handler.proofs.Beginning.{access_of-after}
 use Rattle.desk_laws.specs.Causes.{Cause}

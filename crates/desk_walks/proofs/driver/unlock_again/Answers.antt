@@ -4,8 +4,8 @@ use Rattle.desk_laws.specs.Causes.{Cause}
 use Rattle.desk_walks.proofs.Keeps.{settled-ready}
 use Rattle.desk_walks.proofs.driver.unlock_again.Goals as goal
 
-pub returns-in_ok-go_on-in-Held : goal.returns-in_ok-go_on-in-Held
-returns-in_ok-go_on-in-Held c =
+pub returns : goal.returns
+returns c =
     let d = c.args.desk.now in
     let p = c.in_ok-proc.proc.number in
     settled-ready d c.go_on.new.desk p c.requires c.in_ok-proc.ensures.desk (omega arith, omega arith) (Cause.Releases false c.args.uid) c.in_ok-go_on-in-Held.ensures.ready

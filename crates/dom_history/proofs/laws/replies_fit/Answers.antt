@@ -6,4 +6,4 @@ pub returns-clause-anywhere : goal.returns-clause-anywhere
 returns-clause-anywhere c = reply_of-fits
 
 pub returns-clause-after_answers : goal.returns-clause-after_answers
-returns-clause-after_answers c = answered-fits
+returns-clause-after_answers c = λ opening past is. answered-fits opening is.start past is.answered is.ranges

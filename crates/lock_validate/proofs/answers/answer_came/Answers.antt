@@ -1,6 +1,7 @@
 use Rattle.std.proofs.Common.{◌≡◌, IfOk, OnErr, Some, None, IfSome, ap, subst, ◌∙◌, arith}
 use Rattle.std.proofs.lemmas.Result.{IfOk-weaker, on_err_weaker}
 use Rattle.std.specs.Option.{ForSome}
+use Rattle.uid_names.proofs.Somes.{there_is}
 use Rattle.dom_history.specs.declared.op.Op.{Op}
 use Rattle.ring_messages.specs.Bodies.{body_of_answer}
 use Rattle.ring_messages.specs.Ranges.{IsBody}
@@ -15,7 +16,6 @@ use Rattle.lock_validate.specs.Steps.{as_step}
 use Rattle.lock_validate.specs.Answers.{answered, answer_came_of, answer_at, lock_answer_of}
 use Rattle.lock_validate.specs.Wants.{MayWantAt}
 use Rattle.fault_handler.proofs.LockKeeps.{IsDesk-with_call}
-use Rattle.fault_handler.proofs.TransitKeeps.{there_is}
 use Rattle.fault_handler.proofs.Outcomes.{each-some}
 use Rattle.lock_validate.proofs.Standing.{op_of, is-open, answers-at, answer-parts}
 use Rattle.lock_validate.proofs.Answering.{answer_came_of-good}

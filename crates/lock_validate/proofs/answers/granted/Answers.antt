@@ -1,11 +1,12 @@
 use Rattle.std.proofs.Common.{◌≡◌, false, is_some, sym, subst, ◌∙◌}
 use Rattle.std.specs.Prelude.{not}
 use Rattle.std.proofs.lemmas.Result.{err_from_is_err_and}
+use Rattle.uid_names.proofs.Passed.{right-true}
 use Rattle.version_stamps.specs.Stamps.{stamp_of}
 use Rattle.fault_handler.specs.Desks.{DeskState, others_keep}
 use Rattle.lock_validate.specs.Answers.{is_fresh}
 use Rattle.fault_handler.proofs.Nothing.{unkept-clean, unkept-still}
-use Rattle.lock_validate.proofs.Dropping.{right-true, outdated-unkept}
+use Rattle.lock_validate.proofs.Dropping.{outdated-unkept}
 use Rattle.lock_validate.proofs.Learning.{stale-seen, unseen-outdated, learned-seen}
 use Rattle.lock_validate.proofs.answers.granted.Goals as goal
 

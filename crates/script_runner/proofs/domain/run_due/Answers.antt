@@ -22,14 +22,10 @@ pub returns-clause-due : goal.returns-clause-due
 returns-clause-due c =
     let ran = c.in-Ok.ensures.ran in
     let names : c.in_ok-names.names ≡ names_of c.args.script.now = c.in_ok-names.ensures ∙ ap (λ rows. map (λ n. n.name) rows) c.nodes-2.ensures.value in
-    let rows = ap (map answers_in) c.items.ensures ∙ ran.answers in
-    record {
-      events = ran.events;
-      run = ran.run;
-      one_store = ran.one_store;
-      told =
-          c.in_ok-text.ensures
+    let rows = ap (map answers_in) c.items.ensures ∙ ran.2 in (
+      ran.0,
+      c.in_ok-text.ensures
           ∙ (ap (λ nodes. told_of c.args.origin (map (λ n. n.name) nodes) (map answers_in c.items.result.now)) c.nodes.ensures.value
-          ∙ (ap (told_of c.args.origin (names_of c.args.script.now)) rows ∙ told_is c.args.origin c.args.script.now ran.run));
-      written = c.new.ensures ∙ (ap (λ names. journal names c.in-Ok.ran.events.events) names ∙ ap (journal (names_of c.args.script.now)) ran.by_place);
-    }
+          ∙ (ap (told_of c.args.origin (names_of c.args.script.now)) rows ∙ told_is c.args.origin c.args.script.now ran.0.run)),
+      c.new.ensures ∙ (ap (λ names. journal names c.in-Ok.ran.events.events) names ∙ ap (journal (names_of c.args.script.now)) ran.1),
+    )

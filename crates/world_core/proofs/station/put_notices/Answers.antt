@@ -1,6 +1,6 @@
 use Rattle.std.proofs.Common.{List, [], ◌∷◌, sym, ap}
 use Rattle.std.proofs.lemmas.List.{drop_all}
-use Rattle.world_core.specs.declared.notices.Notice.{Notice}
+use Rattle.ring_links.specs.declared.notice.Notice.{Notice}
 use Rattle.world_core.specs.Stations.{comings, notice_at, noticed}
 use Rattle.world_core.proofs.Comings.{noticed_step, go_on, at_end}
 use Rattle.world_core.proofs.station.put_notices.Goals as goal

@@ -1,10 +1,11 @@
 use Rattle.std.proofs.Common.{refl}
 use Rattle.std.proofs.lemmas.Result.{IfOk-weaker, on_err_weaker}
+use Rattle.std.proofs.lemmas.Bool.{not-true}
+use Rattle.uid_names.proofs.Somes.{some-each}
 use Rattle.ring_messages.specs.Bodies.{Answer}
 use Rattle.fault_handler.specs.PageReplies.{PageAnswer}
 use Rattle.fault_handler.specs.Desks.{task_of}
-use Rattle.fault_handler.proofs.Outcomes.{some-each}
-use Rattle.fault_handler.proofs.Replying.{moves-coming, not-true, wants-page, comes-sent}
+use Rattle.fault_handler.proofs.Replying.{moves-coming, wants-page, comes-sent}
 use Rattle.fault_handler.proofs.desk.Desk.answered.Goals as goal
 
 pub returns-in-Page-clause-memory : goal.returns-in-Page-clause-memory

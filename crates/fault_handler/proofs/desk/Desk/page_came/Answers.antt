@@ -1,5 +1,6 @@
 use Rattle.std.proofs.Common.{IfSome}
 use Rattle.std.proofs.lemmas.Result.{IfOk-weaker, on_err_weaker}
+use Rattle.uid_names.proofs.Somes.{some-each}
 use Rattle.dom_history.specs.declared.op.Op.{Op}
 use Rattle.ring_messages.specs.Bodies.{answer_of}
 use Rattle.fault_handler.specs.declared.access.Access.{Access}
@@ -9,7 +10,7 @@ use Rattle.fault_handler.specs.Conditions.{MayWantAt}
 use Rattle.fault_handler.specs.Outcomes.{IsNoRefusal}
 use Rattle.fault_handler.specs.Next.{IsOpen}
 use Rattle.fault_handler.specs.Unseen.{said_to, GivesTo, ComesTo}
-use Rattle.fault_handler.proofs.Outcomes.{Holds, IsTold, told, come-some, some-each, served-access, number-kept, OnOk-more}
+use Rattle.fault_handler.proofs.Outcomes.{Holds, IsTold, told, come-some, served-access, number-kept, OnOk-more}
 use Rattle.fault_handler.proofs.Accessing.{IsDoneAfter}
 use Rattle.fault_handler.proofs.Answering.{page_answer-said, page_came_of-after, some-op, said-some, said-each}
 use Rattle.fault_handler.proofs.desk.Desk.page_came.Goals as goal

@@ -1,5 +1,5 @@
 use Rattle.std.proofs.Common.{rules, ◌≡◌, Some}
-use Rattle.naming_tree.specs.Paths.{route_of}
+use Rattle.dir_records.specs.Paths.{route_of}
 use Rattle.naming_tree.proofs.walking.Walking.leave_link.Goals as goal
 
 pub returns-in-Some : goal.returns-in-Some

@@ -1,4 +1,5 @@
 use Rattle.std.proofs.Common.{◌≡◌, ◌+◌, ◌<◌, Some, IfSome, length, get_or, set, map, sym, ap, subst, ◌∙◌}
+use Rattle.uid_names.proofs.Somes.{some-each}
 use Rattle.dom_history.specs.declared.op.Op.{Op}
 use Rattle.dom_history.specs.declared.op.Want.TheVariants.{Do}
 use Rattle.ring_messages.specs.Bodies.{ask_of, body_of_ask}
@@ -8,11 +9,11 @@ use Rattle.node_runs.specs.Outcomes.{next_call, request}
 use Rattle.node_core.specs.Processes.{proc_seen}
 use Rattle.node_core.specs.Machines.{state_of}
 use Rattle.node_core.proofs.Seen.{put-seen, wants-kept, want-here, seen-at}
-use Rattle.node_core.proofs.Leading.{led-sent, same-frame, if-some}
+use Rattle.node_core.proofs.Leading.{led-sent, same-frame}
 use Rattle.node_core.proofs.machine.Machine.asks.Goals as goal
 
 pub returns : goal.returns
-returns g c = if-some (ask_of c.args.body) _ (λ ask is given op stage number wanted.
+returns g c = some-each (ask_of c.args.body) _ (λ ask is given op stage number wanted.
     let m = c.args.self.now in
     let p = c.args.proc.number in
     let i = c.index_of.result in

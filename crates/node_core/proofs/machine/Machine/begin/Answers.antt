@@ -2,6 +2,7 @@ use Rattle.std.proofs.Common.{◌≡◌, ◌<◌, length, sym, subst, refl, ◌�
 use Rattle.std.specs.Option.{ForSome}
 use Rattle.std.proofs.lemmas.Result.{IfOk-weaker}
 use Rattle.uid_names.specs.declared.ids.Place.{Place}
+use Rattle.uid_names.proofs.Passed.{left-true}
 use Rattle.dom_history.specs.declared.op.Want.{Want}
 use Rattle.dom_history.specs.declared.op.Want.TheVariants.{Do, Phase, Done}
 use Rattle.dom_history.specs.Ranges.{IsWant}
@@ -15,7 +16,7 @@ use Rattle.node_core.specs.Machines.{given_of, state_of}
 use Rattle.node_core.specs.Outcomes.{Led, Moves}
 use Rattle.node_core.proofs.Seen.{want-is}
 use Rattle.node_core.proofs.Turning.{does-moves}
-use Rattle.node_core.proofs.Enabling.{program-there, left-true}
+use Rattle.node_core.proofs.Enabling.{program-there}
 use Rattle.node_core.proofs.machine.Machine.begin.Goals as goal
 
 pub begins-requires-clause-program : goal.begins-requires-clause-program

@@ -1,12 +1,13 @@
 use Rattle.std.proofs.Common.{[], sym, subst, refl}
 use Rattle.std.proofs.lemmas.Result.{IfOk-weaker}
 use Rattle.uid_names.specs.Openings.{Start}
+use Rattle.uid_names.proofs.Somes.{there_is}
 use Rattle.fault_handler.specs.Accesses.{Accessed, desk_op, access_of}
 use Rattle.fault_handler.proofs.Outcomes.{Holds}
 use Rattle.node_runs.proofs.Keeping.{IsMoved, begun-moved}
 use Rattle.node_core.specs.Processes.{IsWanted, want_at}
 use Rattle.node_core.specs.Outcomes.{Moves}
-use Rattle.node_core.proofs.Turning.{wanted-op, begun-desk, comes-seen, some-there, moves-accessed}
+use Rattle.node_core.proofs.Turning.{wanted-op, begun-desk, comes-seen, moves-accessed}
 use Rattle.node_core.proofs.machine.Machine.begins_access.Goals as goal
 
 pub accessed-requires-clause-there : goal.accessed-requires-clause-there
@@ -15,7 +16,7 @@ accessed-requires-clause-there g c =
     let p = c.args.proc.number in
     let wanted = wanted-op (want_at m.procs p) c.requires.wanted in
     let op = wanted.0 in
-    let some = some-there (desk_op op) (c.requires.access op wanted.1) in
+    let some = there_is (desk_op op) (c.requires.access op wanted.1) in
     let o = some.0 in
     let opening : Start = record { nodes = m.desk.nodes; greatest = m.greatest; objects = [] } in
     let holds = subst (λ (a : Accessed). Holds p (IsMoved m.desk p op) a) (begun-desk opening m.desk p op o some.1)
@@ -29,7 +30,7 @@ returns g c =
     let opening : Start = record { nodes = m.desk.nodes; greatest = m.greatest; objects = [] } in
     IfOk-weaker c.accessed.result _ _
     (λ ok turns op wanted.
-    let some = some-there (desk_op op) (c.requires.access op wanted) in
+    let some = there_is (desk_op op) (c.requires.access op wanted) in
     subst (λ (a : Accessed). Moves g.P.Program.spent g.P.Program.wants g.P.Program.becomes m c.accessed.new.self c.accessed.new.done p c.args.begun a) (sym (begun-desk opening m.desk p op some.0 some.1))
     (moves-accessed g.P.Program.spent g.P.Program.wants g.P.Program.becomes m c.accessed.new.self c.accessed.new.done p c.args.begun
     c.access_wanted.new.desk (access_of m.desk p some.0) c.in_ok-access.access (c.in_ok-access.ensures.outcome op wanted some.0 some.1) c.in_ok-access.ensures.node turns))

@@ -1,8 +1,8 @@
 use Rattle.std.proofs.Common.{ℕ, List, ◌≤◌, true, None, ap, sym, subst, ◌∙◌}
+use Rattle.std.proofs.lemmas.Option.{same_Some}
 use Rattle.node_runs.specs.NodeStates.{first_proc}
 use Rattle.node_runs.specs.Alikes.{AreAlike}
 use Rattle.node_runs.specs.Doings.{after_marks}
-use Rattle.node_runs.proofs.Somes.{some-is}
 use Rattle.node_runs.proofs.Forgetting.{alike-itself}
 use Rattle.uid_names.specs.Names.{ObjectName}
 use Rattle.dom_history.specs.declared.event.Effects.{Effects}
@@ -21,7 +21,7 @@ returns g c s is =
     let n = record (state_of old) { ready = true } in
     let node = after_marks (given_of old) n in
     let effects = λ (x : List (ObjectName × ℕ)). let e : Effects = record { dropped = x; sent = None; ended = None } in e in
-    subst (λ x. Led g.P.Program.spent g.P.Program.wants g.P.Program.becomes old new c.quiet.new.done x) (some-is _ s is)
+    subst (λ x. Led g.P.Program.spent g.P.Program.wants g.P.Program.becomes old new c.quiet.new.done x) (same_Some _ s is)
     (led-untold g.P.Program.spent g.P.Program.wants g.P.Program.becomes old new c.quiet.new.done _ c.requires.before.within
     (ap (λ m. m.programs) c.pass_phase.ensures.same) (ap (λ m. m.procs) c.pass_phase.ensures.same) (ap (λ m. m.greatest) c.pass_phase.ensures.same) (ap (λ m. m.phases) c.pass_phase.ensures.same)
     (subst (λ m. m.server.tick ≤ m.tick) (sym c.pass_phase.ensures.same) c.requires.before.within.earlier)

@@ -1,7 +1,7 @@
 use Rattle.std.proofs.Common.{◌≡◌, ℕ, ◌==◌, true, false, rules, get_or, refl, ap, sym, ◌∙◌}
 use Rattle.std.proofs.lemmas.Result.{IfOk-weaker}
 use Rattle.uid_names.proofs.ListLemmas.{by_cases}
-use Rattle.node_runs.proofs.Bools.{equal}
+use Rattle.uid_names.proofs.Passed.{equal}
 use Rattle.node_core.proofs.Taking.{program-there, range-there, call-there, none-led, page-led, other-led, heard-led}
 use Rattle.node_core.proofs.machine.Machine.hears.Goals as goal
 

@@ -6,8 +6,9 @@ use Rattle.fault_handler.specs.PageReplies.{page_came_of}
 use Rattle.lock_validate.specs.Answers.{answer_came_of}
 use Rattle.node_runs.specs.Operations.{Said, said_of}
 use Rattle.node_runs.proofs.Keeping.{answered-moved}
+use Rattle.node_runs.proofs.Forgetting.{open-calling}
 use Rattle.node_core.specs.Processes.{want_at}
-use Rattle.node_core.proofs.Calling.{one-op, desk-op, call-open, unsaid, said-access, said-lock}
+use Rattle.node_core.proofs.Calling.{one-op, desk-op, unsaid, said-access, said-lock}
 use Rattle.node_core.proofs.Hearing.{heard-nothing, heard-moves}
 use Rattle.node_core.proofs.Turning.{wanted-op, comes-seen, step-seen, moves-accessed, moves-stepped}
 use Rattle.node_core.proofs.machine.Machine.hears_at_desk.Goals as goal
@@ -40,7 +41,7 @@ accessed-requires-clause-fits g c op want o seen =
     let p = c.args.proc.number in
     let calls = c.requires.call op want in
     let desk = desk-op (want_at c.args.self.now.procs p) op c.requires.not_new c.requires.not_list want in
-    c.in_ok-access-in-Access.ensures.fits o seen op (call-open d p op calls.0 desk calls.1).opened
+    c.in_ok-access-in-Access.ensures.fits o seen op (open-calling d p op calls.0 desk calls.1).opened
 
 pub stepped-requires : goal.stepped-requires
 stepped-requires g c =
@@ -62,7 +63,7 @@ stepped-requires g c =
       fits = λ op want.
           let calls = c.requires.call op want in
           let desk = desk-op w op c.requires.not_new c.requires.not_list want in
-          c.in_ok-step-in_default-call.ensures.fits op (call-open d p op calls.0 desk calls.1).opened;
+          c.in_ok-step-in_default-call.ensures.fits op (open-calling d p op calls.0 desk calls.1).opened;
       asks = c.in_ok-step-in_default-call.ensures.asks;
     }
 

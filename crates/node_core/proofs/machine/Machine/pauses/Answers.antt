@@ -1,5 +1,6 @@
 use Rattle.std.proofs.Common.{◌≡◌, ◌+◌, ◌<◌, ◌≤◌, ◌∷◌, None, length, get_or, map, refl, sym, ap, subst, ◌∙◌, arith}
 use Rattle.uid_names.specs.Names.{IsProcNumber}
+use Rattle.uid_names.proofs.Passed.{left-true}
 use Rattle.node_runs.specs.NodeStates.{ProcState, first_proc, proc_of}
 use Rattle.node_runs.specs.Incomings.{has_program}
 use Rattle.node_runs.specs.Doings.{pauses}
@@ -8,7 +9,7 @@ use Rattle.node_core.specs.Processes.{proc_seen}
 use Rattle.node_core.specs.Machines.{given_of, state_of}
 use Rattle.node_core.proofs.Seen.{seen-silent, seen-at}
 use Rattle.node_core.proofs.Leading.{led-told, led-some}
-use Rattle.node_core.proofs.Enabling.{program-there, nothing-open, phase-within, left-true}
+use Rattle.node_core.proofs.Enabling.{program-there, nothing-open, phase-within}
 use Rattle.node_core.proofs.machine.Machine.pauses.Goals as goal
 
 pub tell-requires-clause-there : goal.tell-requires-clause-there

@@ -1,7 +1,8 @@
 use Rattle.std.proofs.Common.{◌≡◌, Bool, true, not, Result, Ok, Err, OnOk, IfOk, sym, subst}
+use Rattle.std.proofs.lemmas.Bool.{not-true}
+use Rattle.uid_names.proofs.Passed.{left-true, right-true}
 use Rattle.node_runs.specs.Incomings.{enabled}
 use Rattle.node_runs.specs.Outcomes.{Stepped}
-use Rattle.node_runs.proofs.Bools.{left-true, right-true, not-true}
 use Rattle.node_runs.proofs.Happening.{enabled-happens}
 use Rattle.node_core.specs.Machines as machine
 use Rattle.node_core.specs.Machines.{inner_of}

@@ -1,7 +1,8 @@
 use Rattle.std.proofs.Common.{◌∙◌, map}
+use Rattle.uid_names.proofs.Somes.{IsSome-mapped}
 use Rattle.page_cache.specs.Caches.{page_at}
 use Rattle.page_cache.specs.Insides.{seen}
-use Rattle.page_cache.proofs.CacheLemmas.{IsCache-sound, frame-ordered, page_in-ordered, IsFrame-ordered, IsSome-mapped, IfNone-mapped}
+use Rattle.page_cache.proofs.CacheLemmas.{IsCache-sound, frame-ordered, page_in-ordered, IsFrame-ordered, IfNone-mapped}
 use Rattle.page_cache.proofs.cache.Cache.find.Goals as goal
 
 pub returns-clause-frame : goal.returns-clause-frame

@@ -1,6 +1,7 @@
 use Rattle.std.proofs.Common.{rules, ◌≡◌, false, length, sym, subst}
 use Rattle.std.specs.Prelude.{is_some}
 use Rattle.std.specs.List.{list_all}
+use Rattle.std.proofs.lemmas.Bool.{not-false}
 use Rattle.script_reader.specs.Numbers.{has_number, is_fate, is_no_number}
 use Rattle.script_reader.specs.NamesAsked.{has_name, is_no_name}
 use Rattle.script_reader.specs.NodeNames.{is_node_name}
@@ -12,7 +13,7 @@ use Rattle.script_reader.specs.Walk.Found.{AreNodesOf}
 use Rattle.script_reader.specs.Commands.{IsCommand}
 use Rattle.script_reader.specs.Walk.Seen.{seen, seen_arguments, seen_fate}
 use Rattle.script_reader.proofs.Arguing.{command_is, command_spoken, nodes_known}
-use Rattle.script_reader.proofs.Ranges.{both_true, fate_is, is_true, node_is, nodes_apart}
+use Rattle.script_reader.proofs.Ranges.{both_true, fate_is, node_is, nodes_apart}
 use Rattle.script_reader.proofs.draft.Draft.add.Goals as goal
 
 pub add_fate-requires-clause-apart : goal.add_fate-requires-clause-apart
@@ -39,7 +40,7 @@ add_command-requires-clause-range c =
     let arguments = seen_arguments c.in-Does.arguments.now in
     let formed = subst (λ l. IsFormed s (seen l)) c.in-Does.is c.requires.formed in
     let numbers = both_true (is_some c.in-Does.number) (list_all has_number arguments) (subst (λ l. is_no_number (seen l) ≡ false) c.in-Does.is c.requires.numbers) in
-    let names = is_true (list_all has_name arguments) (subst (λ l. is_no_name (seen l) ≡ false) c.in-Does.is c.requires.names) in
+    let names = not-false (list_all has_name arguments) (subst (λ l. is_no_name (seen l) ≡ false) c.in-Does.is c.requires.names) in
     let process : ProcessWord = record { node = c.in-Does.node.now; number = c.in-Does.number } in
     let known = both_true (is_node_name s.nodes process.node) (list_all (is_known s (proc_of s.nodes process)) arguments) (subst (λ l. is_unknown s (seen l) ≡ false) c.in-Does.is c.requires.known) in
     subst (IsCommand (length s.nodes)) (sym c.in_ok-command-in-Does.ensures) (command_is s.nodes c.in-Does.verb arguments formed.1 numbers.1 names (nodes_known s (proc_of s.nodes process) arguments known.1))
@@ -51,7 +52,7 @@ add_command-requires-clause-spoken c =
     let process : ProcessWord = record { node = c.in-Does.node.now; number = c.in-Does.number } in
     let formed = subst (λ l. IsFormed s (seen l)) c.in-Does.is c.requires.formed in
     let known = both_true (is_node_name s.nodes process.node) (list_all (is_known s (proc_of s.nodes process)) arguments) (subst (λ l. is_unknown s (seen l) ≡ false) c.in-Does.is c.requires.known) in
-    let fresh = is_true (list_all (is_fresh s) arguments) (subst (λ l. is_repeated s (seen l) ≡ false) c.in-Does.is c.requires.new) in
+    let fresh = not-false (list_all (is_fresh s) arguments) (subst (λ l. is_repeated s (seen l) ≡ false) c.in-Does.is c.requires.new) in
     let proc : c.proc_of-proc.result ≡ proc_of s.nodes process = search rules in
     rw (proc, c.in_ok-command-in-Does.ensures) (command_spoken s (proc_of s.nodes process) c.in-Does.verb arguments formed.1.kinds_are known.1 fresh)
 

@@ -5,12 +5,13 @@ use Rattle.node_runs.specs.Incomings.{Incoming, tick_of}
 use Rattle.ring_links.specs.declared.entry.Entry.{Entry}
 use Rattle.node_core.specs.declared.setup.Incoming as code
 use Rattle.node_core.specs.Receivings.{seen}
-use Rattle.node_core.specs.Nodes.{is_enabled}
+use Rattle.node_core.specs.Nodes.{is_enabled, Does}
 use Rattle.world_core.specs.declared.coming.Source as source
 use Rattle.world_core.specs.declared.coming.Source.TheVariants as sources
-use Rattle.world_core.specs.declared.notices.Notice.{Notice}
-use Rattle.world_core.specs.Stations.{Candidate, notice_incoming}
-use Rattle.world_core.specs.Listed.{event_at, Does}
+use Rattle.ring_links.specs.declared.notice.Notice.{Notice}
+use Rattle.ring_links.specs.Notices.{notice_incoming}
+use Rattle.world_core.specs.Stations.{Candidate}
+use Rattle.world_core.specs.Listed.{event_at}
 use Rattle.world_core.proofs.Elements.{if_some}
 use Rattle.world_core.proofs.Found.{IsFoundAt}
 use Rattle.world_core.specs.declared.station.LinkFrom.{LinkFrom}

@@ -3,7 +3,7 @@ use Rattle.std.specs.Prelude.{flat_map}
 use Rattle.dom_history.specs.declared.event.What.TheVariants.{Ready}
 use Rattle.fault_handler.specs.Desks.{procs}
 use Rattle.node_core.specs.Nodes.{state_of}
-use Rattle.world_core.specs.declared.notices.Notice.{Notice}
+use Rattle.ring_links.specs.declared.notice.Notice.{Notice}
 use Rattle.world_core.specs.declared.station.LinkFrom.{LinkFrom}
 use Rattle.world_core.specs.Stations.{comings, start, starts_of, noticed, oldest}
 use Rattle.world_core.proofs.OnOks.{on_ok}

@@ -1,10 +1,11 @@
 use Rattle.std.proofs.Common.{◌≡◌, ℕ, ◌≤◌, Option, List, refl, sym, ap, subst, ◌∙◌, add-one, arith}
 use Rattle.std.specs.Prelude.{IfSome, slice_get}
 use Rattle.dom_history.specs.declared.plan.FateRow.{FateRow}
-use Rattle.world_runs.specs.Draws.{next_state, drawn, state_after, EndsIn, ComesToLast}
+use Rattle.drawn_numbers.specs.Draws.{next_state, drawn, state_after}
+use Rattle.world_runs.specs.Draws.{EndsIn, ComesToLast}
 use Rattle.node_core.specs.Nodes.{state_of}
-use Rattle.world_core.specs.declared.run.RunFault.{RunFault}
-use Rattle.world_core.specs.declared.run.RunFault.TheVariants as faults
+use Rattle.node_core.specs.declared.fault.RunFault.{RunFault}
+use Rattle.node_core.specs.declared.fault.RunFault.TheVariants as faults
 use Rattle.world_core.specs.Stands.{IsTurnAt}
 use Rattle.world_core.proofs.OnOks.{same_fault}
 use Rattle.world_core.proofs.Running.{IsRunning, starts, stations-below, few-turns, goes-on, comes-to-last, ends-in}

@@ -2,7 +2,7 @@
 use Rattle.std.proofs.Common.{◌≡◌, ℕ, Option}
 use Rattle.node_runs.specs.Setups.{Setup}
 use Rattle.node_runs.specs.Runs.{first_world}
-use Rattle.world_runs.specs.Draws.{state_after}
+use Rattle.drawn_numbers.specs.Draws.{state_after}
 use Rattle.world_core.specs.Stands.{Stands}
 use Rattle.world_core.proofs.Running.{IsRunning}
 use Rattle.world_core.proofs.world.World.run_merged.Given as goal

@@ -1,6 +1,6 @@
 use Rattle.std.proofs.Common.{Err, List, sym, ap, subst, ◌∙◌}
 use Rattle.dom_history.specs.Events.{Happening}
-use Rattle.world_core.specs.declared.run.RunFault.TheVariants as faults
+use Rattle.node_core.specs.declared.fault.RunFault.TheVariants as faults
 use Rattle.world_core.specs.Stands.{IsRunOf}
 use Rattle.world_core.proofs.OnOks.{same_fault}
 use Rattle.world_core.proofs.world.World.run_turns.Goals as goal

@@ -2,7 +2,7 @@ use Rattle.std.proofs.Common.{refl, sym, ap, ◌∙◌}
 use Rattle.std.specs.Prelude.{◌==◌, ◌-◌}
 use Rattle.dom_history.specs.Plans.{fate_of}
 use Rattle.ring_messages.specs.Frames.{caller_of}
-use Rattle.world_core.specs.Stations.{notice_for}
+use Rattle.ring_links.specs.Notices.{notice_for}
 use Rattle.world_core.specs.Sending.{delivered}
 use Rattle.world_core.specs.Reached.{ins_if}
 use Rattle.world_core.proofs.OnOks.{on_ok}

@@ -1,0 +1,7 @@
+pub mod Machines
+pub mod Streams
+pub mod Copies
+pub mod Sims
+pub mod Talking
+pub mod Readies
+pub mod Begun

@@ -1,0 +1,9 @@
+pub mod Ranges
+pub mod Sources
+pub mod Dialogues
+pub mod Files
+pub mod NameTalks
+pub mod FileTalks
+pub mod FileTurns
+pub mod Talks
+pub mod Commands

@@ -1,0 +1,19 @@
+//! What a command on names or on the bytes of files asks of the store, one operation after another, and what it comes to.
+#![tactic(auto)]
+
+mod closing;
+mod copying;
+mod errand;
+mod file_talk;
+mod name_talk;
+mod naming;
+mod outcome;
+mod seeking;
+mod source;
+mod streaming;
+mod talk;
+mod turning;
+
+pub use naming::machine_for;
+pub use outcome::Outcome;
+pub use talk::{Machine, Step};

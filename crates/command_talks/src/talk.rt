@@ -1,0 +1,57 @@
+//! The machines of names and files that commands drive.
+ghost use Rattle.std.specs.Prelude.{◌≡◌, IfOk};
+
+use crate::file_talk::FileTalk;
+use crate::name_talk::NameTalk;
+use crate::outcome::Outcome;
+use dom_history::Op;
+use std::alloc::{AllocError, Global};
+use std::marker::Model;
+use uid_names::NoMemory;
+
+/// The machine of a command on names, or of one on the bytes of a file; None where that is over.
+pub enum Talk {
+    Name(NameTalk),
+    File(Option<FileTalk>),
+}
+
+impl Drop for Talk {
+    /// Lets the machine go. It stands here once, so that whoever holds a machine lets it go by one call.
+    fn drop(self) {
+        match self {
+            Talk::Name(_machine) => {}
+            Talk::File(_machine) => {}
+        }
+    }
+}
+
+/// A machine that lies apart, so that what holds it is a few words and is moved as such.
+#[derive(Drop)]
+pub struct Machine {
+    pub(crate) talk: Box<Talk>,
+}
+
+impl Model for Machine {
+    ghost use Rattle.command_talks.specs.declared.talk.Talk.{Talk};
+
+    ghost Value = { Talk };
+
+    ghost view = { λ m. m.talk.value };
+}
+
+impl Machine {
+    /// This machine.
+    pub(crate) fn new(alloc: Global, talk: Talk) -> Result<Machine, NoMemory>
+        ensures { IfOk result (λ machine. machine ≡ talk) }
+    {
+        let talk = Box::new(alloc, talk).map_err(AllocError::from)?;
+        Ok(Machine { talk })
+    }
+}
+
+/// What a machine says: its next operation, or what the command has come to.
+#[derive(Drop)]
+pub enum Step {
+    Do(Op),
+    Over(Outcome),
+}

@@ -1,0 +1,11 @@
+pub mod Filling
+pub mod NamesMarked
+pub mod SameNames
+pub mod Pieces
+pub mod NodeNames
+pub mod Dropping
+pub mod DirectoriesRead
+pub mod RowPlaces
+pub mod LastNames
+pub mod RecordsRead
+pub mod SlotsPut

@@ -1,0 +1,9 @@
+pub mod Wholes
+pub mod Components
+pub mod Padding
+pub mod Marks
+pub mod Records
+pub mod Directories
+pub mod LastNames
+pub mod Listings
+pub mod Paths

@@ -1,0 +1,8 @@
+//! Draws from a seed: numbers that look like chance, and are the same at each run.
+#![tactic(auto)]
+
+pub mod draws;
+#[cfg(test)]
+mod tests;
+
+pub use draws::Draws;

@@ -1,0 +1,317 @@
+//! What is done by names and streams, as a row says it, and what comes of it: `crd d 8` and `added`.
+ghost use Rattle.std.specs.Prelude.{IsSome, IfOk};
+ghost use Rattle.uid_names.specs.Rooms.{IsRoom};
+ghost use Rattle.dir_records.specs.Paths.{route_of};
+
+use crate::machines::{add, add_at, list, remove, remove_at, walk};
+use crate::records::{put_names, read_again, record_bytes};
+use crate::refusals::{Refusal, refused};
+use crate::streams::{Served, appending, copy, fill, leave, open, read, serve, some_bytes};
+use crate::world::World;
+use anyhow::{Context, Result, bail};
+use dir_records::{Component, is_path};
+use dom_history::{EndWord, Op, Reply};
+use dom_text::{cut, decimal, put_decimal};
+use mapped_streams::StreamResult;
+use naming_tree::{Addition, NameResult, Walked};
+use std::alloc::Global;
+use uid_names::{ByteList, MAX_ROOM, Mode, ObjKind, Uid};
+
+/// A result in words, where it has no rows.
+fn result_word(come: &NameResult) -> &'static [u8] {
+    match come {
+        NameResult::Found(Walked::Root) => b"root",
+        NameResult::Found(_) => b"found",
+        NameResult::Added(_) => b"added",
+        NameResult::Removed => b"removed",
+        NameResult::Rows(_) => b"rows",
+        NameResult::Nodes => b"nodes",
+        NameResult::NoName => b"no name",
+        NameResult::NameExists => b"name exists",
+        NameResult::NotDir => b"not a directory",
+        NameResult::IsDir => b"is a directory",
+        NameResult::DirFull => b"directory full",
+        NameResult::LinkLoop => b"link loop",
+        NameResult::BadDir => b"bad directory",
+        NameResult::Store(reply) => EndWord::of(reply).word().as_bytes(),
+    }
+}
+
+/// A result in words.
+fn words(alloc: Global, come: &NameResult) -> Result<ByteList> {
+    let mut words = ByteList::new(alloc);
+    match come {
+        NameResult::Rows(rows) => put_names(&mut words, rows)?,
+        _ => words.extend(result_word(come))?,
+    }
+    Ok(words)
+}
+
+/// What a stream asked and came to, in words. Bytes that are as many of those that files are filled with are counted, and
+/// so are other ones where they are many.
+fn stream_words(alloc: Global, served: &Served) -> Result<ByteList> {
+    let mut words = served.words.copy(alloc)?;
+    match &served.result {
+        StreamResult::Bytes(bytes) => {
+            let count = bytes.bytes().len() as u64;
+            if bytes.bytes() == some_bytes(alloc, count)?.bytes() {
+                put_decimal(&mut words, count)?;
+            } else if count > 64 {
+                put_decimal(&mut words, count)?;
+                words.extend(b" bytes")?;
+            } else {
+                words.extend(bytes.bytes())?;
+            }
+        }
+        StreamResult::Fine => words.extend(b"ok")?,
+        StreamResult::Count(count) => put_decimal(&mut words, *count)?,
+        StreamResult::Store(reply) => words.extend(EndWord::of(reply).word().as_bytes())?,
+    }
+    Ok(words)
+}
+
+/// The pages that a word spells; one where there is none.
+fn room(word: &[u8]) -> Result<u32>
+    ensures { IfOk result IsRoom }
+{
+    if word.is_empty() {
+        return Ok(1);
+    }
+    let room = decimal(word)?;
+    if room < 1 || room > MAX_ROOM as u64 {
+        bail!("no room");
+    }
+    Ok(room as u32)
+}
+
+/// Adds a link with a text.
+fn link(world: &mut World, path: &[u8], text: &[u8]) -> Result<NameResult>
+    requires { IsSome (route_of path.now) }
+{
+    if !is_path(world.alloc, text)? {
+        bail!("a link to no path");
+    }
+    let text = Some(ByteList::from_slice(world.alloc, text)?);
+    add(world, path, ObjKind::Link, 1, text)
+}
+
+/// Adds files `0`, `1` and so on to a directory, and looks at it; or the first refusal.
+fn crowd(world: &mut World, path: &[u8], number: u64) -> Result<NameResult>
+    requires { IsSome (route_of path.now) }
+{
+    for i in 0..number {
+        let mut name = ByteList::from_slice(world.alloc, path)?;
+        name.push(b'/')?;
+        put_decimal(&mut name, i)?;
+        if !is_path(world.alloc, name.bytes())? {
+            bail!("no path to fill");
+        }
+        match add(world, name.bytes(), ObjKind::File, 1, None)? {
+            NameResult::Added(_) => {}
+            refused => return Ok(refused),
+        }
+    }
+    walk(world, path, true)
+}
+
+/// Adds a file by its directory, the one in which the process works.
+fn add_there(world: &mut World, name: &[u8]) -> Result<NameResult> {
+    let dir = world.entry();
+    let what = Addition {
+        name: Component::read(name).context("no name")?,
+        kind: ObjKind::File,
+        room: 1,
+        text: None,
+    };
+    add_at(world, dir, what)
+}
+
+/// Removes a name by its directory, the one in which the process works.
+fn remove_there(world: &mut World, name: &[u8]) -> Result<NameResult> {
+    let dir = world.entry();
+    remove_at(world, dir, Component::read(name).context("no name")?)
+}
+
+/// The object to which a path led.
+fn object_of(come: &NameResult) -> Option<Uid> {
+    match come {
+        NameResult::Found(Walked::At { uid, .. }) => Some(*uid),
+        _ => None,
+    }
+}
+
+/// The object at a path, no link at its end followed.
+fn object(world: &mut World, path: &[u8]) -> Result<Uid>
+    requires { IsSome (route_of path.now) }
+{
+    let come = walk(world, path, false)?;
+    Ok(object_of(&come).context("no object")?)
+}
+
+/// Stores the records that words spell, behind the byte where they go, into a directory that another process locks.
+fn put(world: &mut World, uid: Uid, words: &[u8]) -> Result<Reply> {
+    let (at, records) = cut(words, b' ').context("no place")?;
+    let at = u32::try_from(decimal(at)?)?;
+    let bytes = record_bytes(world.alloc, records)?;
+    let _number = uid.number();
+    let mode = Mode::Write;
+    match world.reply_to_other(&Op::Lock { uid, mode })? {
+        Reply::Fine => {}
+        refused => return Ok(refused),
+    }
+    match world.store_by_other(uid, at, bytes.bytes())? {
+        Reply::Fine => world.reply_to_other(&Op::Unlock { uid }),
+        refused => Ok(refused),
+    }
+}
+
+/// What another process is answered that works on an object itself.
+fn done_to(world: &mut World, verb: &[u8], uid: Uid, word: &[u8]) -> Result<Reply> {
+    let _number = uid.number();
+    let mode = Mode::Write;
+    match verb {
+        b"lock" => world.reply_to_other(&Op::Lock { uid, mode }),
+        b"unlock" => world.reply_to_other(&Op::Unlock { uid }),
+        b"delete" => world.reply_to_other(&Op::Delete { uid }),
+        b"store" => world.store_by_other(uid, 0, word),
+        b"put" => put(world, uid, word),
+        _ => bail!("no such verb"),
+    }
+}
+
+/// Whether there is an object of this counter at the node: what another process is answered that locks it.
+fn made(world: &mut World, counter: u64) -> Result<Reply> {
+    if counter < 1 || counter > 1000 {
+        bail!("no counter");
+    }
+    let uid = Uid::from_parts(counter, world.own());
+    done_to(world, b"lock", uid, b"")
+}
+
+/// A process of the node of an object works on.
+fn go(world: &mut World, path: &[u8]) -> Result<NameResult>
+    requires { IsSome (route_of path.now) }
+{
+    let uid = object(world, path)?;
+    world.go_to(uid.home());
+    walk(world, path, true)
+}
+
+/// What comes of a command on names, most by their verbs in the shell. A further word is a room, a text or a number.
+fn come_of(world: &mut World, verb: &[u8], path: &[u8], word: &[u8]) -> Result<NameResult>
+    requires { IsSome (route_of path.now) }
+{
+    match verb {
+        b"ld" => list(world, path),
+        b"bind" => walk(world, path, true),
+        b"crf" => add(world, path, ObjKind::File, room(word)?, None),
+        b"crd" => add(world, path, ObjKind::Directory, room(word)?, None),
+        b"crl" => link(world, path, word),
+        b"dlf" => remove(world, path),
+        b"add-there" => add_there(world, path),
+        b"remove-there" => remove_there(world, path),
+        b"go" => go(world, path),
+        b"made" => Ok(NameResult::Store(made(world, decimal(path)?)?)),
+        b"crowd" => crowd(world, path, decimal(word)?),
+        b"fail" => {
+            world.fail_deletion();
+            walk(world, path, true)
+        }
+        _ => {
+            let uid = object(world, path)?;
+            Ok(NameResult::Store(done_to(world, verb, uid, word)?))
+        }
+    }
+}
+
+/// A text of some of the bytes that files are filled with, put behind a file.
+fn append_some(world: &mut World, uid: Uid, count: u64) -> Result<Served> {
+    let text = some_bytes(world.alloc, count)?;
+    let machine = appending(world.alloc, uid, text.bytes())?;
+    serve(world, machine, &None)
+}
+
+/// What comes of a command on the bytes of a file: `catf`, `lnf`, `apf`, `cpf` of the shell, and `apn` of a number.
+fn stream(world: &mut World, verb: &[u8], uid: Uid, word: &[u8]) -> Result<Served> {
+    match verb {
+        b"catf" => read(world, uid, false, &None),
+        b"lnf" => read(world, uid, true, &None),
+        b"apf" => {
+            let machine = appending(world.alloc, uid, word)?;
+            serve(world, machine, &None)
+        }
+        b"apn" => append_some(world, uid, decimal(word)?),
+        b"cpf" => {
+            if !is_path(world.alloc, word)? {
+                bail!("no path to copy to");
+            }
+            let to = object(world, word)?;
+            copy(world, uid, to, &None)
+        }
+        _ => bail!("no such stream"),
+    }
+}
+
+/// What comes of the process's own work on a file: it is filled with so many bytes, opened in a mode, or left.
+fn prepare(world: &mut World, verb: &[u8], uid: Uid, word: &[u8]) -> Result<()> {
+    match (verb, word) {
+        (b"fill", count) => fill(world, uid, decimal(count)?),
+        (b"open", b"r") => {
+            let _address = open(world, uid, Mode::Read)?;
+            Ok(())
+        }
+        (b"open", _) => {
+            let _address = open(world, uid, Mode::Write)?;
+            Ok(())
+        }
+        _ => leave(world, uid),
+    }
+}
+
+/// The first word of a text, and what stands behind it.
+fn first_word(text: &[u8]) -> (&[u8], &[u8]) {
+    match cut(text, b' ') {
+        Some(parts) => parts,
+        None => (text, &[]),
+    }
+}
+
+/// What a stream asks and comes to that is refused as a row says it: `catf 3 1 mapped closings`.
+fn refused_so(alloc: Global, words: &[u8]) -> Result<ByteList> {
+    let (verb, rest) = first_word(words);
+    let (at, rest) = first_word(rest);
+    let (which, rest) = first_word(rest);
+    let refusal = Refusal {
+        at: decimal(at)?,
+        which: decimal(which)?,
+        closings: matches!(rest, b"closings" | b"mapped closings"),
+    };
+    let mapped = matches!(rest, b"mapped" | b"mapped closings");
+    stream_words(alloc, &refused(alloc, verb, mapped, refusal)?)
+}
+
+/// What comes of a command, in words.
+pub fn answer(world: &mut World, command: &[u8]) -> Result<ByteList> {
+    let (verb, rest) = first_word(command);
+    match verb {
+        b"records" => return read_again(world.alloc, rest),
+        b"refused" => return refused_so(world.alloc, rest),
+        _ => {}
+    }
+    let (path, word) = first_word(rest);
+    if !is_path(world.alloc, path)? {
+        return Ok(ByteList::from_slice(world.alloc, b"no path")?);
+    }
+    match verb {
+        b"catf" | b"lnf" | b"apf" | b"apn" | b"cpf" => {
+            let uid = object(world, path)?;
+            stream_words(world.alloc, &stream(world, verb, uid, word)?)
+        }
+        b"fill" | b"open" | b"leave" => {
+            let uid = object(world, path)?;
+            prepare(world, verb, uid, word)?;
+            Ok(ByteList::from_slice(world.alloc, b"ok")?)
+        }
+        _ => words(world.alloc, &come_of(world, verb, path, word)?),
+    }
+}

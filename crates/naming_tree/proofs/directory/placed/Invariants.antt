@@ -1,7 +1,0 @@
-use Rattle.std.proofs.Common.{◌≡◌, drop}
-use Rattle.naming_tree.specs.Directories.{placed_from}
-use Rattle.naming_tree.proofs.directory.placed.Given as goal
-
--- none so far has the name
-abbrev pub invariant-loop-i : goal.invariant-loop-i
-invariant-loop-i l = placed_from 0 l.name l.slots ≡ placed_from l.i l.name (drop l.i l.slots)

@@ -1,0 +1,5 @@
+use Rattle.plain_store.proofs.PlainEntries.{entries-answered, entries_plain}
+use Rattle.plain_store.proofs.laws.answered_entries_are_plain_runs.Goals as goal
+
+pub returns : goal.returns
+returns c = record { entries = entries-answered; plain = entries_plain }

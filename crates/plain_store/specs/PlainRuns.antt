@@ -1,0 +1,29 @@
+-- A run of the plain store, as a history.
+use Rattle.std.specs.Prelude.{◌+◌, ◌≡◌, List, [], ◌∷◌, All, length, map}
+use Rattle.uid_names.specs.Names.{ProcName}
+use Rattle.uid_names.specs.Openings.{Start}
+use Rattle.dom_history.specs.declared.op.Want.{Want}
+use Rattle.dom_history.specs.declared.op.Entry.{Entry}
+use Rattle.dom_history.specs.Histories.{Answered, History, entries}
+use Rattle.dom_history.specs.Legal.{IsLegal}
+use Rattle.dom_history.specs.Follows.{Heard, Follows, IsEnded, IsPhased}
+use Rattle.dom_history.specs.Runs.{IsEntry, IsFaultless}
+
+-- nothing but these entries, the newest first
+abbrev pub history_of : List Entry → History
+history_of es = record { items = map Answered es; open_ops = [] }
+
+-- the entries have the ticks 1, 2 and so on, each at the node of its process; the newest is first
+abbrev pub AreTicked : List Entry → Type 0
+AreTicked [] = Unit {0}
+AreTicked (e ∷ past) = (e.place ≡ record { tick = length past + 1; node = e.proc.node }) × AreTicked past
+
+-- what the plain store did for these programs until all were done
+pub record IsPlainRun (opening : Start) (asks : ProcName → Heard → Want) (h : History) : Type 0 where
+  pub legal : IsLegal opening h
+  pub phased : IsPhased (entries h.items)
+  pub ended : IsEnded asks h
+  pub follows : Follows asks h
+  pub no_acts : All IsEntry h.items
+  pub no_faults : All (λ e. IsFaultless e.reply) (entries h.items)
+  pub ticked : AreTicked (entries h.items)

@@ -1,0 +1,13 @@
+pub mod Orders
+pub mod PageNames
+pub mod Keeping
+pub mod Performing
+pub mod Stepping
+pub mod Standing
+pub mod Choosing
+pub mod Rooming
+pub mod Deciding
+pub mod Running
+pub mod Owning
+pub mod Turned
+pub mod Judging

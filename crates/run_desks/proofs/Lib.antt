@@ -1,0 +1,14 @@
+pub mod DeskSteps
+pub mod EventMoves
+pub mod GoingPages
+pub mod KnownLengths
+pub mod Staying
+pub mod OpenCalls
+pub mod OpenTasks
+pub mod Released
+pub mod AskedHomes
+pub mod TaskPlaces
+pub mod WaitingReleases
+pub mod EndedOps
+pub mod ToldAnswers
+pub mod KeptLocks

@@ -1,4 +1,0 @@
-pub mod LiveLocks
-pub mod StandingLocks
-pub mod OpenDecisions
-pub mod KnownRooms

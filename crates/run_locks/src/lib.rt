@@ -1,4 +1,0 @@
-//! Laws of locks: what processes keep stands at the homes.
-#![tactic(auto)]
-
-pub mod laws;

@@ -1,2 +1,0 @@
-pub mod DeskReplies
-pub mod HomeReplies

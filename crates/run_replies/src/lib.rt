@@ -1,4 +1,0 @@
-//! What desks and homes reply is what one store says.
-#![tactic(auto)]
-
-pub mod laws;

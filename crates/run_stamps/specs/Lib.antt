@@ -1,4 +1,0 @@
-pub mod Items
-pub mod Contents
-pub mod Stamps
-pub mod ObjectMoves

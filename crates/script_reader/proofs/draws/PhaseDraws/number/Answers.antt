@@ -1,6 +1,0 @@
-use Rattle.std.proofs.Common.{ap, ◌∙◌}
-use Rattle.script_reader.specs.Generated.{number_of}
-use Rattle.script_reader.proofs.draws.PhaseDraws.number.Goals as goal
-
-pub returns : goal.returns
-returns c = c.self.invariant.numbers c.args.q c.requires ∙ ap (λ begin. number_of begin c.args.q) c.self.view_is

@@ -1,6 +1,0 @@
-use Rattle.std.proofs.Common.{ap, ◌∙◌}
-use Rattle.script_reader.specs.Generated.{offset_of}
-use Rattle.script_reader.proofs.draws.PhaseDraws.offset.Goals as goal
-
-pub returns-clause-value : goal.returns-clause-value
-returns-clause-value c = c.self.invariant.offsets c.args.q c.requires ∙ ap (λ begin. offset_of begin c.args.q) c.self.view_is

@@ -1,6 +1,0 @@
-use Rattle.std.proofs.Common.{ap, ◌∙◌}
-use Rattle.script_reader.specs.Generated.{shift_of}
-use Rattle.script_reader.proofs.draws.PhaseDraws.shift.Goals as goal
-
-pub returns-clause-value : goal.returns-clause-value
-returns-clause-value c = c.self.invariant.shift ∙ ap shift_of c.self.view_is

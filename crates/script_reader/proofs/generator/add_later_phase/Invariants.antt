@@ -1,7 +1,0 @@
-use Rattle.std.proofs.Common.{◌≡◌}
-use Rattle.script_reader.specs.Generated.{later_work, rows_of}
-use Rattle.script_reader.specs.Walk.Begun.{with_rows}
-use Rattle.script_reader.proofs.generator.add_later_phase.Given as goal
-
-abbrev pub invariant-loop-at : goal.invariant-loop-at
-invariant-loop-at l = l.draft ≡ with_rows l.fn.draft (rows_of l.fn.draft.phases (later_work l.before l.now) l.at)

@@ -1,0 +1,5 @@
+pub mod Draining
+pub mod Linking
+pub mod Keeping
+pub mod Words
+pub mod Spelling

@@ -1,0 +1,4 @@
+pub mod Carrying
+pub mod Wires
+pub mod Sample
+pub mod Spelt
