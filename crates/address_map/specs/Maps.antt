@@ -6,8 +6,8 @@ use Rattle.uid_names.specs.declared.limits.TheConstants.{PROCESS_MAPPINGS}
 use Rattle.address_map.specs.declared.mapping.Mapping.{Mapping}
 use Rattle.address_map.specs.declared.map.MapRefusal.{MapRefusal}
 use Rattle.address_map.specs.declared.map.MapRefusal.TheVariants.{TooManyMaps, NoSegment}
-use Rattle.address_map.specs.Mappings.{address_of, is_of}
-use Rattle.address_map.specs.Runs.{is_apart}
+use Rattle.address_map.specs.Mappings.{address_of, is_of, mapping_of}
+use Rattle.address_map.specs.Runs.{is_apart, lowest_run}
 
 -- a mapping takes a segment or more, all of the address space
 pub record IsMapping (m : Mapping) : Type 0 where
@@ -38,3 +38,7 @@ mappings_after u count (Some m) full run mappings = mappings
 mappings_after u count None true run mappings = mappings
 mappings_after u count None false None mappings = mappings
 mappings_after u count None false (Some first) mappings = mappings ++ record { uid = u; first = first; segments = count } ∷ []
+
+-- the mappings after u is mapped
+abbrev pub with_mapping : ObjectName → ℕ → List Mapping → List Mapping
+with_mapping u count mappings = mappings_after u count (mapping_of u mappings) (is_full mappings) (lowest_run count mappings) mappings

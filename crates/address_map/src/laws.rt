@@ -3,14 +3,13 @@ ghost use Rattle.std.specs.Prelude.{◌≡◌, ◌≤◌, ℕ, true, [], Some, N
 ghost use Rattle.uid_names.specs.Names.{ObjectName, same_uid};
 ghost use Rattle.address_map.specs.declared.mapping.Mapping.{Mapping};
 ghost use Rattle.address_map.specs.Mappings.{lies_in, mapping_of, mapping_at, without_mapping};
-ghost use Rattle.address_map.specs.Runs.{lowest_run};
-ghost use Rattle.address_map.specs.Maps.{IsLayout, is_full, mappings_after};
+ghost use Rattle.address_map.specs.Maps.{IsLayout, with_mapping};
 
 /// Mappings stay few and apart, each object's once, whatever is mapped and unmapped.
 pub fn changes_keep_the_layout()
     ensures start { IsLayout [] }
     ensures mapped { (u : ObjectName) (count : ℕ) (mappings : List Mapping) → IsLayout mappings → 1 ≤ count →
-        IsLayout (mappings_after u count (mapping_of u mappings) (is_full mappings) (lowest_run count mappings) mappings) }
+        IsLayout (with_mapping u count mappings) }
     ensures unmapped { (u : ObjectName) (mappings : List Mapping) → IsLayout mappings → IsLayout (without_mapping u mappings) }
 {}
 

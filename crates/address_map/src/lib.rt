@@ -4,8 +4,6 @@
 pub mod laws;
 pub mod map;
 pub mod mapping;
-#[cfg(test)]
-mod tests;
 
 pub use map::{AddressMap, MapRefusal, NotMapped};
 pub use mapping::Mapping;

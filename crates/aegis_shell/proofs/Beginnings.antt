@@ -24,7 +24,7 @@ use Rattle.command_talks.specs.declared.talk.Talk.{Talk}
 use Rattle.aegis_shell.specs.declared.working.Working.{Working}
 use Rattle.command_talks.proofs.Begun.{ranged_sound}
 use Rattle.aegis_shell.proofs.Counts.{AreShort, ops_short}
-use Rattle.aegis_shell.proofs.Fittings.{op_yes, then_fits}
+use Rattle.aegis_shell.proofs.RangeTests.{op_yes}
 
 -- a machine that goes on leads on, if what it asks is in its ranges
 pub leads_on : (talk : Talk) (op : Op) (found : Option Turn) → Some (Asks talk op) ≡ found → IsOp op → Goes (Talking talk) ≡ on_turn found
@@ -35,7 +35,7 @@ pub talk_hears : (talk : Talk) (reply : Reply) → FitsAsked (talk_asks talk) (S
 talk_hears talk reply fits = by_asked (talk_asks talk) fits where
   by_asked : (asked : Option Op) → FitsAsked asked (Some reply) → talk_goes talk (Some reply) ≡ on_talk (may_be asked (Some reply)) talk (Some reply)
   by_asked None fits = absurd fits
-  by_asked (Some op) fits = ap (λ b. on_talk b talk (Some reply)) (sym (then_fits op reply fits))
+  by_asked (Some op) fits = ap (λ b. on_talk b talk (Some reply)) (sym fits)
 
 -- a command that has a dialogue is planned so
 talked : (part : Part) (working : Working) (uid : Option ObjectName) (command : Command) → talks command ≡ true → is_long part working command ≡ false → is_sound command ≡ true → plan_of part working uid command ≡ Talks

@@ -6,6 +6,7 @@ use Rattle.std.proofs.lemmas.List.{length-reverse}
 use Rattle.std.proofs.lemmas.Grind.{reverse_onto}
 use Rattle.std.proofs.lemmas.List.Elements.{All-head, All-tail}
 use Rattle.uid_names.specs.Names.{ObjectName, ProcName}
+use Rattle.dom_history.specs.Fitting.{can_have}
 use Rattle.dom_history.specs.declared.op.Op.{Op}
 use Rattle.dom_history.specs.declared.op.Reply.{Reply}
 use Rattle.dom_history.specs.declared.op.Reply.TheVariants.{Fine, Locks}
@@ -16,17 +17,16 @@ use Rattle.script_reader.specs.declared.command.Command.TheVariants.{Bind, Crf, 
 use Rattle.script_reader.specs.Scripts.{Content, IsContent}
 use Rattle.script_reader.specs.Variables.{declared_object}
 use Rattle.command_talks.specs.Dialogues.{Dialogue, Ends as Finished, Asks as Asking}
-use Rattle.aegis_shell.specs.declared.work.Job.{Job}
 use Rattle.command_talks.specs.declared.outcome.Outcome.{Outcome}
 use Rattle.command_talks.specs.declared.outcome.Outcome.TheVariants.{Replied, Written}
 use Rattle.aegis_shell.specs.declared.working.Working.{Working}
-use Rattle.aegis_shell.specs.Work.{Part, part_of, jobs_of, object_of, is_of_names}
+use Rattle.aegis_shell.specs.Work.{Job, Part, part_of, jobs_of, object_of, is_of_names, IsPlain}
 use Rattle.aegis_shell.specs.Ranges.{IsJob, AreJobs}
 use Rattle.aegis_shell.specs.Operations.{ops_of}
 use Rattle.aegis_shell.specs.Outcomes.{standing_after, lock_texts}
 use Rattle.command_talks.specs.Commands.{dialogue_of}
 use Rattle.aegis_shell.specs.Plans.{Plan, Makes, Talks, Lists, Writes, makes, plan_of}
-use Rattle.aegis_shell.specs.Replies.{can_be, is_op}
+use Rattle.aegis_shell.specs.RangeTests.{is_op}
 use Rattle.aegis_shell.specs.Standing.{Standing, site_of, first_standing}
 use Rattle.aegis_shell.specs.AnswerTexts.{is_done, together, so_far}
 use Rattle.aegis_shell.specs.Asking.{Told, Reached, behind_phases, Course, Asks, Ends, on_reply, carry_out, on_said, converse, is_more, last_row, list_locks, carry, plan_at, course_of, on_course, on_phases, reach, reached, ask, answers}
@@ -86,7 +86,7 @@ talked-more (Asking op further) told rest more outcome is = by_range (is_op op) 
       in_range_none op further (told ++ more) r ∙ ends-more (Replied Fine) outcome told rest more (sym (in_range_none op further told r) ∙ is)
   by_range true (Some reply ∷ told) r is later =
       in_range_some op further reply (told ++ more) r
-      ∙ said-more (can_be op reply) (Some reply) outcome told rest more (converse (further reply) told) (converse (further reply) (told ++ more))
+      ∙ said-more (can_have op reply) (Some reply) outcome told rest more (converse (further reply) told) (converse (further reply) (told ++ more))
       (later reply told) (sym (in_range_some op further reply told r) ∙ is)
 
 listed-more : (names : List (List ℕ)) (home : ℕ) (last : Option (ObjectName × ProcName)) (text : List ℕ) (told rest more : Told) (outcome : Outcome)
@@ -209,9 +209,6 @@ plain-ends part at job told plain enough =
     (makes-ends part at job.command (ops_of part.node job.command uid) told (ops_short part.node job.command uid) enough)
 
 -- a process of commands without names that was told enough is done
-abbrev pub IsPlain : Job → Type 0
-IsPlain job = is_of_names job.command ≡ false
-
 pub reach-done : (part : Part) (phase : ℕ) (at : Standing) (jobs : List Job) (told : Told) → All IsPlain jobs → AreJobs jobs → (1000 - phase) + 2 * length jobs ≤ length told → (reach part phase at jobs told).want ≡ Done
 reach-done part phase at [] told plain ranged enough = refl
 reach-done part phase at (job ∷ jobs) told plain ranged enough =

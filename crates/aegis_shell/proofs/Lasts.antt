@@ -5,8 +5,8 @@ use Rattle.uid_names.specs.Names.{IsName}
 use Rattle.uid_names.specs.declared.lock_row.LockRow.{LockRow}
 use Rattle.dom_history.specs.Ranges.{IsProcName}
 use Rattle.aegis_shell.specs.Asking.{last_row}
-use Rattle.aegis_shell.specs.Replies.{is_row}
-use Rattle.aegis_shell.proofs.Fittings.{row_yes}
+use Rattle.aegis_shell.specs.RangeTests.{is_row}
+use Rattle.aegis_shell.proofs.RangeTests.{row_yes}
 
 -- the place of the last one, behind the first
 last_behind : (x y : LockRow) (rows : List LockRow) → slice_get (x ∷ y ∷ rows) (length (x ∷ y ∷ rows) - 1) ≡ slice_get (y ∷ rows) (length (y ∷ rows) - 1)

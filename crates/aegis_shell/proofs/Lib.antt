@@ -1,6 +1,7 @@
 pub mod Variables
+pub mod Writings
 pub mod Counts
-pub mod Fittings
+pub mod RangeTests
 pub mod Lasts
 pub mod Beginnings
 pub mod Calls

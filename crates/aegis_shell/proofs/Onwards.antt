@@ -9,13 +9,12 @@ use Rattle.dom_history.specs.declared.op.Reply.{Reply}
 use Rattle.dom_history.specs.declared.op.Want.{Want}
 use Rattle.dom_history.specs.declared.op.Want.TheVariants.{Phase, Done}
 use Rattle.script_reader.specs.declared.command.Command.{Command}
-use Rattle.aegis_shell.specs.declared.work.Job.{Job}
 use Rattle.command_talks.specs.declared.outcome.Outcome.{Outcome}
 use Rattle.aegis_shell.specs.declared.stage.Stage.{Stage}
 use Rattle.aegis_shell.specs.declared.stage.Stage.TheVariants.{Between, First, Second, Talks as Talking, Lists as Listing}
 use Rattle.aegis_shell.specs.Bound.{Bound}
 use Rattle.aegis_shell.specs.declared.working.Working.{Working}
-use Rattle.aegis_shell.specs.Work.{Part}
+use Rattle.aegis_shell.specs.Work.{Job, Part}
 use Rattle.aegis_shell.specs.Standing.{Standing}
 use Rattle.aegis_shell.specs.Outcomes.{outcome_text, bound_by, working_after, standing_after}
 use Rattle.aegis_shell.specs.Asking.{Told, Reached, waits, behind_phases, Course, Ends, course_of, on_course, on_phases, reach}

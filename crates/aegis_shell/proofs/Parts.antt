@@ -17,9 +17,8 @@ use Rattle.script_reader.specs.Arguments.{Given, Home, HomeNode}
 use Rattle.script_reader.specs.Commands.{IsHome, IsArgument, arguments_of, IsCommand, IsCommandRow}
 use Rattle.script_reader.specs.Places.{places_of}
 use Rattle.script_reader.specs.Scripts.{Content, IsContent, IsNode}
-use Rattle.aegis_shell.specs.declared.work.Job.{Job}
 use Rattle.aegis_shell.specs.Bound.{Bound}
-use Rattle.aegis_shell.specs.Work.{job_of}
+use Rattle.aegis_shell.specs.Work.{Job, job_of}
 use Rattle.command_talks.specs.Ranges.{IsRanged}
 use Rattle.aegis_shell.specs.Ranges.{IsJob, AreJobs}
 

@@ -9,6 +9,7 @@ use Rattle.uid_names.specs.Names.{ProcName, ObjectName, IsName, same_proc}
 use Rattle.uid_names.specs.declared.limits.TheConstants.{PAGE_BYTES, MAX_NODES}
 use Rattle.uid_names.specs.declared.lock_row.LockRow.{LockRow}
 use Rattle.uid_names.specs.declared.opening.Object.{Object}
+use Rattle.dom_history.specs.Fitting.{can_have}
 use Rattle.dom_history.specs.declared.op.Spot.{Spot}
 use Rattle.dom_history.specs.declared.op.Spot.TheVariants.{Of, Addr}
 use Rattle.dom_history.specs.declared.op.Op.{Op}
@@ -30,9 +31,8 @@ use Rattle.naming_tree.specs.declared.step.NameResult.TheVariants as results
 use Rattle.command_talks.specs.declared.outcome.Outcome.{Outcome}
 use Rattle.command_talks.specs.declared.outcome.Outcome.TheVariants.{Replied, Came, Written}
 use Rattle.aegis_shell.specs.declared.working.Working.{Working}
-use Rattle.aegis_shell.specs.declared.work.Job.{Job}
 use Rattle.aegis_shell.specs.Bound.{Bound, bind}
-use Rattle.aegis_shell.specs.Work.{Part, part_of, variable, object_in, or_else, object_of, job_of}
+use Rattle.aegis_shell.specs.Work.{Job, Part, part_of, variable, object_in, or_else, object_of, job_of}
 use Rattle.command_talks.specs.Ranges.{IsRanged}
 use Rattle.aegis_shell.specs.Ranges.{IsJob, AreJobs}
 use Rattle.aegis_shell.specs.Operations.{page_rest, behind, loads, loads_if, stores, stores_if, on_object, ops_of}
@@ -40,10 +40,10 @@ use Rattle.aegis_shell.specs.AnswerTexts.{is_done, together, path_too_long}
 use Rattle.aegis_shell.specs.Outcomes.{bound_by, bind_if, lock_texts, standing_after}
 use Rattle.command_talks.specs.Commands.{talks, is_sound, dialogue_of}
 use Rattle.aegis_shell.specs.Plans.{Plan, Makes, Talks, Lists, Writes, makes, is_long, plan_of}
-use Rattle.aegis_shell.specs.Replies.{can_be, is_op, is_row, is_uid}
+use Rattle.aegis_shell.specs.RangeTests.{is_op, is_row, is_uid}
 use Rattle.aegis_shell.specs.Standing.{Standing, site_of, first_standing}
 use Rattle.aegis_shell.specs.Asking.{Told, Reached, behind_phases, Course, Asks, Ends, on_reply, carry_out, on_said, converse, is_more, last_row, list_locks, carry, plan_at, course_of, on_course, on_phases, reach, ask}
-use Rattle.aegis_shell.proofs.Fittings.{op_is, row_is, uid_is}
+use Rattle.aegis_shell.proofs.RangeTests.{op_is, row_is, uid_is}
 use Rattle.aegis_shell.proofs.Parts.{jobs_ranged}
 
 -- what variables stand for has a name
@@ -151,8 +151,8 @@ talked_ranged (Finished outcome) told = tt
 talked_ranged (Asking op further) [] = chosen_ranged (is_op op) (Asks op) (Ends (Replied Fine) []) (λ r. op_is op r) tt
 talked_ranged (Asking op further) (None ∷ told) = chosen_ranged (is_op op) (Ends (Replied Fine) told) (Ends (Replied Fine) (None ∷ told)) (λ r. tt) tt
 talked_ranged (Asking op further) (Some reply ∷ told) =
-    chosen_ranged (is_op op) (on_said (can_be op reply) (Some reply) told (converse (further reply) told)) (Ends (Replied Fine) (Some reply ∷ told))
-    (λ r. said_ranged (can_be op reply) reply told (converse (further reply) told) (talked_ranged (further reply) told)) tt
+    chosen_ranged (is_op op) (on_said (can_have op reply) (Some reply) told (converse (further reply) told)) (Ends (Replied Fine) (Some reply ∷ told))
+    (λ r. said_ranged (can_have op reply) reply told (converse (further reply) told) (talked_ranged (further reply) told)) tt
 
 -- so does a list of locks, behind a row that is named
 row_named : (row : LockRow) (named : Bool) → is_row row ≡ named → IfSome (cond named (Some (row.uid, row.proc)) None) IsRowName

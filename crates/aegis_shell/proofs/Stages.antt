@@ -1,6 +1,7 @@
 -- A command goes on from each of its stages as its course does.
 use Rattle.std.proofs.Common.{◌≡◌, ℕ, Bool, true, false, cond, Option, Some, None, List, [], ◌∷◌, ◌++◌, refl, ap, ◌∙◌, sym, subst}
 use Rattle.uid_names.specs.Names.{ObjectName, ProcName}
+use Rattle.dom_history.specs.Fitting.{can_have}
 use Rattle.dom_history.specs.declared.op.Op.{Op}
 use Rattle.dom_history.specs.declared.op.Op.TheVariants as ops
 use Rattle.dom_history.specs.declared.op.Reply.{Reply}
@@ -8,10 +9,10 @@ use Rattle.dom_history.specs.declared.op.Reply.TheVariants.{Fine, Bytes, Locks}
 use Rattle.naming_tree.specs.Turns.{FitsAsked}
 use Rattle.aegis_shell.specs.AnswerTexts.{is_done, together, so_far}
 use Rattle.aegis_shell.specs.Asking.{Told, Course, Asks, Ends, on_reply, carry_out, on_said, converse, is_more, last_row, list_locks}
-use Rattle.command_talks.specs.Dialogues.{Dialogue, Ends as Finished, Asks as Asking}
+use Rattle.command_talks.specs.Dialogues.{Dialogue, Ends as Finished, Asks as Asking, asked, told as told_to}
 use Rattle.aegis_shell.specs.Operations.{first_of, second_of}
 use Rattle.aegis_shell.specs.Outcomes.{lock_texts}
-use Rattle.aegis_shell.specs.Replies.{can_be, is_op}
+use Rattle.aegis_shell.specs.RangeTests.{is_op}
 use Rattle.aegis_shell.specs.States.{Going, Goes, Comes, on_turn, is_granted, on_first, on_second, may_be, on_talk, on_list, goes_on, op_in}
 use Rattle.command_talks.specs.Talks as turns
 use Rattle.command_talks.specs.Talks.{talk_asks, talk_turn}
@@ -20,8 +21,6 @@ use Rattle.aegis_shell.specs.declared.stage.Stage.{Stage}
 use Rattle.aegis_shell.specs.declared.stage.Stage.TheVariants.{Between, First, Second, Talks as Talking, Lists as Listing}
 use Rattle.command_talks.specs.declared.talk.Talk.{Talk}
 use Rattle.aegis_shell.proofs.Counts.{IsShort}
-use Rattle.aegis_shell.proofs.Fittings.{fits_then}
-use Rattle.command_talks.proofs.Sims.{asked, told as told_to}
 use Rattle.command_talks.proofs.Talking.{TalkSim, TalkOn, talk_next, talk_asked}
 
 -- a course that carries these operations out
@@ -93,15 +92,15 @@ pub out_of_range : (op : Op) (further : Reply → Dialogue) (told : Told) → is
 out_of_range op further [] r = ap (λ b. cond b (Asks op) (Ends (Replied Fine) [])) r
 out_of_range op further (None ∷ told) r = ap (λ b. cond b (Ends (Replied Fine) told) (Ends (Replied Fine) (None ∷ told))) r
 out_of_range op further (Some reply ∷ told) r =
-    ap (λ b. cond b (on_said (can_be op reply) (Some reply) told (converse (further reply) told)) (Ends (Replied Fine) (Some reply ∷ told))) r
+    ap (λ b. cond b (on_said (can_have op reply) (Some reply) told (converse (further reply) told)) (Ends (Replied Fine) (Some reply ∷ told))) r
 
 pub in_range_none : (op : Op) (further : Reply → Dialogue) (told : Told) → is_op op ≡ true → converse (Asking op further) (None ∷ told) ≡ Ends (Replied Fine) told
 in_range_none op further told r = ap (λ b. cond b (Ends (Replied Fine) told) (Ends (Replied Fine) (None ∷ told))) r
 
 pub in_range_some : (op : Op) (further : Reply → Dialogue) (reply : Reply) (told : Told) → is_op op ≡ true
-    → converse (Asking op further) (Some reply ∷ told) ≡ on_said (can_be op reply) (Some reply) told (converse (further reply) told)
+    → converse (Asking op further) (Some reply ∷ told) ≡ on_said (can_have op reply) (Some reply) told (converse (further reply) told)
 in_range_some op further reply told r =
-    ap (λ b. cond b (on_said (can_be op reply) (Some reply) told (converse (further reply) told)) (Ends (Replied Fine) (Some reply ∷ told))) r
+    ap (λ b. cond b (on_said (can_have op reply) (Some reply) told (converse (further reply) told)) (Ends (Replied Fine) (Some reply ∷ told))) r
 
 -- a refusal stands alone
 refused_alone : (earlier reply : Reply) → is_done reply ≡ false → together earlier reply ≡ reply
@@ -177,9 +176,9 @@ module _ (names : List (List ℕ)) (list : Option (List Op)) where
       heard_so : (told : Option Reply) (future : Told) → c (told ∷ future) ≡ converse (Asking on.op further) (told ∷ future)
       heard_so told future = on.course (told ∷ future) ∙ ap (λ (x : Dialogue). converse x (told ∷ future)) left
 
-      by_test : (reply : Reply) (fits : Bool) → can_be on.op reply ≡ fits → Leads names list (on_talk fits talk (Some reply)) (λ future. c (Some reply ∷ future))
+      by_test : (reply : Reply) (fits : Bool) → can_have on.op reply ≡ fits → Leads names list (on_talk fits talk (Some reply)) (λ future. c (Some reply ∷ future))
       by_test reply true is =
-          let fitting : FitsAsked (asked on.dialogue) (Some reply) = subst (λ (found : Option Op). FitsAsked found (Some reply)) (sym on.said) (fits_then on.op reply is) in
+          let fitting : FitsAsked (asked on.dialogue) (Some reply) = subst (λ (found : Option Op). FitsAsked found (Some reply)) (sym on.said) is in
           stepped (λ future. c (Some reply ∷ future)) (talk_turn talk (Some reply)) (told_to on.dialogue reply) (talk_next talk on.dialogue reply on.sim fitting)
           (λ future.
           heard_so (Some reply) future
@@ -190,7 +189,7 @@ module _ (names : List (List ℕ)) (list : Option (List Op)) where
 
       by_told : (told : Option Reply) → Leads names list (on_talk (may_be (Some on.op) told) talk told) (λ future. c (told ∷ future))
       by_told None = λ future. heard_so None future ∙ in_range_none on.op further future on.ranged
-      by_told (Some reply) = by_test reply (can_be on.op reply) refl
+      by_told (Some reply) = by_test reply (can_have on.op reply) refl
 
   list_goes_on : (c : Told → Course) (home : ℕ) (last : Option (ObjectName × ProcName)) (text : List ℕ) (told : Option Reply) → ((future : Told) → c future ≡ list_locks names home last text future)
       → Leads names list (on_list names home text told) (λ future. c (told ∷ future))

@@ -9,12 +9,11 @@ use Rattle.dom_history.specs.declared.op.Reply.{Reply}
 use Rattle.dom_history.specs.declared.op.Want.TheVariants.{Do, Phase, Done}
 use Rattle.dom_history.specs.Programs.{FitsWant}
 use Rattle.naming_tree.specs.Turns.{FitsAsked}
-use Rattle.aegis_shell.specs.declared.work.Job.{Job}
 use Rattle.command_talks.specs.declared.outcome.Outcome.{Outcome}
 use Rattle.aegis_shell.specs.declared.stage.Stage.{Stage}
 use Rattle.aegis_shell.specs.declared.stage.Stage.TheVariants.{Between, First, Second, Talks as Talking, Lists as Listing}
 use Rattle.aegis_shell.specs.Outcomes.{outcome_text}
-use Rattle.aegis_shell.specs.Work.{Part}
+use Rattle.aegis_shell.specs.Work.{Job, Part}
 use Rattle.aegis_shell.specs.Ranges.{IsJob, AreJobs}
 use Rattle.aegis_shell.specs.States.{State, left, ops_at, object_at_job, Going, Goes, Comes, begins, goes_on, op_in, want_by, want_in, want_left, want_of, finished, at_stage, on_going, settle, settled, settled_at, next_phase, heard_at, hear}
 use Rattle.aegis_shell.specs.Turns.{FitsStage}

@@ -1,12 +1,12 @@
 -- What a command is answered, and how that is written.
-use Rattle.std.specs.Prelude.{ℕ, Bool, true, false, Option, Some, None, List, [], ◌∷◌, ◌++◌, codes, decimal, unwrap_or}
+use Rattle.std.specs.Prelude.{ℕ, Bool, true, false, Option, Some, None, List, [], ◌∷◌, ◌++◌, codes, decimal}
 use Rattle.std.specs.Int.{w32, to_be_bytes}
 use Rattle.hex.specs.Hex.{encode_lower}
 use Rattle.uid_names.specs.Modes.{mode_letter}
 use Rattle.uid_names.specs.Texts.{text_of}
 use Rattle.dom_history.specs.declared.op.Reply.{Reply}
 use Rattle.dom_history.specs.declared.op.Reply.TheVariants.{Made, Fine, Bytes, Size, At, Locks, Conflict, NoObject, AlreadyHeld, NotHeld, Unsettled, TooMany, NoLock, WrongMode, PastRoom, PastEnd, NoSpace, Kept, Doubt, LinkFault, TooManyMaps, NoSegment, NotMapped}
-use Rattle.dom_history.specs.NodeTexts.{name_of}
+use Rattle.node_texts.specs.Texts.{process_text}
 use Rattle.dom_text.specs.Texts.{quoted_text}
 
 -- the reply of an operation that was done
@@ -29,10 +29,6 @@ abbrev pub so_far : Option Reply → Reply
 so_far None = Fine
 so_far (Some reply) = reply
 
--- the name of a node; empty where the script has no such node
-abbrev pub node_name : List (List ℕ) → ℕ → List ℕ
-node_name names node = unwrap_or (name_of names node) []
-
 -- an address in eight lower-case hexadecimal digits
 abbrev pub address_text : ℕ → List ℕ
 address_text address = encode_lower (to_be_bytes w32 address)
@@ -45,7 +41,7 @@ answer_text names (Bytes bytes) = codes "ok " ++ quoted_text bytes
 answer_text names (Size n) = codes "ok " ++ decimal n
 answer_text names (At address fresh) = codes "ok " ++ address_text address
 answer_text names (Locks rows more) = codes "ok"
-answer_text names (Conflict p m) = codes "conflict " ++ node_name names p.node ++ codes "." ++ decimal p.number ++ codes " " ++ mode_letter m ∷ []
+answer_text names (Conflict p m) = codes "conflict " ++ process_text names p ++ codes " " ++ mode_letter m ∷ []
 answer_text names NoObject = codes "no object"
 answer_text names AlreadyHeld = codes "already held"
 answer_text names NotHeld = codes "not held"

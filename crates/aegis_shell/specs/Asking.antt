@@ -3,6 +3,7 @@ use Prim.Native.Nat.{zero}
 use Rattle.std.specs.Prelude.{ℕ, suc, ◌-◌, max, Bool, true, false, ◌&&◌, cond, is_some, Option, Some, None, List, [], ◌∷◌, ◌++◌, reverse, codes}
 use Rattle.uid_names.specs.Names.{ObjectName, ProcName}
 use Rattle.uid_names.specs.declared.lock_row.LockRow.{LockRow}
+use Rattle.dom_history.specs.Fitting.{can_have}
 use Rattle.dom_history.specs.declared.op.Op.{Op}
 use Rattle.dom_history.specs.declared.op.Op.TheVariants as ops
 use Rattle.dom_history.specs.declared.op.Reply.{Reply}
@@ -14,13 +15,12 @@ use Rattle.script_reader.specs.declared.command.Command.{Command}
 use Rattle.script_reader.specs.Scripts.{Content}
 use Rattle.command_talks.specs.Commands.{dialogue_of}
 use Rattle.command_talks.specs.Dialogues.{Dialogue, Ends as Over, Asks as Asking}
-use Rattle.aegis_shell.specs.declared.work.Job.{Job}
 use Rattle.command_talks.specs.declared.outcome.Outcome.{Outcome}
 use Rattle.command_talks.specs.declared.outcome.Outcome.TheVariants.{Replied, Written}
-use Rattle.aegis_shell.specs.Work.{Part, part_of, object_of}
+use Rattle.aegis_shell.specs.Work.{Job, Part, part_of, object_of}
 use Rattle.aegis_shell.specs.Standing.{Standing, site_of, first_standing}
 use Rattle.aegis_shell.specs.Plans.{Plan, Makes, Talks, Lists, Writes, plan_of}
-use Rattle.aegis_shell.specs.Replies.{can_be, is_op, is_row}
+use Rattle.aegis_shell.specs.RangeTests.{is_op, is_row}
 use Rattle.aegis_shell.specs.Outcomes.{outcome_text, standing_after, lock_texts}
 use Rattle.aegis_shell.specs.AnswerTexts.{is_done, together, so_far}
 
@@ -76,7 +76,7 @@ converse (Over outcome) told = Ends outcome told
 converse (Asking op further) [] = cond (is_op op) (Asks op) (Ends (Replied Fine) [])
 converse (Asking op further) (None ∷ told) = cond (is_op op) (Ends (Replied Fine) told) (Ends (Replied Fine) (None ∷ told))
 converse (Asking op further) (Some reply ∷ told) =
-    cond (is_op op) (on_said (can_be op reply) (Some reply) told (converse (further reply) told)) (Ends (Replied Fine) (Some reply ∷ told))
+    cond (is_op op) (on_said (can_have op reply) (Some reply) told (converse (further reply) told)) (Ends (Replied Fine) (Some reply ∷ told))
 
 -- the object and the process of the last of these rows
 abbrev pub last_row : List LockRow → Option (ObjectName × ProcName)

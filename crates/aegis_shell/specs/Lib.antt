@@ -5,7 +5,7 @@ pub mod Operations
 pub mod Ranges
 pub mod Asked
 pub mod AnswerTexts
-pub mod Replies
+pub mod RangeTests
 pub mod Standing
 pub mod Plans
 pub mod Outcomes

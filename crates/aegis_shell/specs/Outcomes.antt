@@ -15,11 +15,12 @@ use Rattle.naming_tree.specs.declared.step.Walked.TheVariants.{Root, At}
 use Rattle.naming_tree.specs.declared.step.NameResult.{NameResult}
 use Rattle.naming_tree.specs.declared.step.NameResult.TheVariants as results
 use Rattle.dom_text.specs.Texts.{quoted_text}
+use Rattle.node_texts.specs.Texts.{process_text}
 use Rattle.mapped_streams.specs.declared.step.StreamResult.{StreamResult}
 use Rattle.mapped_streams.specs.declared.step.StreamResult.TheVariants as streams
-use Rattle.aegis_shell.specs.AnswerTexts.{answer_text, node_name}
+use Rattle.aegis_shell.specs.AnswerTexts.{answer_text}
 use Rattle.aegis_shell.specs.Bound.{Bound, bind}
-use Rattle.aegis_shell.specs.Replies.{is_uid}
+use Rattle.aegis_shell.specs.RangeTests.{is_uid}
 use Rattle.aegis_shell.specs.Standing.{Standing, text_at}
 use Rattle.aegis_shell.specs.Work.{Part}
 use Rattle.command_talks.specs.declared.outcome.Outcome.{Outcome}
@@ -47,7 +48,7 @@ node_texts (name ∷ names) = (codes " " ++ name ++ codes ":node") ++ node_texts
 
 -- a lock, behind a space
 abbrev pub lock_text : List (List ℕ) → LockRow → List ℕ
-lock_text names row = codes " " ++ text_of row.uid ++ codes "/" ++ node_name names row.proc.node ++ codes "." ++ decimal row.proc.number ++ codes "/" ++ mode_letter row.mode ∷ []
+lock_text names row = codes " " ++ text_of row.uid ++ codes "/" ++ process_text names row.proc ++ codes "/" ++ mode_letter row.mode ∷ []
 
 abbrev pub lock_texts : List (List ℕ) → List LockRow → List ℕ
 lock_texts names [] = []

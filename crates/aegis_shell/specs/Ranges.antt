@@ -5,7 +5,7 @@ use Rattle.dom_history.specs.declared.op.Spot.{Spot}
 use Rattle.dom_history.specs.Ranges.{IsSpot}
 use Rattle.script_reader.specs.Commands.{IsCount}
 use Rattle.command_talks.specs.Ranges.{IsRanged}
-use Rattle.aegis_shell.specs.declared.work.Job.{Job}
+use Rattle.aegis_shell.specs.Work.{Job}
 use Rattle.aegis_shell.specs.Operations.{place_of}
 
 -- so many bytes from a spot, as a command can name them

@@ -1,7 +1,7 @@
 -- Where a process stands: what its variables are bound to, and its working directory.
 use Rattle.std.specs.Prelude.{ℕ, ◌==◌, cond, List, [], ◌∷◌, ◌++◌, codes}
+use Rattle.node_texts.specs.Texts.{node_text}
 use Rattle.naming_tree.specs.declared.site.Site.{Site}
-use Rattle.aegis_shell.specs.AnswerTexts.{node_name}
 use Rattle.aegis_shell.specs.Bound.{Bound, unbound}
 use Rattle.aegis_shell.specs.Work.{Part}
 use Rattle.aegis_shell.specs.declared.working.Working.{Working}
@@ -16,7 +16,7 @@ site_of part = record { own = part.node; names = part.names }
 
 -- a node as a path
 abbrev pub node_path : Part → List ℕ
-node_path part = codes "//" ++ node_name part.names part.node
+node_path part = codes "//" ++ node_text part.names part.node
 
 -- the entry directory of the process's node
 abbrev pub first_working : Part → Working

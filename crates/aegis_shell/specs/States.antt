@@ -1,6 +1,7 @@
 -- Where a process stands in its commands, what it wants there, and where it stands once it is told something.
 use Rattle.std.specs.Prelude.{ℕ, ◌+◌, nat_lt, Bool, true, false, cond, Option, Some, None, List, [], ◌∷◌, ◌++◌, length, drop, codes}
 use Rattle.uid_names.specs.Names.{ObjectName}
+use Rattle.dom_history.specs.Fitting.{can_have}
 use Rattle.dom_history.specs.declared.op.Op.{Op}
 use Rattle.dom_history.specs.declared.op.Op.TheVariants as ops
 use Rattle.dom_history.specs.declared.op.Reply.{Reply}
@@ -8,7 +9,6 @@ use Rattle.dom_history.specs.declared.op.Reply.TheVariants.{Fine, Locks}
 use Rattle.dom_history.specs.declared.op.Want.{Want}
 use Rattle.dom_history.specs.declared.op.Want.TheVariants.{Do, Phase, Done}
 use Rattle.script_reader.specs.declared.command.Command.{Command}
-use Rattle.aegis_shell.specs.declared.work.Job.{Job}
 use Rattle.command_talks.specs.declared.outcome.Outcome.{Outcome}
 use Rattle.command_talks.specs.declared.outcome.Outcome.TheVariants.{Replied, Written}
 use Rattle.aegis_shell.specs.declared.stage.Stage.{Stage}
@@ -16,14 +16,14 @@ use Rattle.aegis_shell.specs.declared.stage.Stage.TheVariants.{Between, First, S
 use Rattle.command_talks.specs.declared.talk.Talk.{Talk}
 use Rattle.aegis_shell.specs.declared.working.Working.{Working}
 use Rattle.aegis_shell.specs.Bindings.{Rows, object_at, rebound}
-use Rattle.aegis_shell.specs.Work.{Part, object_of}
+use Rattle.aegis_shell.specs.Work.{Job, Part, object_of}
 use Rattle.aegis_shell.specs.Standing.{Standing, site_of, first_working}
 use Rattle.aegis_shell.specs.Operations.{ops_of, first_of, second_of}
 use Rattle.aegis_shell.specs.Plans.{Plan, Makes, Talks, Lists, Writes, plan_of}
 use Rattle.command_talks.specs.Commands.{talk_of}
 use Rattle.command_talks.specs.Talks as turns
 use Rattle.command_talks.specs.Talks.{talk_asks, talk_turn}
-use Rattle.aegis_shell.specs.Replies.{can_be, is_op}
+use Rattle.aegis_shell.specs.RangeTests.{is_op}
 use Rattle.aegis_shell.specs.Asking.{is_more, last_row}
 use Rattle.aegis_shell.specs.Outcomes.{outcome_text, bound_by, working_after, lock_texts}
 use Rattle.aegis_shell.specs.AnswerTexts.{is_done, together, so_far}
@@ -44,6 +44,10 @@ beginning part = record { phase = 1; bound = []; working = first_working part; s
 -- the commands without an answer
 abbrev pub left : Part → State → List Job
 left part at = drop (length at.answers) part.jobs
+
+-- and those behind the first of them
+abbrev pub behind : Part → State → List Job
+behind part at = drop (length at.answers + 1) part.jobs
 
 -- what its commands see of where it stands
 abbrev pub standing : State → Standing
@@ -97,7 +101,7 @@ on_second first (Some reply) = Comes (Replied (together first reply))
 
 -- a machine that asks this is told that
 abbrev pub may_be : Option Op → Option Reply → Bool
-may_be (Some op) (Some reply) = can_be op reply
+may_be (Some op) (Some reply) = can_have op reply
 may_be _ _ = false
 
 abbrev pub on_talk : Bool → Talk → Option Reply → Going

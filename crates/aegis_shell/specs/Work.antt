@@ -1,5 +1,5 @@
 -- What a script gives one process to do.
-use Rattle.std.specs.Prelude.{ℕ, Bool, true, false, Option, Some, None, List, [], ◌∷◌, map, filter}
+use Rattle.std.specs.Prelude.{ℕ, ◌≡◌, Bool, true, false, Option, Some, None, List, [], ◌∷◌, map, filter}
 use Rattle.uid_names.specs.Names.{ProcName, ObjectName, same_proc}
 use Rattle.script_reader.specs.declared.command.Command.{Command}
 use Rattle.script_reader.specs.declared.command.Command.TheVariants.{Bind, Crf, Crd, Crl, Dlf, Catf, Lnf, Apf, Cpf, Ld, Wd, Llkob}
@@ -8,7 +8,6 @@ use Rattle.script_reader.specs.Commands.{arguments_of}
 use Rattle.script_reader.specs.declared.script.CommandRow.{CommandRow}
 use Rattle.script_reader.specs.Scripts.{Content}
 use Rattle.script_reader.specs.Variables.{declared_object}
-use Rattle.aegis_shell.specs.declared.work.Job.{Job}
 use Rattle.aegis_shell.specs.Bound.{Bound}
 
 -- the variable on whose object a command works: the first argument that is one which its process knows
@@ -42,6 +41,11 @@ object_in bound None = None
 object_in bound (Some var) = bound var
 
 -- a command with its phase, and with the declared object on which it works, if it works on one
+pub record Job : Type 0 where
+  pub phase : ℕ
+  pub command : Command
+  pub declared : Option ObjectName
+
 abbrev pub job_of : Bound → CommandRow → Job
 job_of declared row = record { phase = row.phase; command = row.command; declared = object_in declared (variable row.command) }
 
@@ -65,3 +69,7 @@ or_else None other = other
 -- the object on which a job works: the declared one, or else the one that its process bound
 abbrev pub object_of : Job → Bound → Option ObjectName
 object_of job bound = or_else job.declared (object_in bound (variable job.command))
+
+-- a job that is done neither by names nor by lists of locks
+abbrev pub IsPlain : Job → Type 0
+IsPlain job = is_of_names job.command ≡ false

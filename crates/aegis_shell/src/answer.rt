@@ -1,14 +1,16 @@
 //! How replies are written as answers.
-ghost use Rattle.std.specs.Prelude.{◌≡◌, ◌++◌, ◌∷◌, [], codes, decimal, None, Some, IfOk, OnOk};
+ghost use Rattle.std.specs.Prelude.{◌≡◌, ◌++◌, ◌∷◌, [], codes, decimal, None, Some, IfOk};
 ghost use Rattle.uid_names.specs.Modes.{mode_letter};
 ghost use Rattle.uid_names.specs.Texts.{text_of as uid_text};
 ghost use Rattle.dom_text.specs.Texts.{quoted_text};
-ghost use Rattle.aegis_shell.specs.AnswerTexts.{is_done as is_done_reply, together as reply_together, node_name, address_text, answer_text as text_of_answer};
+ghost use Rattle.node_texts.specs.Texts.{process_text};
+ghost use Rattle.aegis_shell.specs.AnswerTexts.{is_done as is_done_reply, together as reply_together, address_text, answer_text as text_of_answer};
 
 use dom_history::{NodeNames, Reply};
 use dom_text::{put_decimal, put_quoted};
+use node_texts::put_process;
 use std::alloc::Global;
-use uid_names::{ByteList, Mode, NoMemory, NodeId, ProcId, Uid};
+use uid_names::{ByteList, Mode, NoMemory, ProcId, Uid};
 
 /// Whether an operation with this reply was done.
 pub fn is_done(reply: &Reply) -> bool
@@ -63,33 +65,13 @@ fn mapped(alloc: Global, address: u32) -> Result<ByteList, NoMemory>
     Ok(text)
 }
 
-/// Puts the name of a node behind a text; nothing where the script has no such node.
-pub fn put_node(text: &mut ByteList, names: &NodeNames, node: NodeId) -> Result<(), NoMemory>
-    ensures { OnOk result (text.new ≡ text.old ++ node_name names.now node) }
-{
-    match names.name(node) {
-        Some(name) => text.extend(name),
-        None => Ok(()),
-    }
-}
-
-/// Puts the name of a process behind a text.
-pub fn put_process(text: &mut ByteList, names: &NodeNames, proc: ProcId) -> Result<(), NoMemory>
-    ensures { OnOk result (text.new ≡ text.old ++ node_name names.now proc.node ++ codes "." ++ decimal proc.number) }
-{
-    put_node(text, names, proc.node())?;
-    text.extend(b".")?;
-    put_decimal(text, u64::from(proc.number()))?;
-    Ok(())
-}
-
 fn conflict(
     alloc: Global,
     names: &NodeNames,
     proc: ProcId,
     mode: Mode,
 ) -> Result<ByteList, NoMemory>
-    ensures { IfOk result (λ text. text ≡ codes "conflict " ++ node_name names.now proc.node ++ codes "." ++ decimal proc.number ++ codes " " ++ mode_letter mode ∷ []) }
+    ensures { IfOk result (λ text. text ≡ codes "conflict " ++ process_text names.now proc ++ codes " " ++ mode_letter mode ∷ []) }
 {
     let mut text = ByteList::from_slice(alloc, b"conflict ")?;
     put_process(&mut text, names, proc)?;

@@ -17,7 +17,7 @@ use crate::names::directory_text;
 use crate::operation::first_operation;
 use crate::stage::{Stage, Turn};
 use crate::talking::turn_of;
-use crate::work::{Job, Work};
+use crate::work::Work;
 use crate::working::Working;
 use command_talks::{Outcome, machine_for};
 use dom_history::Op;
@@ -107,23 +107,23 @@ fn begin_alone(
     }
 }
 
-/// The beginning of a job that works on this object.
+/// The beginning of a command that works on this object.
 pub fn begin(
     alloc: Global,
     work: &Work,
-    job: &Job,
+    command: &Command,
     object: Option<Uid>,
     working: &Working,
 ) -> Result<Turn, NoMemory>
-    requires { IsRanged job.now.command }
-    ensures turn { IfOk result (λ turn. going turn ≡ begins_so work.now working.now object job.now.command) }
-    ensures asks { IfOk result (AsksIn (ops_of work.now.node job.now.command object)) }
+    requires { IsRanged command.now }
+    ensures turn { IfOk result (λ turn. going turn ≡ begins_so work.now working.now object command.now) }
+    ensures asks { IfOk result (AsksIn (ops_of work.now.node command.now object)) }
 {
-    if is_too_long(alloc, work, working, &job.command)? {
+    if is_too_long(alloc, work, working, command)? {
         return written(alloc, b"path too long");
     }
-    match machine_for(alloc, work.site(), working.dir, &job.command)? {
+    match machine_for(alloc, work.site(), working.dir, command)? {
         Some(machine) => turn_of(alloc, machine, None),
-        None => begin_alone(alloc, work, working, &job.command, object),
+        None => begin_alone(alloc, work, working, command, object),
     }
 }

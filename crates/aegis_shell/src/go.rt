@@ -17,9 +17,10 @@ use crate::names::put_locks;
 use crate::operation::second_operation;
 use crate::stage::{Stage, Turn};
 use crate::talking::turn_of;
-use crate::work::{Job, Work};
+use crate::work::Work;
 use command_talks::Outcome;
 use dom_history::{Op, Reply};
+use script_reader::Command;
 use std::alloc::Global;
 use uid_names::{ByteList, LockRow, NoMemory, NodeId, ProcId, Uid};
 
@@ -34,18 +35,18 @@ fn ended(alloc: Global, reply: &Reply) -> Result<Turn, NoMemory>
 fn go_first(
     alloc: Global,
     work: &Work,
-    job: &Job,
+    command: &Command,
     object: Option<Uid>,
     reply: &Reply,
 ) -> Result<Turn, NoMemory>
-    requires { IsRanged job.now.command }
-    ensures turn { IfOk result (λ turn. going turn ≡ on_first (is_done_reply reply.now) (second_of (ops_of work.now.node job.now.command object)) (Some reply.now)) }
-    ensures asks { IfOk result (AsksIn (ops_of work.now.node job.now.command object)) }
+    requires { IsRanged command.now }
+    ensures turn { IfOk result (λ turn. going turn ≡ on_first (is_done_reply reply.now) (second_of (ops_of work.now.node command.now object)) (Some reply.now)) }
+    ensures asks { IfOk result (AsksIn (ops_of work.now.node command.now object)) }
 {
     if !is_done(reply) {
         return ended(alloc, reply);
     }
-    match second_operation(alloc, work.node(), &job.command, object)? {
+    match second_operation(alloc, work.node(), command, object)? {
         Some(op) => Ok(Turn::Goes(Stage::Second(reply.copy(alloc)?), op)),
         None => ended(alloc, reply),
     }
@@ -90,23 +91,23 @@ fn go_list(
     Ok(Turn::Goes(stage, Op::List { home, after }))
 }
 
-/// A job that works on this object and is told a reply at a stage.
+/// A command that works on this object and is told a reply at a stage.
 pub fn go(
     alloc: Global,
     work: &Work,
-    job: &Job,
+    command: &Command,
     object: Option<Uid>,
     stage: Stage,
     reply: &Reply,
 ) -> Result<Turn, NoMemory>
-    requires range { IsRanged job.now.command }
-    requires fits { FitsStage (ops_of work.now.node job.now.command object) stage reply.now }
-    ensures turn { IfOk result (λ turn. going turn ≡ goes_on work.now.names (ops_of work.now.node job.now.command object) stage (Some reply.now)) }
-    ensures asks { IfOk result (AsksIn (ops_of work.now.node job.now.command object)) }
+    requires range { IsRanged command.now }
+    requires fits { FitsStage (ops_of work.now.node command.now object) stage reply.now }
+    ensures turn { IfOk result (λ turn. going turn ≡ goes_on work.now.names (ops_of work.now.node command.now object) stage (Some reply.now)) }
+    ensures asks { IfOk result (AsksIn (ops_of work.now.node command.now object)) }
 {
     match stage {
         Stage::Between => unreachable!(),
-        Stage::First => go_first(alloc, work, job, object, reply),
+        Stage::First => go_first(alloc, work, command, object, reply),
         Stage::Second(first) => {
             let reply = together(alloc, first, reply)?;
             Ok(Turn::Comes(Outcome::Replied(reply)))

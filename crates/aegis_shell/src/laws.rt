@@ -1,5 +1,5 @@
 //! Laws of what processes ask and are answered. Each stands on a function without a body, so that the check proves it.
-ghost use Rattle.std.specs.Prelude.{◌≡◌, ◌≤◌, ◌+◌, ◌*◌, false, Option, ◌∷◌, length, All};
+ghost use Rattle.std.specs.Prelude.{◌≡◌, ◌≤◌, ◌+◌, ◌*◌, Option, ◌∷◌, length, All};
 ghost use Rattle.uid_names.specs.Names.{ProcName};
 ghost use Rattle.dom_history.specs.declared.op.Reply.{Reply};
 ghost use Rattle.dom_history.specs.declared.op.Want.TheVariants.{Done};
@@ -7,7 +7,7 @@ ghost use Rattle.dom_history.specs.Follows.{Heard};
 ghost use Rattle.dom_history.specs.Ranges.{IsWant, IsNodeNumber, AreNamedReplies};
 ghost use Rattle.dom_history.specs.Programs.{program_after, asked_by};
 ghost use Rattle.script_reader.specs.Scripts.{Content, IsContent};
-ghost use Rattle.aegis_shell.specs.Work.{Part, jobs_of, is_of_names};
+ghost use Rattle.aegis_shell.specs.Work.{Part, jobs_of, IsPlain};
 ghost use Rattle.aegis_shell.specs.Asking.{reached, ask, answers};
 ghost use Rattle.aegis_shell.specs.Shells.{shell_of, shell_after, shell_wants, shell_answers};
 
@@ -37,7 +37,7 @@ pub fn answers_only_become_more()
 /// have, and two replies for each of its commands.
 #[tactic(auto, using(crate::proofs::Courses::ask_done))]
 pub fn processes_come_to_their_end()
-    ensures { (s : Content) (p : ProcName) (heard : Heard) → IsContent s → All (λ job. is_of_names job.command ≡ false) (jobs_of s p) → 1000 + 2 * length (jobs_of s p) ≤ length heard → ask s p heard ≡ Done }
+    ensures { (s : Content) (p : ProcName) (heard : Heard) → IsContent s → All IsPlain (jobs_of s p) → 1000 + 2 * length (jobs_of s p) ≤ length heard → ask s p heard ≡ Done }
 {}
 
 /// Each finished command has one answer: there are never more than commands, and as many once all is done.
@@ -49,5 +49,5 @@ pub fn each_command_has_one_answer()
 
 /// Threads may hand each other shells.
 pub fn shells_may_cross_threads() {
-    may_cross_threads::<Shell>();
+    may_cross_threads::<Shell<'_>>();
 }

@@ -12,8 +12,6 @@ mod progress;
 mod shell;
 mod stage;
 mod talking;
-#[cfg(test)]
-mod tests;
 mod work;
 mod working;
 

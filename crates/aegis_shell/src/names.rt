@@ -2,10 +2,9 @@
 ghost use Rattle.std.specs.Prelude.{◌≡◌, ◌++◌, ◌∷◌, [], codes, decimal, IfOk, OnOk};
 ghost use Rattle.uid_names.specs.Modes.{mode_letter};
 ghost use Rattle.uid_names.specs.Texts.{text_of as uid_text};
-ghost use Rattle.aegis_shell.specs.AnswerTexts.{node_name};
 ghost use Rattle.aegis_shell.specs.Outcomes.{kind_text as text_of_kind, row_text, row_texts, node_texts, lock_text, lock_texts, stream_text as text_of_stream, result_text as text_of_result, found_text, entered_text, came_text as text_that_came, outcome_text as text_of_outcome};
 
-use crate::answer::{answer_text, counted, loaded, put_process};
+use crate::answer::{answer_text, counted, loaded};
 use crate::work::Work;
 use crate::working::Working;
 use command_talks::Outcome;
@@ -13,6 +12,7 @@ use dir_records::DirRow;
 use dom_history::NodeNames;
 use mapped_streams::StreamResult;
 use naming_tree::{NameResult, Walked};
+use node_texts::put_process;
 use script_reader::Command;
 use std::alloc::Global;
 use uid_names::{ByteList, LockRow, NoMemory, ObjKind, Uid};

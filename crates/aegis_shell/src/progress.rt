@@ -1,11 +1,12 @@
 //! How far a process has come in its jobs.
-ghost use Rattle.std.specs.Prelude.{◌≡◌, ◌≤◌, length, nat_lt, [], true, None, Some, IfOk, IfSome, OnOk, MatchOption};
+ghost use Rattle.std.specs.Prelude.{◌≡◌, ◌≤◌, ◌<◌, ◌∷◌, length, nat_lt, [], true, None, Some, IfOk, IfSome, OnOk, MatchOption};
 ghost use Rattle.std.specs.Option.{option_copied};
 ghost use Rattle.dom_history.specs.declared.op.Want.TheVariants.{Do};
 ghost use Rattle.dom_history.specs.Programs.{FitsWant};
 ghost use Rattle.dom_history.specs.Ranges.{IsOp, IsWant};
 ghost use Rattle.command_talks.specs.Ranges.{IsRanged};
 ghost use Rattle.aegis_shell.specs.Outcomes.{bound_by, working_after as working_behind};
+ghost use Rattle.aegis_shell.specs.Ranges.{AreJobs};
 ghost use Rattle.aegis_shell.specs.Standing.{first_working};
 ghost use Rattle.aegis_shell.specs.States.{rebind_if};
 
@@ -45,7 +46,7 @@ impl Model for Progress {
 }
 
 /// The variable that a command binds, with its object.
-#[tactic(auto, using(crate::proofs::Fittings::named_binds))]
+#[tactic(auto, using(crate::proofs::RangeTests::named_binds))]
 fn binding<'a>(command: &'a Command, outcome: &Outcome) -> Option<(&'a [u8], Uid)>
     ensures { MatchOption result (bound_by command.now outcome.now ≡ None) (λ b. bound_by command.now outcome.now ≡ Some (b.0.now, b.1)) }
 {
@@ -108,9 +109,10 @@ fn enter_by(
 }
 
 impl Progress {
+    ghost use Rattle.command_talks.specs.declared.outcome.Outcome.TheVariants.{Written};
     ghost use Rattle.aegis_shell.specs.declared.stage.Stage.TheVariants.{Between};
     ghost use Rattle.aegis_shell.specs.Shells.{state_after, want_when, IsKept};
-    ghost use Rattle.aegis_shell.specs.States.{beginning, left, want_of, settled, finished, hear as heard_of};
+    ghost use Rattle.aegis_shell.specs.States.{beginning, behind, left, want_of, settled, finished, hear as heard_of};
 
     /// The beginning: phase 1, nothing bound or answered, and the working directory is the node's entry directory.
     pub fn new(alloc: Global, work: &Work) -> Result<Progress, NoMemory>
@@ -132,8 +134,42 @@ impl Progress {
         self.answers.as_slice()
     }
 
-    /// Ends a command that has come to this.
-    fn finish(
+    /// The commands without an answer.
+    #[tactic(auto, using(crate::proofs::Wanting::left_ranged))]
+    fn left<'a>(&self, work: &'a Work<'a>) -> &'a [Job<'a>]
+        requires { length self.now.answers ≤ length work.now.jobs }
+        ensures value { result.now ≡ left work.now self.now }
+        ensures ranges { AreJobs (left work.now self.now) }
+    {
+        &work.jobs()[self.answers.len()..]
+    }
+
+    /// The first command without an answer.
+    fn next_job<'a>(&self, work: &'a Work<'a>) -> &'a Job<'a>
+        requires { length self.now.answers < length work.now.jobs }
+        ensures value { left work.now self.now ≡ result.now ∷ behind work.now self.now }
+        ensures range { IsRanged result.now.command }
+    {
+        &work.jobs()[self.answers.len()]
+    }
+
+    /// Ends a command whose answer is written already.
+    #[tactic(auto, using(crate::proofs::Writings::written_ends))]
+    fn finish_written(
+        &mut self,
+        work: &Work,
+        command: &Command,
+        text: ByteList,
+    ) -> Result<(), NoMemory>
+        ensures { OnOk result (self.new ≡ finished work.now self.old command.now (Written text)) }
+    {
+        self.answers.push(text)?;
+        self.stage = Stage::Between;
+        Ok(())
+    }
+
+    /// Ends a command whose answer is still to be written.
+    fn finish_with(
         &mut self,
         alloc: Global,
         work: &Work,
@@ -150,6 +186,22 @@ impl Progress {
         Ok(())
     }
 
+    /// Ends a command that has come to this.
+    fn finish(
+        &mut self,
+        alloc: Global,
+        work: &Work,
+        command: &Command,
+        outcome: Outcome,
+    ) -> Result<(), NoMemory>
+        ensures { OnOk result (self.new ≡ finished work.now self.old command.now outcome) }
+    {
+        match outcome {
+            Outcome::Written(text) => self.finish_written(work, command, text),
+            outcome => self.finish_with(alloc, work, command, &outcome),
+        }
+    }
+
     /// Takes in the reply to an operation. The answer is the operation with which the command goes on, where it does.
     fn hear_reply(
         &mut self,
@@ -162,16 +214,17 @@ impl Progress {
         ensures next { IfOk result (λ op. MatchOption op (self.new.stage ≡ Between) (λ o. want_of work.now self.new ≡ Do o)) }
         ensures range { IfOk result (λ op. IfSome op IsOp) }
     {
-        let job = &work.jobs()[self.answers.len()];
+        let job = self.next_job(work);
+        let command = job.command();
         let object = job.object(&self.bound);
         let stage = replace(&mut self.stage, Stage::Between);
-        match go(alloc, work, job, object, stage, reply)? {
+        match go(alloc, work, command, object, stage, reply)? {
             Turn::Goes(stage, op) => {
                 self.stage = stage;
                 Ok(Some(op))
             }
             Turn::Comes(outcome) => {
-                self.finish(alloc, work, &job.command, &outcome)?;
+                self.finish(alloc, work, command, outcome)?;
                 Ok(None)
             }
         }
@@ -217,17 +270,18 @@ impl Progress {
         ensures want { IfOk result (λ want. want ≡ want_of work.now self.new) }
         ensures range { IfOk result IsWant }
     {
-        for job in &work.jobs()[self.answers.len()..] {
-            if self.phase < job.phase {
+        for job in self.left(work) {
+            if self.phase < job.phase() {
                 return Ok(Want::Phase);
             }
+            let command = job.command();
             let object = job.object(&self.bound);
-            match begin(alloc, work, job, object, &self.working)? {
+            match begin(alloc, work, command, object, &self.working)? {
                 Turn::Goes(stage, op) => {
                     self.stage = stage;
                     return Ok(Want::Do(op));
                 }
-                Turn::Comes(outcome) => self.finish(alloc, work, &job.command, &outcome)?,
+                Turn::Comes(outcome) => self.finish(alloc, work, command, outcome)?,
             }
         }
         Ok(Want::Done)

@@ -9,16 +9,16 @@ use std::alloc::Global;
 use std::marker::Model;
 use uid_names::{ByteList, NoMemory, ProcId};
 
-/// The program of one process of a script: it carries out the process's commands in turn.
+/// The program of one process of a script: it carries out the process's commands in turn, which it borrows.
 #[derive(Drop)]
-pub struct Shell {
-    work: Work,
+pub struct Shell<'a> {
+    work: Work<'a>,
     begun: bool,
     progress: Progress,
     spent: bool,
 }
 
-impl Model for Shell {
+impl<'a> Model for Shell<'a> {
     ghost use Rattle.aegis_shell.specs.Shells.{Shelled, UnlessSpent, IsKept};
 
     ghost Value = { Shelled };
@@ -28,11 +28,11 @@ impl Model for Shell {
     ghost invariant = { λ s. UnlessSpent s.spent (IsKept s.work s.begun s.progress) };
 }
 
-impl Shell {
+impl<'a> Shell<'a> {
     ghost use Rattle.aegis_shell.specs.Shells.{shell_of, shell_answers};
 
-    /// The program of a process of a script. It keeps the process's own commands alone.
-    pub fn new(alloc: Global, script: &Script, proc: ProcId) -> Result<Shell, NoMemory>
+    /// The program of a process of a script. It keeps where the process's own commands stand in it.
+    pub fn new(alloc: Global, script: &'a Script, proc: ProcId) -> Result<Shell<'a>, NoMemory>
         ensures { IfOk result (λ shell. shell ≡ shell_of script.now proc) }
     {
         let work = Work::new(alloc, script, proc)?;
@@ -53,7 +53,7 @@ impl Shell {
     }
 }
 
-impl Program for Shell {
+impl Program for Shell<'_> {
     ghost use Rattle.std.specs.Prelude.{length};
     ghost use Rattle.aegis_shell.specs.Shells.{shell_after, shell_wants, shell_answers};
 

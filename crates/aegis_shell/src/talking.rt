@@ -7,7 +7,7 @@ ghost use Rattle.aegis_shell.specs.States.{talk_goes};
 ghost use Rattle.aegis_shell.specs.Turns.{going, AsksIn};
 
 use crate::stage::{Stage, Turn};
-use command_talks::{Machine, Step};
+use command_talks::{Machine, TalkStep};
 use dom_history::Reply;
 use std::alloc::Global;
 use uid_names::NoMemory;
@@ -19,7 +19,7 @@ pub fn turn_of(alloc: Global, mut talk: Machine, last: Option<&Reply>) -> Result
     ensures asks { IfOk result (λ turn. (list : Option (List Op)) → AsksIn list turn) }
 {
     match talk.next(alloc, last)? {
-        Step::Do(op) => Ok(Turn::Goes(Stage::Talks(talk), op)),
-        Step::Over(outcome) => Ok(Turn::Comes(outcome)),
+        TalkStep::Do(op) => Ok(Turn::Goes(Stage::Talks(talk), op)),
+        TalkStep::Over(outcome) => Ok(Turn::Comes(outcome)),
     }
 }

@@ -1,11 +1,11 @@
 //! The working directory of a process.
 ghost use Rattle.std.specs.Prelude.{◌≡◌, ◌++◌, codes, IfOk};
-ghost use Rattle.aegis_shell.specs.AnswerTexts.{node_name};
+ghost use Rattle.node_texts.specs.Texts.{node_text as text_of_node};
 ghost use Rattle.aegis_shell.specs.Standing.{path_text};
 
-use crate::answer::put_node;
 use crate::work::Work;
 use dom_history::NodeNames;
+use node_texts::node_text;
 use std::alloc::Global;
 use uid_names::{ByteList, NoMemory, NodeId, Uid};
 
@@ -21,10 +21,10 @@ pub struct Working {
 
 /// The path of a node.
 pub fn node_path(alloc: Global, names: &NodeNames, node: NodeId) -> Result<ByteList, NoMemory>
-    ensures { IfOk result (λ text. text ≡ codes "//" ++ node_name names.now node) }
+    ensures { IfOk result (λ text. text ≡ codes "//" ++ text_of_node names.now node) }
 {
     let mut text = ByteList::from_slice(alloc, b"//")?;
-    put_node(&mut text, names, node)?;
+    text.extend(node_text(names, node))?;
     Ok(text)
 }
 

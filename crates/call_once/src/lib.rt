@@ -4,8 +4,6 @@
 pub mod asking;
 pub mod laws;
 pub mod served;
-#[cfg(test)]
-mod tests;
 
 pub use asking::{Asking, MOST_NOTICES, Noticed};
 pub use served::{Looked, Served};

@@ -11,7 +11,7 @@ use Rattle.dom_history.specs.declared.op.Reply.{Reply}
 use Rattle.script_reader.specs.declared.command.Command.{Command}
 use Rattle.script_reader.specs.declared.command.Command.TheVariants.{New, Lock, Unlock, Delete, Load, Store, Length, Map, Unmap, Loadat, Storeat, Bind, Crf, Crd, Crl, Dlf, Catf, Lnf, Apf, Cpf, Ld, Wd, Llkob}
 use Rattle.naming_tree.specs.declared.site.Site.{Site}
-use Rattle.naming_tree.specs.declared.step.NameStep.TheVariants.{Do, Over}
+use Rattle.naming_tree.specs.declared.step.Step.TheVariants.{Do, Over}
 use Rattle.naming_tree.specs.declared.step.NameResult.{NameResult}
 use Rattle.naming_tree.specs.ByPaths.{by_path_after, by_path_asks}
 use Rattle.naming_tree.specs.Walking.{walking_after, walking_asks}

@@ -6,7 +6,7 @@ use Rattle.naming_tree.specs.declared.by_path.ByPath.{ByPath}
 use Rattle.naming_tree.specs.declared.walking.Walking.{Walking}
 use Rattle.naming_tree.specs.declared.step.NameResult.{NameResult}
 use Rattle.naming_tree.specs.declared.step.NameResult.TheVariants.{Found, Added}
-use Rattle.naming_tree.specs.declared.step.NameStep.TheVariants as names
+use Rattle.naming_tree.specs.declared.step.Step.TheVariants as names
 use Rattle.naming_tree.specs.ByPaths.{by_path_after, by_path_asks}
 use Rattle.naming_tree.specs.Turns.{stood_after, stood_says}
 use Rattle.naming_tree.specs.Walking.{walking_after, walking_asks}

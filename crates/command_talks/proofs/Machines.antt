@@ -1,22 +1,23 @@
 -- The machines of names and of streams stand where their dialogues do.
 use Rattle.std.proofs.Common.{◌≡◌, Option, Some, None, List, [], ◌∷◌, refl, ap, ◌∙◌, sym, subst}
-use Rattle.std.specs.Prelude.{option_map}
 use Rattle.dom_history.specs.declared.op.Op.{Op}
 use Rattle.dom_history.specs.declared.op.Reply.{Reply}
-use Rattle.naming_tree.specs.declared.step.NameStep.TheVariants.{Do}
+use Rattle.naming_tree.specs.declared.step.Step.TheVariants.{Do}
+use Rattle.naming_tree.specs.Dialogues.{asked}
 use Rattle.naming_tree.specs.Dialogues as names
-use Rattle.naming_tree.specs.Turns.{Turn, Goes, Comes, state_of, step_of, stood_after, stood_says, machine_after, machine_says}
+use Rattle.naming_tree.specs.Sayings.{SaysAs}
+use Rattle.naming_tree.specs.Turns.{does, Turn, Goes, Comes, state_of, step_of, stood_after, stood_says, machine_after}
 use Rattle.mapped_streams.specs.declared.streaming.Streaming.{Streaming}
 use Rattle.mapped_streams.specs.Dialogues as streams
 use Rattle.mapped_streams.specs.States.{left, rest, IsStreaming}
 use Rattle.mapped_streams.specs.Turns.{stood_after as stream_after}
 use Rattle.mapped_streams.proofs.Turning.{IsOn, on_next}
-use Rattle.command_talks.specs.FileTalks.{stream_asks, op_of}
+use Rattle.command_talks.specs.FileTalks.{stream_asks}
 use Rattle.command_talks.specs.NameTalks.{asked_at}
 
 module _ {S : Type 0} (asks : S → Option Op) (go : S → Option Reply → Turn S) where
   -- a machine asks, where it stands, what it said
-  said_op : (found : Option Op) (op : Op) → option_map Do found ≡ Some (Do op) → found ≡ Some op
+  said_op : (found : Option Op) (op : Op) → does found ≡ Some (Do op) → found ≡ Some op
   said_op None op e = cc
   said_op (Some x) op e = let same : x ≡ op = cc in ap Some same
 
@@ -28,22 +29,18 @@ module _ {S : Type 0} (asks : S → Option Op) (go : S → Option Reply → Turn
   asked_stood None last op e = cc
   asked_stood (Some state) last op e = asked_then (go state last) op e
 
-  -- it says what a dialogue says after all that it heard
-  abbrev pub Tells : Option S → names.Dialogue → Type 0
-  Tells made d = (heard : List Reply) → names.FitsHeard d heard → machine_says asks go made heard ≡ Some (names.says (names.after d heard))
-
 -- a machine that has heard what fitted stands where its dialogue does
 pub record NameOn {S : Type 0} (asks : S → Option Op) (go : S → Option Reply → Turn S) (m : Option S) (d : names.Dialogue) : Type 0 where
   pub made : Option S
   pub whole : names.Dialogue
   pub heard : List Reply
-  pub tells : Tells asks go made whole
+  pub tells : SaysAs asks go made whole
   pub fits : names.FitsHeard whole heard
   pub there : m ≡ machine_after go made heard
   pub on : d ≡ names.after whole heard
 
 module _ {S : Type 0} (asks : S → Option Op) (go : S → Option Reply → Turn S) where
-  pub name_begun : (made : Option S) (whole : names.Dialogue) → Tells asks go made whole → (stood_says asks go made None ≡ Some (names.says whole)) × NameOn asks go (stood_after go made None) whole
+  pub name_begun : (made : Option S) (whole : names.Dialogue) → SaysAs asks go made whole → (stood_says asks go made None ≡ Some (names.says whole)) × NameOn asks go (stood_after go made None) whole
   name_begun made whole tells = (tells [] tt, record { made = made; whole = whole; heard = []; tells = tells; fits = tt; there = refl; on = refl })
 
   pub name_told : (m : Option S) (d : names.Dialogue) (reply : Reply) → NameOn asks go m d → names.FitsSaid (names.says d) reply
@@ -62,7 +59,7 @@ module _ {S : Type 0} (asks : S → Option Op) (go : S → Option Reply → Turn
         },
       )
 
-  asked_heard : (made : Option S) (whole : names.Dialogue) (heard : List Reply) (op : Op) → Tells asks go made whole → names.FitsHeard whole heard → names.says (names.after whole heard) ≡ Do op
+  asked_heard : (made : Option S) (whole : names.Dialogue) (heard : List Reply) (op : Op) → SaysAs asks go made whole → names.FitsHeard whole heard → names.says (names.after whole heard) ≡ Do op
       → asked_at asks (machine_after go made heard) ≡ Some op
   asked_heard made whole [] op tells fits said = asked_stood asks go made None op (tells [] fits ∙ ap Some said)
   asked_heard made whole (reply ∷ heard) op tells fits said = asked_stood asks go (machine_after go made heard) (Some reply) op (tells (reply ∷ heard) fits ∙ ap Some said)
@@ -72,17 +69,17 @@ module _ {S : Type 0} (asks : S → Option Op) (go : S → Option Reply → Turn
   name_asked m d op h said = ap (asked_at asks) h.there ∙ asked_heard h.made h.whole h.heard op h.tells h.fits (ap names.says (sym h.on) ∙ said)
 
 -- so does a stream
-pub stream_begun : (s : Streaming) → IsStreaming s → (streams.said_to (rest (Some s)) None ≡ Some (streams.says (left s))) × IsOn (stream_after (Some s) None) (left s)
+pub stream_begun : (s : Streaming) → IsStreaming s → (streams.said_to (rest (Some s)) None ≡ Some (names.says (left s))) × IsOn (stream_after (Some s) None) (left s)
 stream_begun s h = (refl, (h, refl))
 
-stream_says : (m : Option Streaming) (d : streams.Dialogue) (reply : Reply) → IsOn m d → streams.FitsSaid (streams.says d) reply → streams.said_to (rest m) (Some reply) ≡ Some (streams.says (streams.told d reply))
-stream_says None d reply h fits = absurd (subst (λ (x : streams.Dialogue). streams.FitsSaid (streams.says x) reply) h.1 fits)
-stream_says (Some s) d reply h fits = ap (λ (x : streams.Dialogue). Some (streams.says (streams.told x reply))) h.1
+stream_says : (m : Option Streaming) (d : streams.Dialogue) (reply : Reply) → IsOn m d → names.FitsSaid (names.says d) reply → streams.said_to (rest m) (Some reply) ≡ Some (names.says (names.told d reply))
+stream_says None d reply h fits = absurd (subst (λ (x : streams.Dialogue). names.FitsSaid (names.says x) reply) h.1 fits)
+stream_says (Some s) d reply h fits = ap (λ (x : streams.Dialogue). Some (names.says (names.told x reply))) h.1
 
-pub stream_told_on : (m : Option Streaming) (d : streams.Dialogue) (reply : Reply) → IsOn m d → streams.FitsSaid (streams.says d) reply
-    → (streams.said_to (rest m) (Some reply) ≡ Some (streams.says (streams.told d reply))) × IsOn (stream_after m (Some reply)) (streams.told d reply)
+pub stream_told_on : (m : Option Streaming) (d : streams.Dialogue) (reply : Reply) → IsOn m d → names.FitsSaid (names.says d) reply
+    → (streams.said_to (rest m) (Some reply) ≡ Some (names.says (names.told d reply))) × IsOn (stream_after m (Some reply)) (names.told d reply)
 stream_told_on m d reply h fits = (stream_says m d reply h fits, on_next m d reply h fits)
 
-pub stream_asked : (m : Option Streaming) (op : Op) (further : Reply → streams.Dialogue) → IsOn m (streams.Asks op further) → stream_asks m ≡ Some op
+pub stream_asked : (m : Option Streaming) (op : Op) (further : Reply → streams.Dialogue) → IsOn m (names.Asks op further) → stream_asks m ≡ Some op
 stream_asked None op further h = cc
-stream_asked (Some s) op further h = ap op_of h.1
+stream_asked (Some s) op further h = ap asked h.1

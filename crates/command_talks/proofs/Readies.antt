@@ -20,14 +20,15 @@ use Rattle.naming_tree.specs.Turns.{FitsAsked, FitsStood}
 use Rattle.naming_tree.specs.Walking.{walking_asks, walk_of}
 use Rattle.dir_records.specs.LastNames.{last_of}
 use Rattle.naming_tree.specs.NamePaths.{added_alone, removed_alone, addition}
-use Rattle.naming_tree.specs.Adding.{adding_of}
-use Rattle.naming_tree.specs.Removing.{removing_of}
+use Rattle.naming_tree.specs.declared.changing.Change.TheVariants as changes
+use Rattle.naming_tree.specs.Changing.{changing_of}
 use Rattle.mapped_streams.specs.declared.streaming.Streaming.{Streaming}
+use Rattle.naming_tree.specs.Dialogues.{asked}
 use Rattle.mapped_streams.specs.Dialogues.{MayHear, FitsSaid, says, Dialogue, Ends, Asks}
 use Rattle.mapped_streams.specs.States.{left, rest}
 use Rattle.naming_tree.specs.ByPaths.{by_path_asks, on_last, add_name_of, drop_name_of, list_dir_of}
 use Rattle.command_talks.specs.Commands.{talks, is_path, is_room, is_text, is_sound, talk_of}
-use Rattle.command_talks.specs.FileTalks.{file_asks, op_of, stream_asks, MayHearFile}
+use Rattle.command_talks.specs.FileTalks.{file_asks, stream_asks, MayHearFile}
 use Rattle.command_talks.specs.NameTalks.{asked_at}
 use Rattle.command_talks.specs.Talks.{talk_asks, MayBeTold}
 use Rattle.command_talks.specs.declared.talk.Talk.{Talk}
@@ -41,7 +42,7 @@ stood_told : {S : Type 0} (asks : S → Option Op) (m : Option S) (reply : Reply
 stood_told asks None reply fits = absurd fits
 stood_told asks (Some state) reply fits = (refl, fits)
 
-said_told : (d : Dialogue) (reply : Reply) → FitsAsked (op_of d) (Some reply) → FitsSaid (says d) reply
+said_told : (d : Dialogue) (reply : Reply) → FitsAsked (asked d) (Some reply) → FitsSaid (says d) reply
 said_told (Ends result) reply fits = absurd fits
 said_told (Asks op further) reply fits = fits
 
@@ -85,11 +86,11 @@ module _ (site : Site) (dir : ObjectName) where
   add_begun : (kind : ObjKind) (room : ℕ) (text : Option (List ℕ)) (route : Option Route) → is_some route ≡ true
       → IsSome (add_name_of site route dir kind room text) × FitsStood by_path_asks (add_name_of site route dir kind room text) None
   add_begun kind room text None h = absurd cc
-  add_begun kind room text (Some route) h = (refl, last_begun site route.start dir added_alone (λ name. tasks.Add (adding_of dir (addition kind room text name))) (last_of route.names))
+  add_begun kind room text (Some route) h = (refl, last_begun site route.start dir added_alone (λ name. tasks.Change (changing_of dir (changes.Add (addition kind room text name)))) (last_of route.names))
 
   drop_begun : (route : Option Route) → is_some route ≡ true → IsSome (drop_name_of site route dir) × FitsStood by_path_asks (drop_name_of site route dir) None
   drop_begun None h = absurd cc
-  drop_begun (Some route) h = (refl, last_begun site route.start dir removed_alone (λ name. tasks.Remove (removing_of dir name)) (last_of route.names))
+  drop_begun (Some route) h = (refl, last_begun site route.start dir removed_alone (λ name. tasks.Change (changing_of dir (changes.Remove name))) (last_of route.names))
 
   pub talk_begun : (command : Command) → talks command ≡ true → is_sound command ≡ true → MayBeTold (talk_of site dir command) None
   talk_begun (Bind var path) t sound = walk_begun site dir (route_of path) sound

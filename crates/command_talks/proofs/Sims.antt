@@ -7,14 +7,15 @@ use Rattle.uid_names.specs.declared.mode.ObjKind.TheVariants as kinds
 use Rattle.dom_history.specs.declared.op.Op.{Op}
 use Rattle.dom_history.specs.declared.op.Reply.{Reply}
 use Rattle.dom_history.specs.declared.op.Reply.TheVariants.{Fine, Size, At as MappedAt}
-use Rattle.dom_history.specs.Fitting.{Fits, FitsLength, FitsMap}
+use Rattle.dom_history.specs.Fitting.{Fits, is_length_reply, is_map_reply}
+use Rattle.dom_history.proofs.Fitting.{size-fits, at-fits}
 use Rattle.naming_tree.specs.declared.by_path.ByPath.{ByPath}
 use Rattle.naming_tree.specs.declared.walking.Walking.{Walking}
 use Rattle.naming_tree.specs.declared.step.Walked.{Walked}
 use Rattle.naming_tree.specs.declared.step.Walked.TheVariants.{Root, At}
 use Rattle.naming_tree.specs.declared.step.NameResult.{NameResult}
 use Rattle.naming_tree.specs.declared.step.NameResult.TheVariants.{Found, Added, Store}
-use Rattle.naming_tree.specs.declared.step.NameStep.{NameStep}
+use Rattle.naming_tree.specs.Dialogues.{NameStep}
 use Rattle.naming_tree.specs.ByPaths.{add_name_of, by_path_after, by_path_asks}
 use Rattle.naming_tree.specs.Dialogues as names
 use Rattle.naming_tree.specs.NamePaths.{add_name}
@@ -25,7 +26,7 @@ use Rattle.naming_tree.proofs.ByPathsLeft.{add_heard}
 use Rattle.mapped_streams.specs.declared.gathered.Gathered.TheVariants.{All, Lines}
 use Rattle.mapped_streams.specs.declared.step.StreamResult.{StreamResult}
 use Rattle.mapped_streams.specs.declared.step.StreamResult.TheVariants as results
-use Rattle.mapped_streams.specs.declared.step.StreamStep.{StreamStep}
+use Rattle.mapped_streams.specs.Dialogues.{StreamStep}
 use Rattle.mapped_streams.specs.declared.streaming.Streaming.{Streaming}
 use Rattle.mapped_streams.specs.declared.work.Side.TheVariants.{Before}
 use Rattle.mapped_streams.specs.declared.work.Work.TheVariants as works
@@ -35,7 +36,7 @@ use Rattle.mapped_streams.specs.States.{left, streaming_of, IsStreaming}
 use Rattle.mapped_streams.specs.Streams.{read_all, count_lines, append, copy}
 use Rattle.mapped_streams.specs.Works.{IsText}
 use Rattle.mapped_streams.proofs.Turning.{IsOn}
-use Rattle.command_talks.specs.Dialogues.{Dialogue, Ends, Asks, by_name, by_stream, streamed, closing}
+use Rattle.command_talks.specs.Dialogues.{Dialogue, Ends, Asks, asked, told, led_on, streamed, closing}
 use Rattle.command_talks.specs.FileTalks.{file_asks, file_turn, over_turn, stream_turn, stream_told, closes, copied, add_turn, begin_add, lock_turn, length_turn, map_turn, open_turn, first_outcome, closed_turn, close_turn, errand_turn, found_turn, seek_turn, opening_op}
 use Rattle.command_talks.specs.Files.{on_found, on_file, room_for, shutting, on_copied, on_added, copy_open, map_source, measure_source, copy_from}
 use Rattle.command_talks.specs.Sources.{Sourced, Targeted, source_of, mapped, unmapped, closers, close_op}
@@ -49,36 +50,27 @@ use Rattle.command_talks.specs.declared.file_talk.Opening.{Opening}
 use Rattle.command_talks.specs.declared.file_talk.Opening.TheVariants.{Lock, Length, Map}
 use Rattle.command_talks.specs.declared.outcome.Outcome.{Outcome}
 use Rattle.command_talks.specs.declared.outcome.Outcome.TheVariants.{Came, Streamed}
-use Rattle.command_talks.proofs.Machines.{NameOn, Tells, name_begun, name_told, name_asked, stream_begun, stream_told_on, stream_asked}
-
--- what a dialogue asks, and what a reply leaves of it
-abbrev pub asked : Dialogue → Option Op
-asked (Ends outcome) = None
-asked (Asks op further) = Some op
-
-abbrev pub told : Dialogue → Reply → Dialogue
-told (Ends outcome) reply = Ends outcome
-told (Asks op further) reply = further reply
+use Rattle.command_talks.proofs.Machines.{NameOn, name_begun, name_told, name_asked, stream_begun, stream_told_on, stream_asked}
 
 -- a machine of a name that asks, where what follows its result is this
 pub record NameSim {S : Type 0} (asks : S → Option Op) (go : S → Option Reply → Turn S) (after : NameResult → Dialogue) (m : Option S) (d : Dialogue) : Type 0 where
   pub op : Op
   pub next : Reply → names.Dialogue
   pub on : NameOn asks go m (names.Asks op next)
-  pub is : d ≡ Asks op (λ reply. by_name (next reply) after)
+  pub is : d ≡ Asks op (λ reply. led_on (next reply) after)
 
 -- and one of a stream
 pub record StreamSim (after : StreamResult → Dialogue) (m : Option Streaming) (d : Dialogue) : Type 0 where
   pub op : Op
   pub next : Reply → streams.Dialogue
-  pub on : IsOn m (streams.Asks op next)
-  pub is : d ≡ Asks op (λ reply. by_stream (next reply) after)
+  pub on : IsOn m (names.Asks op next)
+  pub is : d ≡ Asks op (λ reply. led_on (next reply) after)
 
 -- what an errand does at its file
 abbrev pub at_file : Errand → ObjectName → Dialogue
-at_file errands.Read u = by_stream (read_all u) streamed
-at_file errands.Count u = by_stream (count_lines u) streamed
-at_file (errands.Append text) u = by_stream (append u text) streamed
+at_file errands.Read u = led_on (read_all u) streamed
+at_file errands.Count u = led_on (count_lines u) streamed
+at_file (errands.Append text) u = led_on (append u text) streamed
 at_file (errands.Copy target) u = copy_from target.site target.dir target.path u
 
 abbrev pub IsErrand : Errand → Type 0
@@ -135,19 +127,19 @@ closes_on s outcome = (close_asks s outcome, refl)
 -- a stream, by what its result leads to
 module _ (further : StreamResult → Dialogue) (make : Option Streaming → FileTalk) (same : (m : Option Streaming) (d : Dialogue) → StreamSim further m d → FileSim (make m) d)
     (over : (m : Option Streaming) (result : StreamResult) → TurnOn (Some (over_turn (make m) result)) (further result)) where
-  stream_goes : (left : streams.Dialogue) (step : Option StreamStep) (m : Option Streaming) → step ≡ Some (streams.says left) → IsOn m left → TurnOn (stream_turn step (make m)) (by_stream left further)
-  stream_goes (streams.Ends result) step m e on = subst (λ (x : Option StreamStep). TurnOn (stream_turn x (make m)) (further result)) (sym e) (over m result)
-  stream_goes (streams.Asks op next) step m e on =
-      let d = Asks op (λ reply. by_stream (next reply) further) in
+  stream_goes : (left : streams.Dialogue) (step : Option StreamStep) (m : Option Streaming) → step ≡ Some (names.says left) → IsOn m left → TurnOn (stream_turn step (make m)) (led_on left further)
+  stream_goes (names.Ends result) step m e on = subst (λ (x : Option StreamStep). TurnOn (stream_turn x (make m)) (further result)) (sym e) (over m result)
+  stream_goes (names.Asks op next) step m e on =
+      let d = Asks op (λ reply. led_on (next reply) further) in
       subst (λ (x : Option StreamStep). TurnOn (stream_turn x (make m)) d) (sym e) (refl, same m d (record { op = op; next = next; on = on; is = refl }))
 
-  stream_starts : (s : Streaming) → IsStreaming s → TurnOn (stream_told make (Some s) None) (by_stream (left s) further)
+  stream_starts : (s : Streaming) → IsStreaming s → TurnOn (stream_told make (Some s) None) (led_on (left s) further)
   stream_starts s h = let begun = stream_begun s h in stream_goes (left s) _ _ begun.0 begun.1
 
   stream_next : (m : Option Streaming) (d : Dialogue) (reply : Reply) → StreamSim further m d → FitsAsked (asked d) (Some reply) → TurnOn (stream_told make m (Some reply)) (told d reply)
   stream_next m d reply h fits =
       let fitting : Fits h.op reply = subst (λ (x : Dialogue). FitsAsked (asked x) (Some reply)) h.is fits in
-      let next = stream_told_on m (streams.Asks h.op h.next) reply h.on fitting in
+      let next = stream_told_on m (names.Asks h.op h.next) reply h.on fitting in
       subst (λ (x : Dialogue). TurnOn (stream_told make m (Some reply)) (told x reply)) (sym h.is) (stream_goes (h.next reply) _ _ next.0 next.1)
 
 -- behind a copy of bytes the source is closed
@@ -155,7 +147,7 @@ copied_on : (s : Sourced) (result : StreamResult) → TurnOn (Some (closes s (co
 copied_on s results.Fine = closes_on s None
 copied_on s result = closes_on s (Some (Streamed result))
 
-copy_starts : (s : Sourced) (v : ObjectName) → IsMapped s.at → TurnOn (stream_told (λ m. Copies s m) (Some (streaming_of v (works.Copy s.at 0 None))) None) (by_stream (copy s.at v) (on_copied (closers s)))
+copy_starts : (s : Sourced) (v : ObjectName) → IsMapped s.at → TurnOn (stream_told (λ m. Copies s m) (Some (streaming_of v (works.Copy s.at 0 None))) None) (led_on (copy s.at v) (on_copied (closers s)))
 copy_starts s v m = stream_starts (on_copied (closers s)) (λ m. Copies s m) (λ m d same. same) (λ m result. copied_on s result) (streaming_of v (works.Copy s.at 0 None)) (record { work = (m, tt); stage = tt })
 
 -- the target of a copy
@@ -163,10 +155,10 @@ added_on : (s : Sourced) (m : Option ByPath) (result : NameResult) → IsMapped 
 added_on s m (Added v) at = copy_starts s v at
 added_on s m result at = closes_on s (Some (Came result))
 
-add_goes : (s : Sourced) (left : names.Dialogue) (step : Option NameStep) (m : Option ByPath) → step ≡ Some (names.says left) → IsMapped s.at → NameOn by_path_asks by_path_after m left → TurnOn (add_turn s step m) (by_name left (on_added (closers s) s.at))
+add_goes : (s : Sourced) (left : names.Dialogue) (step : Option NameStep) (m : Option ByPath) → step ≡ Some (names.says left) → IsMapped s.at → NameOn by_path_asks by_path_after m left → TurnOn (add_turn s step m) (led_on left (on_added (closers s) s.at))
 add_goes s (names.Ends result) step m e at on = subst (λ (x : Option NameStep). TurnOn (add_turn s x m) (on_added (closers s) s.at result)) (sym e) (added_on s m result at)
 add_goes s (names.Asks op next) step m e at on =
-    let d = Asks op (λ reply. by_name (next reply) (on_added (closers s) s.at)) in
+    let d = Asks op (λ reply. led_on (next reply) (on_added (closers s) s.at)) in
     subst (λ (x : Option NameStep). TurnOn (add_turn s x m) d) (sym e) (refl, (at, record { op = op; next = next; on = on; is = refl }))
 
 add_next : (s : Sourced) (m : Option ByPath) (d : Dialogue) (reply : Reply) → FileSim (Adds s m) d → FitsAsked (asked d) (Some reply) → TurnOn (file_turn (Adds s m) (Some reply)) (told d reply)
@@ -182,9 +174,7 @@ room_is_one n long = (omega arith, omega (arith, long))
 add_starts : (s : Sourced) (target : Targeted) → is_some (route_of target.path) ≡ true → IsMapped s.at → TurnOn (begin_add s target) (copy_open target.site target.dir target.path (closers s) s.at)
 add_starts s target path at =
     let room = room_for s.at.length in
-    let tells : Tells by_path_asks by_path_after (add_name_of target.site (route_of target.path) target.dir kinds.File room None) (add_name target.site target.path target.dir kinds.File room None) =
-    λ heard fits. add_heard target.site target.path target.dir kinds.File room None heard path (room_is_one s.at.length at.long) tt fits
-    in
+    let tells = add_heard target.site target.path target.dir kinds.File room None path (room_is_one s.at.length at.long) tt in
     let begun = name_begun by_path_asks by_path_after (add_name_of target.site (route_of target.path) target.dir kinds.File room None) (add_name target.site target.path target.dir kinds.File room None) tells in
     add_goes s (add_name target.site target.path target.dir kinds.File room None) _ _ begun.0 at begun.1
 
@@ -193,12 +183,12 @@ lock_on : (s : Sourced) (target : Targeted) (reply : Reply) → is_some (route_o
 lock_on s target Fine path long = (refl, record { path = path; long = long; is = refl })
 lock_on s target reply path long = refl
 
-length_on : (s : Sourced) (target : Targeted) (reply : Reply) → is_some (route_of target.path) ≡ true → FitsLength reply → TurnOn (length_turn s target reply) (told (open_left s Length target) reply)
-length_on s target (Size n) path fits = (refl, record { path = path; long = fits; is = refl })
+length_on : (s : Sourced) (target : Targeted) (reply : Reply) → is_some (route_of target.path) ≡ true → is_length_reply reply ≡ true → TurnOn (length_turn s target reply) (told (open_left s Length target) reply)
+length_on s target (Size n) path fits = (refl, record { path = path; long = size-fits n fits; is = refl })
 length_on s target reply path fits = closes_on (source_of s.uid) (Some (Came (Store reply)))
 
-map_on : (s : Sourced) (target : Targeted) (reply : Reply) → is_some (route_of target.path) ≡ true → IsLength s.at.length → FitsMap reply → TurnOn (map_turn s target reply) (told (open_left s Map target) reply)
-map_on s target (MappedAt address fresh) path long fits = add_starts (mapped s address fresh) target path (record { long = long; at = fits.0; below = fits.1 })
+map_on : (s : Sourced) (target : Targeted) (reply : Reply) → is_some (route_of target.path) ≡ true → IsLength s.at.length → is_map_reply reply ≡ true → TurnOn (map_turn s target reply) (told (open_left s Map target) reply)
+map_on s target (MappedAt address fresh) path long fits = let start = at-fits address fresh fits in add_starts (mapped s address fresh) target path (record { long = long; at = start.0; below = start.1 })
 map_on s target reply path long fits = closes_on (source_of s.uid) (Some (Came (Store reply)))
 
 open_on : (s : Sourced) (stage : Opening) (target : Targeted) (reply : Reply) → is_some (route_of target.path) ≡ true → IsLength s.at.length → FitsAsked (asked (open_left s stage target)) (Some reply)
@@ -244,10 +234,10 @@ sought_on errand walk (Found at) h = found_on errand at h
 sought_on errand walk result h = refl
 
 pub seek_goes : (errand : Errand) (left : names.Dialogue) (step : Option NameStep) (walk : Option Walking) → step ≡ Some (names.says left) → IsErrand errand → NameOn walking_asks walking_after walk left
-    → TurnOn (seek_turn errand step walk) (by_name left (on_file (at_file errand)))
+    → TurnOn (seek_turn errand step walk) (led_on left (on_file (at_file errand)))
 seek_goes errand (names.Ends result) step walk e h on = subst (λ (x : Option NameStep). TurnOn (seek_turn errand x walk) (on_file (at_file errand) result)) (sym e) (sought_on errand walk result h)
 seek_goes errand (names.Asks op next) step walk e h on =
-    let d = Asks op (λ reply. by_name (next reply) (on_file (at_file errand))) in
+    let d = Asks op (λ reply. led_on (next reply) (on_file (at_file errand))) in
     subst (λ (x : Option NameStep). TurnOn (seek_turn errand x walk) d) (sym e) (refl, (h, record { op = op; next = next; on = on; is = refl }))
 
 seek_next : (walk : Option Walking) (errand : Errand) (d : Dialogue) (reply : Reply) → FileSim (Seeks walk errand) d → FitsAsked (asked d) (Some reply) → TurnOn (file_turn (Seeks walk errand) (Some reply)) (told d reply)

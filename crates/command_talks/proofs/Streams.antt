@@ -2,8 +2,8 @@
 use Rattle.std.proofs.Common.{◌≡◌, Option, Some, None, ap, ◌∙◌}
 use Rattle.dom_history.specs.declared.op.Op.{Op}
 use Rattle.dom_history.specs.declared.op.Reply.{Reply}
-use Rattle.mapped_streams.specs.declared.step.StreamStep.{StreamStep}
-use Rattle.mapped_streams.specs.declared.step.StreamStep.TheVariants.{Do, Over}
+use Rattle.mapped_streams.specs.Dialogues.{StreamStep}
+use Rattle.naming_tree.specs.declared.step.Step.TheVariants.{Do, Over}
 use Rattle.mapped_streams.specs.declared.streaming.Streaming.{Streaming}
 use Rattle.mapped_streams.specs.Dialogues.{Dialogue, Ends, Asks, said_to, says, told_last, unless_over, left_after, IsStep, MayHear}
 use Rattle.mapped_streams.specs.States.{rest}

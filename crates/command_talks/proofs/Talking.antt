@@ -1,6 +1,6 @@
 -- The machines of commands stand where their dialogues do.
 use Rattle.std.proofs.Common.{◌≡◌, lit≤, ℕ, true, Option, Some, None, List, length, refl, ap, ◌∙◌, sym, subst, rules}
-use Rattle.std.specs.Prelude.{◌&&◌, nat_le, unwrap_or}
+use Rattle.std.specs.Prelude.{nat_le, unwrap_or}
 use Rattle.std.proofs.lemmas.Bool.{and_parts}
 use Rattle.uid_names.specs.Names.{ObjectName}
 use Rattle.uid_names.specs.Rooms.{IsRoom}
@@ -13,7 +13,7 @@ use Rattle.dom_history.specs.Fitting.{Fits}
 use Rattle.script_reader.specs.declared.command.Command.{Command}
 use Rattle.script_reader.specs.declared.command.Command.TheVariants.{New, Lock, Unlock, Delete, Load, Store, Length, Map, Unmap, Loadat, Storeat, Bind, Crf, Crd, Crl, Dlf, Catf, Lnf, Apf, Cpf, Ld, Wd, Llkob}
 use Rattle.naming_tree.specs.declared.site.Site.{Site}
-use Rattle.naming_tree.specs.declared.step.NameStep.{NameStep}
+use Rattle.naming_tree.specs.Dialogues.{NameStep}
 use Rattle.naming_tree.specs.Additions.{IsText as IsLinkText}
 use Rattle.naming_tree.specs.Dialogues as names
 use Rattle.dir_records.specs.Paths.{route_of}
@@ -22,10 +22,11 @@ use Rattle.naming_tree.specs.Walks.{walk}
 use Rattle.naming_tree.specs.NamePaths.{add_name, drop_name, list_dir}
 use Rattle.naming_tree.specs.Walking.{walking_after, walking_asks, walk_of}
 use Rattle.naming_tree.specs.ByPaths.{by_path_after, by_path_asks, add_name_of, drop_name_of, list_dir_of}
+use Rattle.naming_tree.specs.Sayings.{SaysAs}
 use Rattle.naming_tree.proofs.WalksLive.{walk_says}
 use Rattle.naming_tree.proofs.ByPathsLeft.{list_heard, add_heard, drop_heard}
 use Rattle.mapped_streams.specs.Works.{IsText}
-use Rattle.command_talks.specs.Dialogues.{Dialogue, Ends, Asks, by_name, came}
+use Rattle.command_talks.specs.Dialogues.{Dialogue, Ends, Asks, asked, told, led_on, came}
 use Rattle.command_talks.specs.Files.{with_file}
 use Rattle.command_talks.specs.FileTalks.{file_turn}
 use Rattle.command_talks.specs.NameTalks.{asked_at}
@@ -40,8 +41,8 @@ use Rattle.command_talks.specs.declared.name_talk.NameTalk.{NameTalk}
 use Rattle.command_talks.specs.declared.name_talk.NameTalk.TheVariants.{Walk, List as ListRows, Add, Drop}
 use Rattle.command_talks.specs.declared.talk.Talk.{Talk}
 use Rattle.command_talks.specs.declared.talk.Talk.TheVariants.{Name, File}
-use Rattle.command_talks.proofs.Machines.{NameOn, Tells, name_begun, name_told, name_asked}
-use Rattle.command_talks.proofs.Sims.{asked, told, NameSim, FileSim, TurnOn, IsErrand, at_file, seek_goes, file_next, file_asked}
+use Rattle.command_talks.proofs.Machines.{NameOn, name_begun, name_told, name_asked}
+use Rattle.command_talks.proofs.Sims.{NameSim, FileSim, TurnOn, IsErrand, at_file, seek_goes, file_next, file_asked}
 
 -- a machine stands where a dialogue does that asks
 abbrev pub TalkSim : Talk → Dialogue → Type 0
@@ -60,13 +61,13 @@ TalkOn (Some (Comes outcome)) d = d ≡ Ends outcome
 
 module _ {S : Type 0} (asks : S → Option Op) (go : S → Option Reply → NameTurn S) (make : Option S → NameTalk)
     (same : (m : Option S) (d : Dialogue) → NameSim asks go came m d → TalkSim (Name (make m)) d) where
-  name_goes : (left : names.Dialogue) (step : Option NameStep) (m : Option S) → step ≡ Some (names.says left) → NameOn asks go m left → TalkOn (name_turn step (make m)) (by_name left came)
+  name_goes : (left : names.Dialogue) (step : Option NameStep) (m : Option S) → step ≡ Some (names.says left) → NameOn asks go m left → TalkOn (name_turn step (make m)) (led_on left came)
   name_goes (names.Ends result) step m e on = subst (λ (x : Option NameStep). TalkOn (name_turn x (make m)) (came result)) (sym e) refl
   name_goes (names.Asks op next) step m e on =
-      let d = Asks op (λ reply. by_name (next reply) came) in
+      let d = Asks op (λ reply. led_on (next reply) came) in
       subst (λ (x : Option NameStep). TalkOn (name_turn x (make m)) d) (sym e) (refl, same m d (record { op = op; next = next; on = on; is = refl }))
 
-  name_starts : (made : Option S) (whole : names.Dialogue) → Tells asks go made whole → TalkOn (name_turn (stood_says asks go made None) (make (stood_after go made None))) (by_name whole came)
+  name_starts : (made : Option S) (whole : names.Dialogue) → SaysAs asks go made whole → TalkOn (name_turn (stood_says asks go made None) (make (stood_after go made None))) (led_on whole came)
   name_starts made whole tells = let begun = name_begun asks go made whole tells in name_goes whole _ _ begun.0 begun.1
 
   name_next : (m : Option S) (d : Dialogue) (reply : Reply) → NameSim asks go came m d → FitsAsked (asked d) (Some reply)
@@ -116,32 +117,32 @@ text_is text h = let both = and_parts (nat_le 1 (length text)) (nat_le (length t
 
 -- the machine of each command begins with its dialogue
 module _ (site : Site) (dir : ObjectName) where
-  walk_starts : (path : List ℕ) → is_path path ≡ true → TalkOn (talk_turn (Name (Walk (walk_of site true (route_of path) dir))) None) (by_name (walk site path dir true) came)
+  walk_starts : (path : List ℕ) → is_path path ≡ true → TalkOn (talk_turn (Name (Walk (walk_of site true (route_of path) dir))) None) (led_on (walk site path dir true) came)
   walk_starts path sound =
       name_starts walking_asks walking_after (λ m. Walk m) (λ m d same. same) (walk_of site true (route_of path) dir) (walk site path dir true)
-      (λ heard fits. walk_says site dir true path heard sound fits)
+      (walk_says site dir true path sound)
 
   add_starts : (path : List ℕ) (kind : ObjKind) (room : ℕ) (text : Option (List ℕ)) → is_path path ≡ true → IsRoom room → IsLinkText kind text
-      → TalkOn (talk_turn (Name (Add (add_name_of site (route_of path) dir kind room text))) None) (by_name (add_name site path dir kind room text) came)
+      → TalkOn (talk_turn (Name (Add (add_name_of site (route_of path) dir kind room text))) None) (led_on (add_name site path dir kind room text) came)
   add_starts path kind room text sound room_is text_is =
       name_starts by_path_asks by_path_after (λ m. Add m) (λ m d same. same) (add_name_of site (route_of path) dir kind room text) (add_name site path dir kind room text)
-      (λ heard fits. add_heard site path dir kind room text heard sound room_is text_is fits)
+      (add_heard site path dir kind room text sound room_is text_is)
 
-  drop_starts : (path : List ℕ) → is_path path ≡ true → TalkOn (talk_turn (Name (Drop (drop_name_of site (route_of path) dir))) None) (by_name (drop_name site path dir) came)
+  drop_starts : (path : List ℕ) → is_path path ≡ true → TalkOn (talk_turn (Name (Drop (drop_name_of site (route_of path) dir))) None) (led_on (drop_name site path dir) came)
   drop_starts path sound =
       name_starts by_path_asks by_path_after (λ m. Drop m) (λ m d same. same) (drop_name_of site (route_of path) dir) (drop_name site path dir)
-      (λ heard fits. drop_heard site path dir heard sound fits)
+      (drop_heard site path dir sound)
 
-  list_starts : (path : List ℕ) → is_path path ≡ true → TalkOn (talk_turn (Name (ListRows (list_dir_of site (route_of path) dir))) None) (by_name (list_dir site path dir) came)
+  list_starts : (path : List ℕ) → is_path path ≡ true → TalkOn (talk_turn (Name (ListRows (list_dir_of site (route_of path) dir))) None) (led_on (list_dir site path dir) came)
   list_starts path sound =
       name_starts by_path_asks by_path_after (λ m. ListRows m) (λ m d same. same) (list_dir_of site (route_of path) dir) (list_dir site path dir)
-      (λ heard fits. list_heard site path dir heard sound fits)
+      (list_heard site path dir sound)
 
   seek_starts : (path : List ℕ) (errand : Errand) → is_path path ≡ true → IsErrand errand
       → TalkOn (talk_turn (File (Some (Seeks (walk_of site true (route_of path) dir) errand))) None) (with_file site dir path (at_file errand))
   seek_starts path errand sound h =
       let walking = walk_of site true (route_of path) dir in
-      let begun = name_begun walking_asks walking_after walking (walk site path dir true) (λ heard fits. walk_says site dir true path heard sound fits) in
+      let begun = name_begun walking_asks walking_after walking (walk site path dir true) (walk_says site dir true path sound) in
       of_file_on (file_turn (Seeks walking errand) None) (with_file site dir path (at_file errand)) (seek_goes errand (walk site path dir true) _ _ begun.0 h begun.1)
 
   pub talk_starts : (command : Command) → talks command ≡ true → is_sound command ≡ true → TalkOn (talk_turn (talk_of site dir command) None) (dialogue_of site dir command)

@@ -12,7 +12,7 @@ use Rattle.naming_tree.specs.Walks.{walk}
 use Rattle.naming_tree.specs.Walking.{walk_of}
 use Rattle.naming_tree.specs.NamePaths.{add_name, drop_name, list_dir}
 use Rattle.naming_tree.specs.ByPaths.{add_name_of, drop_name_of, list_dir_of}
-use Rattle.command_talks.specs.Dialogues.{Dialogue, by_name, came}
+use Rattle.command_talks.specs.Dialogues.{Dialogue, led_on, came}
 use Rattle.command_talks.specs.Files.{read_file, count_file, append_file, copy_file}
 use Rattle.command_talks.specs.declared.talk.Talk.{Talk}
 use Rattle.command_talks.specs.declared.talk.Talk.TheVariants.{Name, File}
@@ -63,17 +63,17 @@ is_sound _ = true
 
 -- the dialogue of a command that has one
 abbrev pub dialogue_of : Site → ObjectName → Command → Dialogue
-dialogue_of site dir (Bind var path) = by_name (walk site path dir true) came
-dialogue_of site dir (Crf path room) = by_name (add_name site path dir kinds.File (unwrap_or room 16) None) came
-dialogue_of site dir (Crd path) = by_name (add_name site path dir kinds.Directory 8 None) came
-dialogue_of site dir (Crl path target) = by_name (add_name site path dir kinds.Link 1 (Some target)) came
-dialogue_of site dir (Dlf path) = by_name (drop_name site path dir) came
+dialogue_of site dir (Bind var path) = led_on (walk site path dir true) came
+dialogue_of site dir (Crf path room) = led_on (add_name site path dir kinds.File (unwrap_or room 16) None) came
+dialogue_of site dir (Crd path) = led_on (add_name site path dir kinds.Directory 8 None) came
+dialogue_of site dir (Crl path target) = led_on (add_name site path dir kinds.Link 1 (Some target)) came
+dialogue_of site dir (Dlf path) = led_on (drop_name site path dir) came
 dialogue_of site dir (Catf path) = read_file site dir path
 dialogue_of site dir (Lnf path) = count_file site dir path
 dialogue_of site dir (Apf path text) = append_file site dir path text
 dialogue_of site dir (Cpf path target) = copy_file site dir path target
-dialogue_of site dir (Ld path) = by_name (list_dir site path dir) came
-dialogue_of site dir (Wd (Some path)) = by_name (walk site path dir true) came
+dialogue_of site dir (Ld path) = led_on (list_dir site path dir) came
+dialogue_of site dir (Wd (Some path)) = led_on (walk site path dir true) came
 dialogue_of site dir _ = came Removed
 
 -- the machine of a command on names, before its first turn

@@ -13,8 +13,8 @@ use Rattle.naming_tree.specs.declared.walking.Walking.{Walking}
 use Rattle.naming_tree.specs.declared.step.Walked.{Walked}
 use Rattle.naming_tree.specs.declared.step.Walked.TheVariants.{Root, At}
 use Rattle.naming_tree.specs.declared.step.NameResult.TheVariants.{Found, Added, IsDir, Store}
-use Rattle.naming_tree.specs.declared.step.NameStep.{NameStep}
-use Rattle.naming_tree.specs.declared.step.NameStep.TheVariants as names
+use Rattle.naming_tree.specs.Dialogues.{NameStep}
+use Rattle.naming_tree.specs.declared.step.Step.TheVariants as steps
 use Rattle.naming_tree.specs.ByPaths.{add_name_of, by_path_after, by_path_asks}
 use Rattle.dir_records.specs.Paths.{route_of}
 use Rattle.naming_tree.specs.Turns.{FitsStood, stood_after, stood_says}
@@ -22,12 +22,12 @@ use Rattle.naming_tree.specs.Walking.{walking_after, walking_asks}
 use Rattle.mapped_streams.specs.declared.gathered.Gathered.TheVariants.{All, Lines}
 use Rattle.mapped_streams.specs.declared.step.StreamResult.{StreamResult}
 use Rattle.mapped_streams.specs.declared.step.StreamResult.TheVariants as results
-use Rattle.mapped_streams.specs.declared.step.StreamStep.{StreamStep}
-use Rattle.mapped_streams.specs.declared.step.StreamStep.TheVariants as streams
+use Rattle.mapped_streams.specs.Dialogues.{StreamStep}
 use Rattle.mapped_streams.specs.declared.streaming.Streaming.{Streaming}
 use Rattle.mapped_streams.specs.declared.work.Side.TheVariants.{Before}
 use Rattle.mapped_streams.specs.declared.work.Work.TheVariants as works
-use Rattle.mapped_streams.specs.Dialogues.{Dialogue, Ends, Asks, MayHear, said_to}
+use Rattle.naming_tree.specs.Dialogues.{asked}
+use Rattle.mapped_streams.specs.Dialogues.{Dialogue, MayHear, said_to}
 use Rattle.mapped_streams.specs.States.{rest, streaming_of}
 use Rattle.mapped_streams.specs.Turns.{stood_after as stream_after}
 use Rattle.command_talks.specs.Files.{not_a_file, room_for}
@@ -45,13 +45,9 @@ use Rattle.command_talks.specs.declared.outcome.Outcome.{Outcome}
 use Rattle.command_talks.specs.declared.outcome.Outcome.TheVariants.{Came, Streamed, Written}
 
 -- what a stream asks where it stands
-abbrev pub op_of : Dialogue → Option Op
-op_of (Ends result) = None
-op_of (Asks op further) = Some op
-
 abbrev pub op_left : Option Dialogue → Option Op
 op_left None = None
-op_left (Some d) = op_of d
+op_left (Some d) = asked d
 
 abbrev pub stream_asks : Option Streaming → Option Op
 stream_asks m = op_left (rest m)
@@ -104,8 +100,8 @@ over_turn talk result = Comes (Streamed result)
 -- a machine whose stream says this goes on, or has come to its end
 abbrev pub stream_turn : Option StreamStep → FileTalk → Option FileTurn
 stream_turn None talk = None
-stream_turn (Some (streams.Do op)) talk = Some (Goes talk op)
-stream_turn (Some (streams.Over result)) talk = Some (over_turn talk result)
+stream_turn (Some (steps.Do op)) talk = Some (Goes talk op)
+stream_turn (Some (steps.Over result)) talk = Some (over_turn talk result)
 
 abbrev pub stream_told : (Option Streaming → FileTalk) → Option Streaming → Option Reply → Option FileTurn
 stream_told make m last = stream_turn (said_to (rest m) last) (make (stream_after m last))
@@ -113,9 +109,9 @@ stream_told make m last = stream_turn (said_to (rest m) last) (make (stream_afte
 -- the target is added, and then takes the bytes
 abbrev pub add_turn : Sourced → Option NameStep → Option ByPath → Option FileTurn
 add_turn s None m = None
-add_turn s (Some (names.Do op)) m = Some (Goes (Adds s m) op)
-add_turn s (Some (names.Over (Added v))) m = stream_told (λ m. Copies s m) (Some (streaming_of v (works.Copy s.at 0 None))) None
-add_turn s (Some (names.Over result)) m = Some (closes s (Some (Came result)))
+add_turn s (Some (steps.Do op)) m = Some (Goes (Adds s m) op)
+add_turn s (Some (steps.Over (Added v))) m = stream_told (λ m. Copies s m) (Some (streaming_of v (works.Copy s.at 0 None))) None
+add_turn s (Some (steps.Over result)) m = Some (closes s (Some (Came result)))
 
 abbrev pub add_told : Sourced → Option ByPath → Option Reply → Option FileTurn
 add_told s m last = add_turn s (stood_says by_path_asks by_path_after m last) (stood_after by_path_after m last)
@@ -175,9 +171,9 @@ found_turn errand (At u kind within) = Some (Comes (Written not_a_file))
 
 abbrev pub seek_turn : Errand → Option NameStep → Option Walking → Option FileTurn
 seek_turn errand None walk = None
-seek_turn errand (Some (names.Do op)) walk = Some (Goes (Seeks walk errand) op)
-seek_turn errand (Some (names.Over (Found at))) walk = found_turn errand at
-seek_turn errand (Some (names.Over result)) walk = Some (Comes (Came result))
+seek_turn errand (Some (steps.Do op)) walk = Some (Goes (Seeks walk errand) op)
+seek_turn errand (Some (steps.Over (Found at))) walk = found_turn errand at
+seek_turn errand (Some (steps.Over result)) walk = Some (Comes (Came result))
 
 -- what a reply makes of a machine, or nothing at its first call: it goes on with an operation, or comes to an outcome.
 -- None of one that is over

@@ -2,8 +2,8 @@
 use Rattle.std.specs.Prelude.{◌≡◌, Option, Some, None}
 use Rattle.dom_history.specs.declared.op.Reply.{Reply}
 use Rattle.dom_history.specs.Ranges.{IsOp}
-use Rattle.mapped_streams.specs.declared.step.StreamStep.{StreamStep}
-use Rattle.mapped_streams.specs.declared.step.StreamStep.TheVariants.{Do, Over}
+use Rattle.mapped_streams.specs.Dialogues.{StreamStep}
+use Rattle.naming_tree.specs.declared.step.Step.TheVariants.{Do, Over}
 use Rattle.mapped_streams.specs.Dialogues.{said_to}
 use Rattle.mapped_streams.specs.States.{rest}
 use Rattle.mapped_streams.specs.Turns.{stood_after}

@@ -20,7 +20,7 @@ use Rattle.mapped_streams.specs.declared.mapped.Mapped.{Mapped}
 use Rattle.mapped_streams.specs.Streams.{read_all, count_lines, append, copy}
 use Rattle.command_talks.specs.declared.outcome.Outcome.{Outcome}
 use Rattle.command_talks.specs.declared.outcome.Outcome.TheVariants.{Came, Streamed, Written}
-use Rattle.command_talks.specs.Dialogues.{Dialogue, Ends, by_name, by_stream, streamed, closing, ask}
+use Rattle.command_talks.specs.Dialogues.{Dialogue, Ends, led_on, streamed, closing, ask}
 
 -- the answer of a command whose file is none
 abbrev pub not_a_file : List ℕ
@@ -39,17 +39,17 @@ on_file further result = Ends (Came result)
 
 -- the file at the end of a path, where a link is followed
 abbrev pub with_file : Site → ObjectName → List ℕ → (ObjectName → Dialogue) → Dialogue
-with_file site dir path further = by_name (walk site path dir true) (on_file further)
+with_file site dir path further = led_on (walk site path dir true) (on_file further)
 
 -- its bytes, how many lines it has, and a text behind its bytes
 abbrev pub read_file : Site → ObjectName → List ℕ → Dialogue
-read_file site dir path = with_file site dir path (λ u. by_stream (read_all u) streamed)
+read_file site dir path = with_file site dir path (λ u. led_on (read_all u) streamed)
 
 abbrev pub count_file : Site → ObjectName → List ℕ → Dialogue
-count_file site dir path = with_file site dir path (λ u. by_stream (count_lines u) streamed)
+count_file site dir path = with_file site dir path (λ u. led_on (count_lines u) streamed)
 
 abbrev pub append_file : Site → ObjectName → List ℕ → List ℕ → Dialogue
-append_file site dir path text = with_file site dir path (λ u. by_stream (append u text) streamed)
+append_file site dir path text = with_file site dir path (λ u. led_on (append u text) streamed)
 
 -- the room of a copy: one page at least
 abbrev pub room_for : ℕ → ℕ
@@ -67,12 +67,12 @@ on_copied held result = closing held (Streamed result)
 
 -- the target is made, and takes the bytes of the source
 abbrev pub on_added : List Op → Mapped → NameResult → Dialogue
-on_added held source (Added v) = by_stream (copy source v) (on_copied held)
+on_added held source (Added v) = led_on (copy source v) (on_copied held)
 on_added held source result = closing held (Came result)
 
 -- the source is open; the target is a name for a new file
 abbrev pub copy_open : Site → ObjectName → List ℕ → List Op → Mapped → Dialogue
-copy_open site dir target held source = by_name (add_name site target dir kinds.File (room_for source.length) None) (on_added held source)
+copy_open site dir target held source = led_on (add_name site target dir kinds.File (room_for source.length) None) (on_added held source)
 
 abbrev pub map_source : Site → ObjectName → List ℕ → ObjectName → ℕ → Dialogue
 map_source site dir target u n = ask place (Unlock u ∷ []) (Map u) (λ at. copy_open site dir target (closers_if at.1 u) (record { address = at.0; length = n }))

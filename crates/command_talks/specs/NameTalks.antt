@@ -2,7 +2,7 @@
 use Rattle.std.specs.Prelude.{Option, Some, None, IsSome}
 use Rattle.dom_history.specs.declared.op.Op.{Op}
 use Rattle.dom_history.specs.declared.op.Reply.{Reply}
-use Rattle.naming_tree.specs.declared.step.NameStep.{NameStep}
+use Rattle.naming_tree.specs.Dialogues.{NameStep}
 use Rattle.naming_tree.specs.Turns.{FitsStood, stood_after, stood_says}
 use Rattle.naming_tree.specs.Walking.{walking_after, walking_asks}
 use Rattle.naming_tree.specs.ByPaths.{by_path_after, by_path_asks}

@@ -3,15 +3,14 @@ use Rattle.std.specs.Prelude.{◌≡◌, Option, Some, None}
 use Rattle.dom_history.specs.declared.op.Op.{Op}
 use Rattle.dom_history.specs.declared.op.Reply.{Reply}
 use Rattle.dom_history.specs.Ranges.{IsOp}
-use Rattle.naming_tree.specs.declared.step.NameStep.{NameStep}
-use Rattle.naming_tree.specs.declared.step.NameStep.TheVariants.{Do, Over}
+use Rattle.naming_tree.specs.Dialogues.{NameStep}
+use Rattle.naming_tree.specs.declared.step.Step.TheVariants.{Do, Over}
 use Rattle.command_talks.specs.declared.file_talk.FileTurn.{FileTurn}
 use Rattle.command_talks.specs.declared.file_talk.FileTurn.TheVariants as files
 use Rattle.command_talks.specs.declared.name_talk.NameTalk.{NameTalk}
 use Rattle.command_talks.specs.declared.outcome.Outcome.{Outcome}
 use Rattle.command_talks.specs.declared.outcome.Outcome.TheVariants.{Came}
-use Rattle.command_talks.specs.declared.talk.Step.{Step}
-use Rattle.command_talks.specs.declared.talk.Step.TheVariants as steps
+use Rattle.command_talks.specs.Dialogues.{TalkStep}
 use Rattle.command_talks.specs.declared.talk.Talk.{Talk}
 use Rattle.command_talks.specs.declared.talk.Talk.TheVariants.{Name, File}
 use Rattle.command_talks.specs.FileTalks.{file_asks, file_turn, MayHearFile}
@@ -48,9 +47,9 @@ talk_turn (File None) last = None
 talk_turn (File (Some talk)) last = of_file (file_turn talk last)
 
 -- the turn of a step and of where the machine stands behind it
-abbrev pub turn_by : Step → Talk → Turn
-turn_by (steps.Do op) talk = Goes talk op
-turn_by (steps.Over outcome) talk = Comes outcome
+abbrev pub turn_by : TalkStep → Talk → Turn
+turn_by (Do op) talk = Goes talk op
+turn_by (Over outcome) talk = Comes outcome
 
 -- what may be told to it
 abbrev pub MayBeTold : Talk → Option Reply → Type 0

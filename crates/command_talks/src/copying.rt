@@ -1,11 +1,11 @@
 //! How a file is copied to a new name.
-ghost use Rattle.std.specs.Prelude.{◌≡◌, Some, None, Option, IfOk, IsSome};
+ghost use Rattle.std.specs.Prelude.{◌≡◌, Some, None, Option, IsTrue, IfOk, IsSome};
 ghost use Rattle.std.specs.Option.{option_copied};
-ghost use Rattle.dom_history.specs.Fitting.{FitsLength, FitsMap};
+ghost use Rattle.dom_history.specs.Fitting.{is_length_reply, is_map_reply};
 ghost use Rattle.naming_tree.specs.ByPaths.{by_path_asks};
 ghost use Rattle.naming_tree.specs.Turns.{FitsStood};
 ghost use Rattle.naming_tree.specs.declared.step.NameResult.TheVariants.{Store};
-ghost use Rattle.naming_tree.specs.declared.step.NameStep.TheVariants.{Over};
+ghost use Rattle.naming_tree.specs.declared.step.Step.TheVariants.{Over};
 ghost use Rattle.mapped_streams.specs.States.{streaming_of};
 ghost use Rattle.mapped_streams.specs.declared.work.Work.TheVariants.{Copy as CopyWork};
 ghost use Rattle.uid_names.specs.declared.mode.Mode.TheVariants.{Read as ReadMode};
@@ -111,7 +111,7 @@ fn measured(
     target: Target,
     reply: &Reply,
 ) -> Result<FileTurn, NoMemory>
-    requires { FitsLength reply.now }
+    requires { IsTrue (is_length_reply reply.now) }
     ensures turn { IfOk result (λ turn. Some turn ≡ length_turn source target reply.now) }
     ensures asks { IfOk result Asks }
 {
@@ -132,7 +132,7 @@ fn mapped(
     target: Target,
     reply: &Reply,
 ) -> Result<FileTurn, NoMemory>
-    requires { FitsMap reply.now }
+    requires { IsTrue (is_map_reply reply.now) }
     ensures turn { IfOk result (λ turn. Some turn ≡ map_turn source target reply.now) }
     ensures asks { IfOk result Asks }
 {

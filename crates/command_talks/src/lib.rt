@@ -16,4 +16,4 @@ mod turning;
 
 pub use naming::machine_for;
 pub use outcome::Outcome;
-pub use talk::{Machine, Step};
+pub use talk::{Machine, TalkStep};

@@ -1,7 +1,7 @@
 //! The machines of names that commands drive.
 ghost use Rattle.std.specs.Prelude.{◌≡◌, Some, None, IfOk, OnOk};
 ghost use Rattle.std.specs.Option.{option_copied};
-ghost use Rattle.naming_tree.specs.Turns.{IsStep};
+ghost use Rattle.naming_tree.specs.Dialogues.{IsStep};
 ghost use Rattle.naming_tree.specs.declared.walking.Walking.{Walking};
 ghost use Rattle.naming_tree.specs.declared.by_path.ByPath.{ByPath};
 

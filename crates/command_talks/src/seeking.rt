@@ -4,7 +4,7 @@ ghost use Rattle.std.specs.Option.{option_copied};
 ghost use Rattle.dom_history.specs.Fitting.{Fits};
 ghost use Rattle.naming_tree.specs.Turns.{FitsStood};
 ghost use Rattle.naming_tree.specs.Walking.{walking_asks};
-ghost use Rattle.naming_tree.specs.declared.step.NameStep.TheVariants.{Over};
+ghost use Rattle.naming_tree.specs.declared.step.Step.TheVariants.{Over};
 ghost use Rattle.command_talks.specs.FileTalks.{errand_turn, found_turn, seek_turn, file_turn, MayHearFile};
 ghost use Rattle.command_talks.specs.FileTurns.{file_says, Asks};
 ghost use Rattle.command_talks.specs.declared.file_talk.FileTalk.TheVariants.{Seeks};

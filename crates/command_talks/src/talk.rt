@@ -4,7 +4,7 @@ ghost use Rattle.std.specs.Prelude.{◌≡◌, IfOk};
 use crate::file_talk::FileTalk;
 use crate::name_talk::NameTalk;
 use crate::outcome::Outcome;
-use dom_history::Op;
+use naming_tree::Step;
 use std::alloc::{AllocError, Global};
 use std::marker::Model;
 use uid_names::NoMemory;
@@ -50,8 +50,4 @@ impl Machine {
 }
 
 /// What a machine says: its next operation, or what the command has come to.
-#[derive(Drop)]
-pub enum Step {
-    Do(Op),
-    Over(Outcome),
-}
+pub type TalkStep = Step<Outcome>;

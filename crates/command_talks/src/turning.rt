@@ -10,7 +10,7 @@ ghost use Rattle.command_talks.specs.declared.talk.Talk.TheVariants.{Name, File}
 use crate::file_talk::{FileTalk, FileTurn};
 use crate::name_talk::NameTalk;
 use crate::outcome::Outcome;
-use crate::talk::{Machine, Step, Talk};
+use crate::talk::{Machine, Talk, TalkStep};
 use dom_history::Reply;
 use mapped_streams::{StreamResult, StreamStep};
 use naming_tree::NameStep;
@@ -18,19 +18,19 @@ use std::alloc::Global;
 use uid_names::NoMemory;
 
 /// A machine of a name that is told this.
-fn name_step(alloc: Global, talk: &mut NameTalk, last: Option<&Reply>) -> Result<Step, NoMemory>
+fn name_step(alloc: Global, talk: &mut NameTalk, last: Option<&Reply>) -> Result<TalkStep, NoMemory>
     requires { MayHearName talk.old (option_copied last) }
     ensures turn { IfOk result (λ step. Some (turn_by step (Name talk.new)) ≡ talk_turn (Name talk.old) (option_copied last.entry)) }
     ensures asks { IfOk result (λ step. AsksThere (turn_by step (Name talk.new))) }
 {
     match talk.next(alloc, last)? {
-        NameStep::Do(op) => Ok(Step::Do(op)),
-        NameStep::Over(come) => Ok(Step::Over(Outcome::Came(come))),
+        NameStep::Do(op) => Ok(TalkStep::Do(op)),
+        NameStep::Over(come) => Ok(TalkStep::Over(Outcome::Came(come))),
     }
 }
 
 /// A machine of a file stands where its turn leads.
-fn stand(talk: &mut Option<FileTalk>, turn: FileTurn) -> Step
+fn stand(talk: &mut Option<FileTalk>, turn: FileTurn) -> TalkStep
     requires { FileAsks turn }
     ensures turn { turn_by result (File talk.new) ≡ as_turn turn }
     ensures asks { AsksThere (turn_by result (File talk.new)) }
@@ -38,15 +38,15 @@ fn stand(talk: &mut Option<FileTalk>, turn: FileTurn) -> Step
     match turn {
         FileTurn::Goes(machine, op) => {
             *talk = Some(machine);
-            Step::Do(op)
+            TalkStep::Do(op)
         }
-        FileTurn::Comes(outcome) => Step::Over(outcome),
+        FileTurn::Comes(outcome) => TalkStep::Over(outcome),
     }
 }
 
 /// The stream of a machine of a file has come to this.
 #[inline(never)]
-fn end_stream(talk: &mut Option<FileTalk>, come: StreamResult) -> Step
+fn end_stream(talk: &mut Option<FileTalk>, come: StreamResult) -> TalkStep
     requires { IsSome talk.old }
     ensures turn { Some (turn_by result (File talk.new)) ≡ of_file (option_map (λ m. over_turn m come) talk.old) }
     ensures asks { AsksThere (turn_by result (File talk.new)) }
@@ -62,7 +62,7 @@ fn move_on(
     alloc: Global,
     talk: &mut Option<FileTalk>,
     last: Option<&Reply>,
-) -> Result<Step, NoMemory>
+) -> Result<TalkStep, NoMemory>
     requires fits { MayBeTold (File talk.old) (option_copied last) }
     requires apart { IfSome talk.old (λ m. file_says m (option_copied last) ≡ None) }
     ensures turn { IfOk result (λ step. Some (turn_by step (File talk.new)) ≡ talk_turn (File talk.old) (option_copied last.entry)) }
@@ -81,14 +81,14 @@ fn file_step(
     alloc: Global,
     talk: &mut Option<FileTalk>,
     last: Option<&Reply>,
-) -> Result<Step, NoMemory>
+) -> Result<TalkStep, NoMemory>
     requires { MayBeTold (File talk.old) (option_copied last) }
     ensures turn { IfOk result (λ step. Some (turn_by step (File talk.new)) ≡ talk_turn (File talk.old) (option_copied last.entry)) }
     ensures asks { IfOk result (λ step. AsksThere (turn_by step (File talk.new))) }
 {
     let Some(machine) = talk else { unreachable!() };
     match machine.stream(alloc, last)? {
-        Some(StreamStep::Do(op)) => Ok(Step::Do(op)),
+        Some(StreamStep::Do(op)) => Ok(TalkStep::Do(op)),
         Some(StreamStep::Over(come)) => Ok(end_stream(talk, come)),
         None => move_on(alloc, talk, last),
     }
@@ -97,7 +97,7 @@ fn file_step(
 impl Talk {
     /// Tells it the reply to its operation; nothing at the first call.
     #[tactic(none)]
-    fn next(&mut self, alloc: Global, last: Option<&Reply>) -> Result<Step, NoMemory>
+    fn next(&mut self, alloc: Global, last: Option<&Reply>) -> Result<TalkStep, NoMemory>
         requires { MayBeTold self.old (option_copied last) }
         ensures turn { IfOk result (λ step. Some (turn_by step self.new) ≡ talk_turn self.old (option_copied last.entry)) }
         ensures asks { IfOk result (λ step. AsksThere (turn_by step self.new)) }
@@ -111,7 +111,7 @@ impl Talk {
 
 impl Machine {
     /// Tells it the reply to its operation; nothing at the first call.
-    pub fn next(&mut self, alloc: Global, last: Option<&Reply>) -> Result<Step, NoMemory>
+    pub fn next(&mut self, alloc: Global, last: Option<&Reply>) -> Result<TalkStep, NoMemory>
         requires { MayBeTold self.old (option_copied last) }
         ensures turn { IfOk result (λ step. Some (turn_by step self.new) ≡ talk_turn self.old (option_copied last.entry)) }
         ensures asks { IfOk result (λ step. AsksThere (turn_by step self.new)) }

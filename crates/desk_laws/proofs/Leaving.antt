@@ -44,8 +44,8 @@ after-left own all p op m after = record { asks = after.asks; ready = after.read
 
 -- a load or store may end with a link fault
 fault-fits : (op : Op) (task : Option Task) → IsTaskOf op task → Fits op LinkFault
-fault-fits (ops.Load spot count) task of = tt
-fault-fits (ops.Store spot bytes) task of = tt
+fault-fits (ops.Load spot count) task of = refl
+fault-fits (ops.Store spot bytes) task of = refl
 fault-fits op task of = absurd of
 
 module _ (d : DeskState) (p : ℕ) (is : IsDesk d) (proc : IsProc p) where

@@ -141,8 +141,8 @@ pub fn text(alloc: Global, body: &Body) -> Result<String, AllocError> {
     }
 }
 
-/// What a body says that has many parts, or one of a length of its own.
-fn long_text(alloc: Global, name: &str, body: &Body) -> Result<String, AllocError> {
+/// What a body says that sends a page or a length home.
+fn home_text(alloc: Global, name: &str, body: &Body) -> Result<String, AllocError> {
     match body {
         Body::PageOut {
             uid,
@@ -163,6 +163,13 @@ fn long_text(alloc: Global, name: &str, body: &Body) -> Result<String, AllocErro
             let uid = object_text(alloc, *uid)?;
             format!(in alloc; "{name} {uid} {length} {grant} {base}")
         }
+        _ => format!(in alloc; "{name}"),
+    }
+}
+
+/// What a body says that has many parts, or one of a length of its own.
+fn long_text(alloc: Global, name: &str, body: &Body) -> Result<String, AllocError> {
+    match body {
         Body::Page { stamp, bytes } => {
             let byte = bytes.bytes()[0];
             format!(in alloc; "{name} {stamp} {byte}")
@@ -186,7 +193,7 @@ fn long_text(alloc: Global, name: &str, body: &Body) -> Result<String, AllocErro
             let first = row_text(alloc, rows.items().first())?;
             format!(in alloc; "{name} {count} {more}{first}")
         }
-        _ => format!(in alloc; "{name}"),
+        _ => home_text(alloc, name, body),
     }
 }
 

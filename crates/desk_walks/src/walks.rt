@@ -11,9 +11,9 @@ use crate::plain_home::{Object, PAGES, page_of, place_of};
 use crate::words::{MOST, number, number32};
 use anyhow::{Context, Result, bail, ensure};
 use dom_history::{Op, Reply, Spot};
+use drawn_numbers::Draws;
 use fault_handler::Desk;
 use ring_messages::Body;
-use samples::Draws;
 use std::alloc::Global;
 use std::mem;
 use uid_names::{ByteList, Mode, NodeId, ProcId, Uid};
@@ -71,7 +71,7 @@ struct Seat {
 
 /// What a process does next.
 fn drawn(draws: &mut Draws) -> Deed {
-    let offset = place_of(draws.below(PAGES as u64) as u32);
+    let offset = place_of(draws.below(PAGES as u32));
     match draws.below(64) {
         0..4 => Deed::Lock(Mode::Read),
         4..8 => Deed::Lock(Mode::Write),
@@ -220,7 +220,7 @@ impl Table {
     /// Now and then another node changes an object.
     fn elsewhere(&mut self) {
         let at = self.draws.below(24) as usize;
-        let page = self.draws.below(PAGES as u64) as u32;
+        let page = self.draws.below(PAGES as u32);
         let byte = self.draws.below(256) as u8;
         if let Some(object) = self.objects.get_mut(at) {
             object.change_elsewhere(page, byte);

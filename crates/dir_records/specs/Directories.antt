@@ -71,6 +71,10 @@ placed_from i name (Some row ∷ slots) = cond (bytes_eq row.name name) (Some (i
 abbrev pub placed_row : List ℕ → List Slot → Option (ℕ × DirRow)
 placed_row name slots = placed_from 0 name slots
 
+-- this row of a name stands at this place
+abbrev pub StandsAt : List ℕ → ℕ → DirRow → List Slot → Type 0
+StandsAt name place row slots = placed_row name slots ≡ Some (place, row)
+
 -- how many stand before the first free one, where a new name goes: behind all of them where none is free
 abbrev pub first_free : List Slot → ℕ
 first_free slots = prefix_len is_some slots
@@ -80,3 +84,7 @@ abbrev pub with_slot : ℕ → Slot → List Slot → List Slot
 with_slot n slot [] = slot ∷ []
 with_slot zero slot (old ∷ slots) = slot ∷ slots
 with_slot (suc n) slot (old ∷ slots) = old ∷ with_slot n slot slots
+
+-- the records once that at a place is free
+abbrev pub freed : ℕ → List Slot → List Slot
+freed place slots = with_slot place None slots

@@ -2,7 +2,7 @@
 ghost use Rattle.std.specs.Prelude.{◌≡◌, ◌≢◌, ℕ, true, false, Some, None, List, bytes_eq};
 ghost use Rattle.dir_records.specs.declared.row.DirRow.{DirRow};
 ghost use Rattle.dir_records.specs.Records.{Slot, row_bytes, slot_of, IsRow};
-ghost use Rattle.dir_records.specs.Directories.{directory_of, are_apart, row_named, placed_row, first_free, with_slot, IsDirectory};
+ghost use Rattle.dir_records.specs.Directories.{directory_of, are_apart, row_named, StandsAt, first_free, with_slot, freed, IsDirectory};
 
 /// What is written of a row is read again.
 #[tactic(auto, using(crate::proofs::RecordsRead::record_read))]
@@ -20,8 +20,8 @@ pub fn added_names_are_found()
 /// Once the record of a name is free the name is not found, and each other name still stands for what it stood for.
 #[tactic(auto, using(crate::proofs::SlotsPut::gone, crate::proofs::SlotsPut::kept))]
 pub fn dropped_names_are_gone()
-    ensures gone { (name : List ℕ) (slots : List Slot) (place : ℕ) (row : DirRow) → are_apart slots ≡ true → placed_row name slots ≡ Some (place, row) → row_named name (with_slot place None slots) ≡ None }
-    ensures others { (name other : List ℕ) (slots : List Slot) (place : ℕ) (row : DirRow) → name ≢ other → placed_row name slots ≡ Some (place, row) → row_named other (with_slot place None slots) ≡ row_named other slots }
+    ensures gone { (name : List ℕ) (slots : List Slot) (place : ℕ) (row : DirRow) → are_apart slots ≡ true → StandsAt name place row slots → row_named name (freed place slots) ≡ None }
+    ensures others { (name other : List ℕ) (slots : List Slot) (place : ℕ) (row : DirRow) → name ≢ other → StandsAt name place row slots → row_named other (freed place slots) ≡ row_named other slots }
 {}
 
 /// A directory that is read has at most 128 records, and no two of them have one name.

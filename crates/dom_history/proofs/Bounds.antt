@@ -21,10 +21,11 @@ use Rattle.dom_history.specs.Bytes.{length_of, end_after}
 use Rattle.uid_names.specs.declared.segment.TheConstants.{SEGMENT_SIZE, SEGMENTS}
 use Rattle.dom_history.specs.Mappings.{Mapping, mappings, Target, target}
 use Rattle.dom_history.specs.Ranges.{IsOp}
-use Rattle.dom_history.specs.Fitting.{Fits, FitsLength, FitsMap}
+use Rattle.dom_history.specs.Fitting.{Fits, is_map_reply}
 use Rattle.dom_history.specs.Replies.{Before, before_of, reply_of, store_reply, map_reply}
 use Rattle.dom_history.specs.Runs.{AreAnswered}
 use Rattle.dom_history.proofs.ReplyRows.{found, length_reply-one, map_reply-one}
+use Rattle.dom_history.proofs.Fitting.{fits-size, fits-at}
 use Rattle.dom_history.proofs.Fits.{reply_of-fits}
 
 -- an address at which a segment begins
@@ -161,13 +162,17 @@ past_bounded opening start (d ∷ past) h ranges =
     answer_bounded (before_of opening past d.proc) d.proc d.op d.reply (All-head (λ e. IsOp e.op) d past ranges) h.0
     (past_bounded opening start past h.1 (All-tail (λ e. IsOp e.op) d past ranges))
 
+-- a segment that begins there is a reply to Map
+start_fits : (a : ℕ) (fresh : Bool) → IsSegmentStart a → is_map_reply (At a fresh) ≡ true
+start_fits a fresh start = fits-at a fresh start.0 start.1
+
 -- over what keeps the bounds each reply fits
 bounded-fits : (b : Before) (p : ProcName) (op : Op) → AreBounded b.opening b.past → Fits op (reply_of b p op)
-bounded-fits b p (Length u) h = length_reply-one FitsLength b u tt (h.lengths u)
+bounded-fits b p (Length u) h = length_reply-one (Fits (Length u)) b u refl (fits-size (length_of b.opening b.past u) (h.lengths u))
 bounded-fits b p (Map u) h =
-    map_reply-one FitsMap b p u tt
-    (λ m is. found (λ n. IsSegmentStart n.address) (λ n. same_uid u n.uid) (mappings p b.past) (h.addresses p) m is)
-    tt tt run_starts_segment
+    map_reply-one (Fits (Map u)) b p u refl
+    (λ m is. start_fits m.address false (found (λ n. IsSegmentStart n.address) (λ n. same_uid u n.uid) (mappings p b.past) (h.addresses p) m is))
+    refl refl (λ n small. start_fits (n * SEGMENT_SIZE) true (run_starts_segment n small))
 bounded-fits b p op h = reply_of-fits b p op (λ u e. absurd cc) (λ u e. absurd cc)
 
 -- over what was answered each reply fits

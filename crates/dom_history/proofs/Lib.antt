@@ -5,6 +5,7 @@ pub mod Before
 pub mod Tables
 pub mod Endings
 pub mod ReplyRows
+pub mod Fitting
 pub mod Fits
 pub mod Bounds
 pub mod RowOrder

@@ -1,7 +1,6 @@
 -- The rows of one link of a plan, by rising number, row after row of the plan.
 use Rattle.std.proofs.Common.{◌≡◌, ◌∙◌, ℕ, Bool, true, false, List, [], ◌∷◌, ◌++◌, length, refl, ap, sym, arith}
 use Rattle.std.specs.Prelude.{Option, Some, None, is_some, find, insert, nat_lt, ◌==◌, ◌&&◌, All, IsTrue, if◌then◌else◌, Result, Ok, Err, MatchResult}
-use Rattle.std.specs.Option.{option_or}
 use Rattle.std.specs.List.{prefix_len}
 use Rattle.std.specs.List.Sorted.{IsBinarySearchResult, IsSearchInRange}
 use Rattle.std.specs.Ordering.{nat_cmp}
@@ -11,6 +10,7 @@ use Rattle.std.proofs.lemmas.List.Elements.{All-nil}
 use Rattle.uid_names.specs.InOrder.{AreInOrder, put_in_order}
 use Rattle.uid_names.proofs.Finds.{find-all_fail}
 use Rattle.uid_names.proofs.InOrder.{IsSearch, Agrees-nat, AllPairs-nil, put_in_order-all, put_in_order-rising, searched, insert-place}
+use Rattle.uid_names.proofs.Somes.{option_or-none}
 use Rattle.dom_history.specs.declared.plan.FateRow.{FateRow}
 use Rattle.dom_history.specs.Plans.{is_of_frame, is_of_link, fate_in, set_fate, is_set, has_lower, AreOfLink}
 
@@ -61,11 +61,6 @@ unfound : (found : Option FateRow) → is_some (fate_in found) ≡ false → fou
 unfound None e = refl
 unfound (Some row) e = absurd cc
 
--- what was found or else nothing
-or-none : {X : Type 0} (found : Option X) → option_or found None ≡ found
-or-none None = refl
-or-none (Some x) = refl
-
 -- a plan without rows has none of a link
 pub none-of_link : (from to : ℕ) → AreOfLink [] from to []
 none-of_link from to = record {
@@ -88,7 +83,7 @@ pub other-of_link : (plan : List FateRow) (row : FateRow) (from to : ℕ) (rows 
 other-of_link plan row from to rows other are = record {
   link = are.link;
   rising = are.rising;
-  fates = λ index. are.fates index ∙ ap fate_in (sym (find-append (is_of_frame from to index) plan (row ∷ []) ∙ rw (other-frame row from to index other) (or-none (find (is_of_frame from to index) plan))));
+  fates = λ index. are.fates index ∙ ap fate_in (sym (find-append (is_of_frame from to index) plan (row ∷ []) ∙ rw (other-frame row from to index other) (option_or-none (find (is_of_frame from to index) plan))));
 }
 
 -- one of this link goes to its place
@@ -119,7 +114,7 @@ one-of_link plan row rows unset are = record {
         ap fate_in (new ∙ sym (find-append (is_of_frame row.from row.to index) plan (row ∷ []) ∙ rw (before, e) refl))
     by_test index false e =
         ap fate_in (find-put_other has_lower (is_of_frame row.from row.to index) row e rows) ∙ are.fates index
-        ∙ ap fate_in (sym (find-append (is_of_frame row.from row.to index) plan (row ∷ []) ∙ rw e (or-none (find (is_of_frame row.from row.to index) plan))))
+        ∙ ap fate_in (sym (find-append (is_of_frame row.from row.to index) plan (row ∷ []) ∙ rw e (option_or-none (find (is_of_frame row.from row.to index) plan))))
 
 -- so each row of the plan leaves the rows of the link
 pub row-of_link : (plan : List FateRow) (row : FateRow) (from to : ℕ) (rows : List FateRow) → is_set plan row.from row.to row.index ≡ false → AreOfLink plan from to rows

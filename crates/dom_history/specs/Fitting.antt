@@ -1,7 +1,6 @@
 -- Which replies an operation can have at all, those of a link fault included.
-use Rattle.std.specs.Prelude.{ℕ, ◌≡◌, ◌*◌, ◌%◌, ◌≤◌, ◌<◌, length}
-use Rattle.uid_names.specs.Rooms.{IsLength}
-use Rattle.uid_names.specs.declared.limits.TheConstants.{LISTED_ROWS}
+use Rattle.std.specs.Prelude.{ℕ, ◌*◌, ◌%◌, ◌==◌, nat_le, nat_lt, Bool, true, false, ◌&&◌, IsTrue, length}
+use Rattle.uid_names.specs.declared.limits.TheConstants.{LISTED_ROWS, MAX_LENGTH}
 use Rattle.uid_names.specs.declared.segment.TheConstants.{SEGMENT_SIZE, SEGMENTS}
 use Rattle.dom_history.specs.declared.op.Spot.{Spot}
 use Rattle.dom_history.specs.declared.op.Spot.TheVariants.{Of, Addr}
@@ -10,90 +9,94 @@ use Rattle.dom_history.specs.declared.op.Op.TheVariants.{New, Lock, Unlock, Dele
 use Rattle.dom_history.specs.declared.op.Reply.{Reply}
 use Rattle.dom_history.specs.declared.op.Reply.TheVariants.{Made, Fine, Bytes, Size, At, Locks, Conflict, NoObject, AlreadyHeld, NotHeld, Unsettled, TooMany, NoLock, WrongMode, PastRoom, PastEnd, NoSpace, Kept, Doubt, LinkFault, TooManyMaps, NoSegment, NotMapped}
 
-abbrev pub FitsNew : Reply → Type 0
-FitsNew (Made u) = Unit {0}
-FitsNew NoSpace = Unit {0}
-FitsNew LinkFault = Unit {0}
-FitsNew _ = ⊥
+abbrev pub is_new_reply : Reply → Bool
+is_new_reply (Made u) = true
+is_new_reply NoSpace = true
+is_new_reply LinkFault = true
+is_new_reply _ = false
 
-abbrev pub FitsLock : Reply → Type 0
-FitsLock AlreadyHeld = Unit {0}
-FitsLock Unsettled = Unit {0}
-FitsLock TooMany = Unit {0}
-FitsLock NoObject = Unit {0}
-FitsLock (Conflict q m) = Unit {0}
-FitsLock Doubt = Unit {0}
-FitsLock Fine = Unit {0}
-FitsLock _ = ⊥
+abbrev pub is_lock_reply : Reply → Bool
+is_lock_reply AlreadyHeld = true
+is_lock_reply Unsettled = true
+is_lock_reply TooMany = true
+is_lock_reply NoObject = true
+is_lock_reply (Conflict q m) = true
+is_lock_reply Doubt = true
+is_lock_reply Fine = true
+is_lock_reply _ = false
 
-abbrev pub FitsUnlock : Reply → Type 0
-FitsUnlock NotHeld = Unit {0}
-FitsUnlock Kept = Unit {0}
-FitsUnlock Doubt = Unit {0}
-FitsUnlock Fine = Unit {0}
-FitsUnlock _ = ⊥
+abbrev pub is_unlock_reply : Reply → Bool
+is_unlock_reply NotHeld = true
+is_unlock_reply Kept = true
+is_unlock_reply Doubt = true
+is_unlock_reply Fine = true
+is_unlock_reply _ = false
 
-abbrev pub FitsDelete : Reply → Type 0
-FitsDelete NoLock = Unit {0}
-FitsDelete WrongMode = Unit {0}
-FitsDelete Kept = Unit {0}
-FitsDelete Doubt = Unit {0}
-FitsDelete Fine = Unit {0}
-FitsDelete _ = ⊥
+abbrev pub is_delete_reply : Reply → Bool
+is_delete_reply NoLock = true
+is_delete_reply WrongMode = true
+is_delete_reply Kept = true
+is_delete_reply Doubt = true
+is_delete_reply Fine = true
+is_delete_reply _ = false
 
 -- only an address can be unmapped
-abbrev pub IsAddress : Spot → Type 0
-IsAddress (Of u o) = ⊥
-IsAddress (Addr a) = Unit {0}
+abbrev pub is_address : Spot → Bool
+is_address (Of u o) = false
+is_address (Addr a) = true
 
-abbrev pub FitsLoad : Spot → ℕ → Reply → Type 0
-FitsLoad spot n NotMapped = IsAddress spot
-FitsLoad spot n NoLock = Unit {0}
-FitsLoad spot n PastEnd = Unit {0}
-FitsLoad spot n LinkFault = Unit {0}
-FitsLoad spot n (Bytes bytes) = length bytes ≡ n
-FitsLoad spot n _ = ⊥
+abbrev pub is_load_reply : Spot → ℕ → Reply → Bool
+is_load_reply spot n NotMapped = is_address spot
+is_load_reply spot n NoLock = true
+is_load_reply spot n PastEnd = true
+is_load_reply spot n LinkFault = true
+is_load_reply spot n (Bytes bytes) = length bytes == n
+is_load_reply spot n _ = false
 
-abbrev pub FitsStore : Spot → Reply → Type 0
-FitsStore spot NotMapped = IsAddress spot
-FitsStore spot NoLock = Unit {0}
-FitsStore spot WrongMode = Unit {0}
-FitsStore spot PastRoom = Unit {0}
-FitsStore spot LinkFault = Unit {0}
-FitsStore spot Fine = Unit {0}
-FitsStore spot _ = ⊥
+abbrev pub is_store_reply : Spot → Reply → Bool
+is_store_reply spot NotMapped = is_address spot
+is_store_reply spot NoLock = true
+is_store_reply spot WrongMode = true
+is_store_reply spot PastRoom = true
+is_store_reply spot LinkFault = true
+is_store_reply spot Fine = true
+is_store_reply spot _ = false
 
-abbrev pub FitsLength : Reply → Type 0
-FitsLength NoLock = Unit {0}
-FitsLength (Size n) = IsLength n
-FitsLength _ = ⊥
+abbrev pub is_length_reply : Reply → Bool
+is_length_reply NoLock = true
+is_length_reply (Size n) = nat_le n MAX_LENGTH
+is_length_reply _ = false
 
-abbrev pub FitsMap : Reply → Type 0
-FitsMap NoLock = Unit {0}
-FitsMap (At address fresh) = (address % SEGMENT_SIZE ≡ 0) × (address < SEGMENTS * SEGMENT_SIZE)
-FitsMap TooManyMaps = Unit {0}
-FitsMap NoSegment = Unit {0}
-FitsMap _ = ⊥
+abbrev pub is_map_reply : Reply → Bool
+is_map_reply NoLock = true
+is_map_reply (At address fresh) = (address % SEGMENT_SIZE == 0) && nat_lt address (SEGMENTS * SEGMENT_SIZE)
+is_map_reply TooManyMaps = true
+is_map_reply NoSegment = true
+is_map_reply _ = false
 
-abbrev pub FitsUnmap : Reply → Type 0
-FitsUnmap NotMapped = Unit {0}
-FitsUnmap Fine = Unit {0}
-FitsUnmap _ = ⊥
+abbrev pub is_unmap_reply : Reply → Bool
+is_unmap_reply NotMapped = true
+is_unmap_reply Fine = true
+is_unmap_reply _ = false
 
-abbrev pub FitsList : Reply → Type 0
-FitsList LinkFault = Unit {0}
-FitsList (Locks rows more) = length rows ≤ LISTED_ROWS
-FitsList _ = ⊥
+abbrev pub is_list_reply : Reply → Bool
+is_list_reply LinkFault = true
+is_list_reply (Locks rows more) = nat_le (length rows) LISTED_ROWS
+is_list_reply _ = false
+
+-- the test of a reply to an operation, which a program can make of what it is told
+abbrev pub can_have : Op → Reply → Bool
+can_have (New home kind room) reply = is_new_reply reply
+can_have (Lock u m) reply = is_lock_reply reply
+can_have (Unlock u) reply = is_unlock_reply reply
+can_have (Delete u) reply = is_delete_reply reply
+can_have (Load spot n) reply = is_load_reply spot n reply
+can_have (Store spot bytes) reply = is_store_reply spot reply
+can_have (Length u) reply = is_length_reply reply
+can_have (Map u) reply = is_map_reply reply
+can_have (Unmap u) reply = is_unmap_reply reply
+can_have (ListOp home after) reply = is_list_reply reply
 
 -- the operation can have this reply
 abbrev pub Fits : Op → Reply → Type 0
-Fits (New home kind room) reply = FitsNew reply
-Fits (Lock u m) reply = FitsLock reply
-Fits (Unlock u) reply = FitsUnlock reply
-Fits (Delete u) reply = FitsDelete reply
-Fits (Load spot n) reply = FitsLoad spot n reply
-Fits (Store spot bytes) reply = FitsStore spot reply
-Fits (Length u) reply = FitsLength reply
-Fits (Map u) reply = FitsMap reply
-Fits (Unmap u) reply = FitsUnmap reply
-Fits (ListOp home after) reply = FitsList reply
+Fits op reply = IsTrue (can_have op reply)

@@ -52,6 +52,10 @@ abbrev pub begun_of : Item → Place
 begun_of (Answered e) = e.place
 begun_of (Acted a) = a.begun
 
+-- the operation of i began before that of j
+abbrev pub BeganEarlier : Item → Item → Type 0
+BeganEarlier i j = IsTrue (place_lt (begun_of i) (begun_of j))
+
 -- p was answered in doubt, or by a link fault, at this place
 abbrev pub IsLeftOpen : Place → ProcName → Op → Item → Type 0
 IsLeftOpen begun p op (Answered e) = (e.place ≡ begun) × (e.proc ≡ p) × (e.op ≡ op) × ((e.reply ≡ Doubt) ⊎ (e.reply ≡ LinkFault))

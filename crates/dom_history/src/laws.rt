@@ -14,7 +14,7 @@ ghost use Rattle.uid_names.specs.InOrder.{AreInOrder};
 ghost use Rattle.uid_names.specs.Rows.{same_row, row_lt};
 ghost use Rattle.dom_history.specs.Locks.{state, state_by_last, holds, mode_in, rows};
 ghost use Rattle.dom_history.specs.Histories.{Item, Acted, Act, History, deed_of, before, place_of, place_lt, IsRising};
-ghost use Rattle.dom_history.specs.Legal.{IsLegal, StandsBefore, IsAtHomeOf, begun_of, MayEnd, IsIdle, with_entry};
+ghost use Rattle.dom_history.specs.Legal.{IsLegal, StandsBefore, IsAtHomeOf, BeganEarlier, MayEnd, IsIdle, with_entry};
 ghost use Rattle.dom_history.specs.Follows.{Heard, IsEnded, IsPhased};
 ghost use Rattle.dom_history.specs.Fitting.{Fits};
 ghost use Rattle.dom_history.specs.Replies.{Before, before_of, reply_of};
@@ -106,7 +106,7 @@ pub fn lock_rows_are_in_order()
 
 /// What one home decides for one process stands in the order of the operations, and no operation acts twice.
 pub fn homes_decide_in_order()
-    ensures in_order { (opening : Start) → (h : History) → IsLegal opening h → (i j : Item) → StandsBefore h i j → IsAtHomeOf opening (deed_of i) (deed_of j) → IsTrue (place_lt (begun_of i) (begun_of j)) }
+    ensures in_order { (opening : Start) → (h : History) → IsLegal opening h → (i j : Item) → StandsBefore h i j → IsAtHomeOf opening (deed_of i) (deed_of j) → BeganEarlier i j }
     ensures once { (opening : Start) → (h : History) → IsLegal opening h → (a b : Act) → StandsBefore h (Acted a) (Acted b) → a.begun ≡ b.begun → a.deed.proc ≡ b.deed.proc → a.deed.op ≡ b.deed.op → ⊥ }
 {}
 

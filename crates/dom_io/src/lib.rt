@@ -5,8 +5,6 @@ mod calls;
 pub mod memory;
 pub mod outside;
 pub mod real;
-#[cfg(test)]
-mod tests;
 pub mod whole;
 
 pub use memory::{MemSink, MemSource};

@@ -6,8 +6,6 @@ pub mod laws;
 pub mod line;
 pub mod numbers;
 mod quoted;
-#[cfg(test)]
-mod tests;
 pub mod token;
 pub mod write;
 

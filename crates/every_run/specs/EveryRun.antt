@@ -1,4 +1,4 @@
--- What is said of every run.
+-- What is said of every run, planned or not, ended or not.
 use Rattle.std.specs.Prelude.{◌≡◌, Some, List, ◌++◌}
 use Rattle.dom_history.specs.Events.{Happening}
 use Rattle.dom_history.specs.Histories.{entries}
@@ -9,22 +9,26 @@ use Rattle.node_runs.specs.Runs.{World, world_of}
 use Rattle.node_runs.specs.RunHistories.{history_of}
 use Rattle.run_calls.specs.Entries.{AreRepliesHeard, AreAskedHeard}
 use Rattle.run_homes.specs.OpenDecisions.{AreOpenRight}
-use Rattle.run_moves.specs.HomesAtUnlocks.{HomesHaveAll}
+pub use Rattle.run_moves.specs.HomesAtUnlocks.{HomesHaveAll}
 
--- the history after these events is one of one store and keeps the phases apart; it follows the programs: each process's entries
--- are the operations that its program asked, each once and in order, and have the replies that it heard in this world. What a
--- home decided on an open call is no refusal: a page to a page-in, stored or stale to a page or a length, done to a removal. At
--- each unlock of a held lock the home has all
+-- what is right after these events, which led to this world
 pub record IsRightAt (s : Setup) (es : List Happening) (w : World) : Type 0 where
+  -- the history is one of one store, without nodes or caches
   pub legal : IsLegal s.opening (history_of s es)
+  -- no entry stands before one of a smaller phase
   pub phased : IsPhased (entries (history_of s es).items)
+  -- each process did what its program asks, each operation once and in order
   pub follows : Follows s.asks (history_of s es)
+  -- its entries have exactly the replies that its program heard
   pub replies : AreRepliesHeard s w
+  -- and the operations that its program asked, each in its phase
   pub asked : AreAskedHeard s w
+  -- no home refused an open call for a page, a length or a removal
   pub answered : AreOpenRight s w
+  -- at each unlock of a lock that its process held the home has all
   pub homes : HomesHaveAll s es
 
--- so it is after each event: the last ones are the newer ones
+-- all is right after these events, and was so after each event before: the newer ones stand first
 pub record IsRightRun (s : Setup) (es : List Happening) : Type 0 where
   pub world : World
   pub leads : world_of s es ≡ Some world

@@ -17,6 +17,7 @@ use Rattle.dom_history.specs.declared.op.Reply.{Reply}
 use Rattle.dom_history.specs.declared.op.Reply.TheVariants.{Fine, Bytes}
 use Rattle.dom_history.specs.Fitting.{Fits}
 use Rattle.dom_history.specs.Replies.{may_write}
+use Rattle.dom_history.proofs.Fitting.{fits-bytes}
 use Rattle.page_cache.specs.Caches.{Resident, page_at, free_count}
 use Rattle.page_cache.specs.Changes.{without_page}
 use Rattle.page_cache.proofs.PageLemmas.{page_at-oldest}
@@ -82,15 +83,15 @@ pub ended-after : (d : DeskState) (p : ℕ) (op : Op) (reply : Reply) → IsIdle
 ended-after d p op reply idle fits = record { node = refl; nodes = refl; asks = tt; ready = ready-idle d p idle; fits = fits; next = idle }
 
 -- the reply to a load is one that its operation can have
-bytes-fit : (op : Op) (task : Task) (count : ℕ) (bytes : List ℕ) → IsTaskOf op (Some task) → task.work ≡ Load count → length bytes ≡ count → Fits op (Bytes bytes)
-bytes-fit (ops.Load spot n) task count bytes of is whole = let e : Load n ≡ Load count = sym of.1 ∙ is in let same : n ≡ count = cc in whole ∙ sym same
-bytes-fit (ops.Store spot bs) task count bytes of is whole = absurd (let e : Store bs ≡ Load count = sym of.1 ∙ is in cc)
-bytes-fit op task count bytes of is whole = absurd of
+load-fits : (op : Op) (task : Task) (count : ℕ) (bytes : List ℕ) → IsTaskOf op (Some task) → task.work ≡ Load count → length bytes ≡ count → Fits op (Bytes bytes)
+load-fits (ops.Load spot n) task count bytes of is whole = let e : Load n ≡ Load count = sym of.1 ∙ is in let same : n ≡ count = cc in fits-bytes spot n bytes (whole ∙ sym same)
+load-fits (ops.Store spot bs) task count bytes of is whole = absurd (let e : Store bs ≡ Load count = sym of.1 ∙ is in cc)
+load-fits op task count bytes of is whole = absurd of
 
 -- so is that to a store
 fine-fits : (op : Op) (task : Task) (bytes : List ℕ) → IsTaskOf op (Some task) → task.work ≡ Store bytes → Fits op Fine
 fine-fits (ops.Load spot n) task bytes of is = absurd (let e : Load n ≡ Store bytes = sym of.1 ∙ is in cc)
-fine-fits (ops.Store spot bs) task bytes of is = tt
+fine-fits (ops.Store spot bs) task bytes of is = refl
 fine-fits op task bytes of is = absurd of
 
 -- a load or store that waited may go on
@@ -156,7 +157,7 @@ module _ (d : DeskState) (p : ℕ) (task : Task) (is : IsDesk d) (proc : IsProc 
   performed-after (Load count) r same whole =
       let within : start_of task + count ≤ PAGE_BYTES = subst (λ (w : Work). start_of task + size_of w ≤ PAGE_BYTES) same allowed.range.within in (
         ended-after (with_used d task.uid (page_of task)) p op _ (record { no_call = idle.no_call; no_page = idle.no_page; keeping = idle.keeping })
-            (bytes-fit op task count _ of same (omega (arith, length-take count (drop (start_of task) r.bytes), length-drop (start_of task) r.bytes))),
+            (load-fits op task count _ of same (omega (arith, length-take count (drop (start_of task) r.bytes), length-drop (start_of task) r.bytes))),
         refl,
       )
   performed-after (Store bytes) r same whole = (

@@ -14,9 +14,10 @@ use Rattle.dom_history.specs.declared.op.Reply.{Reply}
 use Rattle.dom_history.specs.declared.op.Spot.{Spot}
 use Rattle.dom_history.specs.declared.op.Spot.TheVariants.{Of, Addr}
 use Rattle.dom_history.specs.Ranges.{IsInPage, IsOp}
-use Rattle.dom_history.specs.Fitting.{FitsMap}
+use Rattle.dom_history.specs.Fitting.{is_map_reply}
 use Rattle.dom_history.specs.Locks.{is_held}
 use Rattle.dom_history.specs.Replies.{may_write}
+use Rattle.dom_history.proofs.Fitting.{fits-size, fits-at}
 use Rattle.uid_names.proofs.Finds.{find-passes}
 use Rattle.uid_names.proofs.ListLemmas.{by_cases}
 use Rattle.address_map.specs.declared.mapping.Mapping.{Mapping}
@@ -91,8 +92,8 @@ module _ (d : DeskState) (p : ℕ) (is : IsDesk d) (proc : IsProc p) (idle : IsI
 
     load_by-after : (spot : Spot) → IsAt spot (task_at u offset (works.Load count)) → (held past : Bool) → is_held (state_of d p u) ≡ held → nat_lt (length_of (known_of u d.known)) (offset + count) ≡ past
         → Holds p (IsAfter d.node d.nodes p (Load spot count)) (load_by d p (task_at u offset (works.Load count)) held past)
-    load_by-after spot spots false past h e = ended-after d p (Load spot count) Reply.NoLock idle tt
-    load_by-after spot spots true true h e = ended-after d p (Load spot count) Reply.PastEnd idle tt
+    load_by-after spot spots false past h e = ended-after d p (Load spot count) Reply.NoLock idle refl
+    load_by-after spot spots true true h e = ended-after d p (Load spot count) Reply.PastEnd idle refl
     load_by-after spot spots true false h e =
         Holds-more p (IsDoneAfter d.node d.nodes p (Load spot count)) (IsAfter d.node d.nodes p (Load spot count)) (page_access d p (task_at u offset (works.Load count))) (λ m done. done.0)
         (page_access-after d p (task_at u offset (works.Load count)) is proc idle (load-allowed h e) (Load spot count) (spots, refl))
@@ -111,9 +112,9 @@ module _ (d : DeskState) (p : ℕ) (is : IsDesk d) (proc : IsProc p) (idle : IsI
 
     store_by-after : (spot : Spot) → IsAt spot (task_at u offset (works.Store bytes)) → (held writes past : Bool) → is_held (state_of d p u) ≡ held → may_write (state_of d p u) ≡ writes
         → nat_lt (PAGE_BYTES * room_of (known_of u d.known)) (offset + length bytes) ≡ past → Holds p (IsAfter d.node d.nodes p (Store spot bytes)) (store_by d p (task_at u offset (works.Store bytes)) held writes past)
-    store_by-after spot spots false writes past h w e = ended-after d p (Store spot bytes) Reply.NoLock idle tt
-    store_by-after spot spots true false past h w e = ended-after d p (Store spot bytes) Reply.WrongMode idle tt
-    store_by-after spot spots true true true h w e = ended-after d p (Store spot bytes) Reply.PastRoom idle tt
+    store_by-after spot spots false writes past h w e = ended-after d p (Store spot bytes) Reply.NoLock idle refl
+    store_by-after spot spots true false past h w e = ended-after d p (Store spot bytes) Reply.WrongMode idle refl
+    store_by-after spot spots true true true h w e = ended-after d p (Store spot bytes) Reply.PastRoom idle refl
     store_by-after spot spots true true false h w e =
         Holds-more p (IsDoneAfter d.node d.nodes p (Store spot bytes)) (IsAfter d.node d.nodes p (Store spot bytes)) (page_access d p (task_at u offset (works.Store bytes))) (λ m done. done.0)
         (page_access-after d p (task_at u offset (works.Store bytes)) is proc idle (store-allowed h w e) (Store spot bytes) (spots, refl))
@@ -124,7 +125,7 @@ module _ (d : DeskState) (p : ℕ) (is : IsDesk d) (proc : IsProc p) (idle : IsI
     where
       by_target : (s : Spot) (t : Option (ObjectName × ℕ)) → target_of d p s ≡ t → IfSome t (λ x. x.1 % PAGE_BYTES + count ≤ PAGE_BYTES) → Holds p (IsAfter d.node d.nodes p (Load s count)) (load_at d p count t)
       by_target (Of u offset) None found within = absurd (cc)
-      by_target (Addr address) None found within = ended-after d p (Load (Addr address) count) Reply.NotMapped idle tt
+      by_target (Addr address) None found within = ended-after d p (Load (Addr address) count) Reply.NotMapped idle refl
       by_target s (Some t) found within = load_by-after t.0 t.1 count range.0 within s (spot-at d p s t (works.Load count) found) (is_held (state_of d p t.0)) (nat_lt (length_of (known_of t.0 d.known)) (t.1 + count)) refl refl
 
   store_at-after : (spot : Spot) (bytes : List ℕ) → IsInPage spot (length bytes) → Holds p (IsAfter d.node d.nodes p (Store spot bytes)) (store_at d p bytes (target_of d p spot))
@@ -132,13 +133,13 @@ module _ (d : DeskState) (p : ℕ) (is : IsDesk d) (proc : IsProc p) (idle : IsI
     where
       by_target : (s : Spot) (t : Option (ObjectName × ℕ)) → target_of d p s ≡ t → IfSome t (λ x. x.1 % PAGE_BYTES + length bytes ≤ PAGE_BYTES) → Holds p (IsAfter d.node d.nodes p (Store s bytes)) (store_at d p bytes t)
       by_target (Of u offset) None found within = absurd (cc)
-      by_target (Addr address) None found within = ended-after d p (Store (Addr address) bytes) Reply.NotMapped idle tt
+      by_target (Addr address) None found within = ended-after d p (Store (Addr address) bytes) Reply.NotMapped idle refl
       by_target s (Some t) found within =
           store_by-after t.0 t.1 bytes range.0 within s (spot-at d p s t (works.Store bytes) found) (is_held (state_of d p t.0)) (may_write (state_of d p t.0)) (nat_lt (PAGE_BYTES * room_of (known_of t.0 d.known)) (t.1 + length bytes)) refl refl refl
 
   length_by-after : (u : ObjectName) (held : Bool) → Holds p (IsAfter d.node d.nodes p (Length u)) (length_by d u held)
-  length_by-after u false = ended-after d p (Length u) Reply.NoLock idle tt
-  length_by-after u true = ended-after d p (Length u) _ idle (length-known (known_of u d.known) (is.known.rows u))
+  length_by-after u false = ended-after d p (Length u) Reply.NoLock idle refl
+  length_by-after u true = ended-after d p (Length u) _ idle (fits-size (length_of (known_of u d.known)) (length-known (known_of u d.known) (is.known.rows u)))
 
   -- a mapping changes nothing of what lets a process go on
   IsIdle-with_maps : (maps : List Mapping) → IsIdle (with_maps d p maps) p
@@ -174,11 +175,11 @@ found-holds P test (x ∷ xs) all =
 first-start : (first : ℕ) → first * 32768 % 32768 ≡ 0
 first-start first = omega arith
 
-FitsMap-reply : (o : Option Mapping) (full : Bool) (run : Option ℕ) → IfSome o IsMapping → IfSome run (λ first. first < 256) → FitsMap (map_reply (map_answer o full run))
-FitsMap-reply (Some m) full run is below = (first-start m.first, omega (arith, is.some, is.within))
-FitsMap-reply None true run is below = tt
-FitsMap-reply None false None is below = tt
-FitsMap-reply None false (Some first) is below = (first-start first, omega (arith, below))
+map_reply-fits : (o : Option Mapping) (full : Bool) (run : Option ℕ) → IfSome o IsMapping → IfSome run (λ first. first < 256) → is_map_reply (map_reply (map_answer o full run)) ≡ true
+map_reply-fits (Some m) full run is below = fits-at (m.first * 32768) false (first-start m.first) (omega (arith, is.some, is.within))
+map_reply-fits None true run is below = refl
+map_reply-fits None false None is below = refl
+map_reply-fits None false (Some first) is below = fits-at (first * 32768) true (first-start first) (omega (arith, below))
 
 -- the lowest run begins at one of the segments
 run-below : (count : ℕ) (maps : List Mapping) → IfSome (lowest_run count maps) (λ first. first < 256)
@@ -190,19 +191,19 @@ run-below count maps = by_run (lowest_run count maps) refl
 
 module _ (d : DeskState) (p : ℕ) (is : IsDesk d) (proc : IsProc p) (idle : IsIdle d p) where
   map_by-after : (u : ObjectName) (held : Bool) → is_held (state_of d p u) ≡ held → Holds p (IsAfter d.node d.nodes p (Map u)) (map_by d p u held)
-  map_by-after u false h = ended-after d p (Map u) Reply.NoLock idle tt
+  map_by-after u false h = ended-after d p (Map u) Reply.NoLock idle refl
   map_by-after u true h =
       let count = segments (room_of (known_of u d.known)) in
       let maps = mappings_after u count (mapping_of u (maps_of d p)) (is_full (maps_of d p)) (lowest_run count (maps_of d p)) (maps_of d p) in
       ended-after (with_maps d p maps) p (Map u) (map_reply (map_answer (mapping_of u (maps_of d p)) (is_full (maps_of d p)) (lowest_run count (maps_of d p))))
       (IsIdle-with_maps d p is proc idle maps)
-      (FitsMap-reply (mapping_of u (maps_of d p)) (is_full (maps_of d p)) (lowest_run count (maps_of d p)) (found-holds IsMapping (is_of u) (maps_of d p) (is.maps p proc).each) (run-below count (maps_of d p)))
+      (map_reply-fits (mapping_of u (maps_of d p)) (is_full (maps_of d p)) (lowest_run count (maps_of d p)) (found-holds IsMapping (is_of u) (maps_of d p) (is.maps p proc).each) (run-below count (maps_of d p)))
 
   unmap_by-after : (u : ObjectName) (there : Bool) → Holds p (IsAfter d.node d.nodes p (Unmap u)) (unmap_by d p u there)
-  unmap_by-after u false = ended-after d p (Unmap u) Reply.NotMapped idle tt
+  unmap_by-after u false = ended-after d p (Unmap u) Reply.NotMapped idle refl
   unmap_by-after u true =
       ended-after (with_maps d p (without_mapping u (maps_of d p))) p (Unmap u) Reply.Fine
-      (IsIdle-with_maps d p is proc idle (without_mapping u (maps_of d p))) tt
+      (IsIdle-with_maps d p is proc idle (without_mapping u (maps_of d p))) refl
 
   -- an access leaves a desk, asks what a home can be asked, replies what its operation can have, and its process is idle
   -- or its call stands

@@ -1,15 +1,17 @@
 -- How a load or store goes on where a home answers, or where a link fault ends its call.
 use Rattle.std.specs.Prelude.{ℕ, nat_lt, Bool, true, false, Option, Some, None, List, []}
+use Rattle.std.specs.Option.{ForSome}
 use Rattle.page_cache.specs.Caches.{Resident, page_at}
 use Rattle.ring_messages.specs.Bodies.{Ask, Answer}
+use Rattle.fault_handler.specs.declared.access.Access.{Access}
 use Rattle.fault_handler.specs.declared.tasks.Task.{Task}
 use Rattle.fault_handler.specs.declared.transits.Transit.{Transit}
 use Rattle.fault_handler.specs.Tasks.{page_of}
 use Rattle.fault_handler.specs.ShownPages.{fresh_page}
 use Rattle.fault_handler.specs.Desks.{DeskState, task_of, moving_of, base_of}
 use Rattle.fault_handler.specs.Changes.{with_raised, with_arrival, with_loss, with_room_settled, with_sent_again}
-use Rattle.fault_handler.specs.Outcomes.{Turn, Moved}
-use Rattle.fault_handler.specs.Accesses.{Accessed, page_access, page_out, performed}
+use Rattle.fault_handler.specs.Outcomes.{Turn, Moved, Gives, as_access}
+use Rattle.fault_handler.specs.Accesses.{Accessed, Comes, page_access, page_out, performed}
 
 -- what a home's answer says to the open call of a load or store
 pub data PageAnswer : Type 0 where
@@ -63,6 +65,10 @@ abbrev pub page_came_of : DeskState → ℕ → PageAnswer → Accessed
 page_came_of d p (PageAnswer.Came task stamp bytes) = Accessed.Settled (page_by_stamp d p task stamp bytes (nat_lt stamp (base_of d.seen task.uid)))
 page_came_of d p (PageAnswer.Taken task r stamp) = page_access (room_taken d p r stamp) p task
 page_came_of d p (PageAnswer.NotTaken task r stamp) = Accessed.Settled (room_sent_again (with_raised d r.uid stamp) r)
+
+-- an access is that with which a load or store goes on at an answer that fits it, and the desk is as that leaves it
+abbrev pub GoesOn : DeskState → DeskState → ℕ → Option Answer → Access → Type 0
+GoesOn old new p said access = ForSome said (λ answer. ForSome (page_answer old p answer) (λ a. Comes p (λ m. Gives as_access new m access) (page_came_of old p a)))
 
 abbrev pub failed_way : DeskState → ℕ → Transit → Bool → DeskState
 failed_way d p t true = with_loss d p

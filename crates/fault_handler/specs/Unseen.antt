@@ -1,6 +1,7 @@
 -- What only private functions and the views of private parts are said by: no public clause cites it.
-use Rattle.std.specs.Prelude.{◌≡◌, ℕ, Bool, true, false, not, is_some, length, [], Option, Some, None, List, map, take, drop}
+use Rattle.std.specs.Prelude.{◌≡◌, ◌-◌, ℕ, Bool, true, false, not, is_some, nat_lt, length, [], ◌∷◌, Option, Some, None, IfSome, List, map, take, drop}
 use Rattle.std.specs.List.{All}
+use Rattle.uid_names.specs.Names.{ObjectName}
 use Rattle.uid_names.specs.declared.limits.TheConstants.{NODE_PROCESSES}
 use Rattle.page_cache.specs.Caches.{Resident, Cached, page_at}
 use Rattle.fault_handler.specs.declared.tasks.Work.{Work}
@@ -11,16 +12,16 @@ use Rattle.fault_handler.specs.declared.access.Local.{Local}
 use Rattle.fault_handler.specs.declared.access.Local.TheVariants.{Done, Refused, Misses}
 use Rattle.fault_handler.specs.declared.transits.Transit.{Transit}
 use Rattle.fault_handler.specs.Tasks.{page_of}
-use Rattle.fault_handler.specs.ShownPages.{settled}
-use Rattle.fault_handler.specs.Desks.{DeskState, is_in_transit_there}
+use Rattle.fault_handler.specs.ShownPages.{settled, fresh_page}
+use Rattle.fault_handler.specs.Desks.{DeskState, put_at, task_of, base_of, is_in_transit_there}
 use Rattle.fault_handler.specs.Outcomes.{Moved, Gives, as_access}
-use Rattle.fault_handler.specs.Accesses.{Accessed, DeskOp, Comes, page_by}
+use Rattle.fault_handler.specs.Accesses.{Accessed, DeskOp, Comes, page_by, page_access}
 use Rattle.fault_handler.specs.Invariant.{IsAllowed}
 use Rattle.ring_messages.specs.Bodies.{Answer}
 use Rattle.ring_messages.specs.declared.body.Body.{Body}
 use Rattle.ring_messages.specs.declared.body.Body.TheVariants.{Page, Stored, Stale}
 use Rattle.fault_handler.specs.LockCalls.{LockCall, lock_answer}
-use Rattle.fault_handler.specs.PageReplies.{PageAnswer, page_answer}
+use Rattle.fault_handler.specs.PageReplies.{PageAnswer, page_answer, page_by_stamp, room_taken}
 
 -- a page as a desk shows it: which frame it is in is not told, nor the frame's mark that it is in transit
 abbrev pub bare : Resident → Resident
@@ -40,6 +41,13 @@ paged c moving = record { cache = shown c; moving = moving }
 -- with other resident pages
 abbrev pub repaged : Paged → List Resident → Paged
 repaged p pages = record p { cache = record p.cache { pages = pages } }
+
+-- a page came into its reserved frame, and is in transit no more
+abbrev pub arrived : Paged → ℕ → ObjectName → ℕ → List ℕ → Paged
+arrived paged p u k bytes = record {
+  cache = record paged.cache { reserved = paged.cache.reserved - 1; pages = fresh_page u k bytes ∷ paged.cache.pages };
+  moving = put_at paged.moving p None;
+}
 
 -- the mark of a page's frame says whether a process moves it
 abbrev pub IsMarkedBy : List (Option Transit) → Resident → Type 0
@@ -79,6 +87,15 @@ GivesTo new m access = Gives as_access new m access
 -- they are those to which an access comes
 abbrev pub ComesTo : ℕ → DeskState → Accessed → Access → Type 0
 ComesTo p new accessed access = Comes p (λ m. Gives as_access new m access) accessed
+
+-- they are those of the open load or store of a process, whose page came with this stamp
+abbrev pub ComesOfPage : DeskState → DeskState → ℕ → ℕ → List ℕ → Access → Type 0
+ComesOfPage old new p stamp bytes access = IfSome (task_of old p) (λ task. GivesTo new (page_by_stamp old p task stamp bytes (nat_lt stamp (base_of old.seen task.uid))) access)
+
+-- and those, where its home took the page that makes room, which has this stamp there
+abbrev pub ComesOfRoom : DeskState → DeskState → ℕ → Transit → ℕ → Access → Type 0
+ComesOfRoom old new p t stamp access =
+    IfSome (task_of old p) (λ task. IfSome (page_at old.cache.pages t.uid t.page) (λ r. ComesTo p new (page_access (room_taken old p r stamp) p task) access))
 
 -- whether a body answers a page-in, where a page comes, or else a page-out
 abbrev pub fits_way : Bool → Body → Bool

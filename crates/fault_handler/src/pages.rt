@@ -6,12 +6,12 @@ ghost use Rattle.page_cache.specs.Caches.{IsCache, IsResident, IsFrame, page_at,
 ghost use Rattle.page_cache.specs.Changes.{changed_in, used, without_page, without_object};
 ghost use Rattle.page_cache.specs.Victims.{name_of};
 ghost use Rattle.page_cache.specs.Numbers.{dirty_page, resident_pages};
-ghost use Rattle.fault_handler.specs.ShownPages.{fresh_page, changed_page, stored, written, as_sent, settled};
+ghost use Rattle.fault_handler.specs.ShownPages.{changed_page, stored, written, as_sent, settled};
 ghost use Rattle.fault_handler.specs.Transits.{coming, going};
 ghost use Rattle.fault_handler.specs.Desks.{at, put_at};
 ghost use Rattle.fault_handler.specs.Victims.{named_page};
 ghost use Rattle.fault_handler.specs.Invariant.{AreApart};
-ghost use Rattle.fault_handler.specs.Unseen.{repaged};
+ghost use Rattle.fault_handler.specs.Unseen.{repaged, arrived};
 
 use crate::four::index_of;
 use crate::tasks::copied;
@@ -267,11 +267,7 @@ impl ResidentPages {
         requires absent { page_at self.old.cache.pages uid page ≡ None }
         requires moves { at self.old.moving proc.number None ≡ coming uid page }
         requires apart { AreApart self.old.moving }
-        ensures ok { OnOk result (self.new
-            ≡ record {
-              cache = record self.old.cache { reserved = self.old.cache.reserved - 1; pages = fresh_page uid page bytes.now ∷ self.old.cache.pages };
-              moving = put_at self.old.moving proc.number None;
-            }) }
+        ensures ok { OnOk result (self.new ≡ arrived self.old proc.number uid page bytes.now) }
         ensures err { OnErr result (self.new ≡ self.old) }
     {
         self.cache.install(uid, page, bytes)?;

@@ -16,7 +16,8 @@ use Rattle.dom_history.specs.declared.end_word.EndWord.{EndWord}
 use Rattle.dom_history.specs.declared.event.Sent.{Sent}
 use Rattle.dom_history.specs.declared.event.Effects.{Effects}
 use Rattle.journal_text.specs.Walk.Heads.{BeginsWithSemicolon, IsHeadOf, pieces_of}
-use Rattle.journal_text.specs.Lines.{node_text, numbered_text, kind_text, drop_text, sent_text, ended_text, effects_text}
+use Rattle.node_texts.specs.Texts.{node_text}
+use Rattle.journal_text.specs.Lines.{numbered_text, kind_text, drop_text, sent_text, ended_text, effects_text}
 use Rattle.journal_text.specs.Walk.LineEffects.{effect_of, with_effect, and_effect, effects_of}
 use Rattle.journal_text.specs.Walk.EffectTexts.{effect_text, IsEffect, AreRead}
 use Rattle.journal_text.specs.Written.{IsNode, IsCount, IsPage, IsSent, AreWritten}

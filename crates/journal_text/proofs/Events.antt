@@ -13,7 +13,8 @@ use Rattle.dom_history.specs.declared.event.What.TheVariants.{Begin, Go, Take, N
 use Rattle.dom_history.specs.declared.event.Effects.{Effects}
 use Rattle.dom_text.specs.Cuts.{Lacks, cut_at}
 use Rattle.journal_text.specs.Walk.Heads.{IsHeadOf, pieces_of, head_of}
-use Rattle.journal_text.specs.Lines.{node_text, numbered_text, what_text, place_text, effects_text, line, journal}
+use Rattle.node_texts.specs.Texts.{node_text}
+use Rattle.journal_text.specs.Lines.{numbered_text, what_text, place_text, effects_text, line, journal}
 use Rattle.journal_text.specs.Walk.LineStarts.{start_of}
 use Rattle.journal_text.specs.Walk.LineEffects.{effects_of}
 use Rattle.journal_text.specs.Written.{IsNode, IsWhatOf, IsWritten, IsAbove, RiseFrom, last_from, IsJournal, IsBadLine, BeginWithNoLine}

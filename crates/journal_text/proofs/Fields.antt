@@ -25,7 +25,8 @@ use Rattle.dom_history.specs.EndWords.{word_text}
 use Rattle.dom_history.proofs.EndTexts.{end_of_word-word}
 use Rattle.dom_history.specs.NodeTexts.{AreNodeNames, name_of}
 use Rattle.dom_history.specs.declared.end_word.EndWord.{EndWord}
-use Rattle.journal_text.specs.Lines.{IsNamed, node_text}
+use Rattle.node_texts.specs.Texts.{node_text}
+use Rattle.journal_text.specs.Lines.{IsNamed}
 use Rattle.journal_text.specs.Walk.Fields.{node_from, node_of, number32_of, proc_of, is_name, uid_from, uid_in, uid_of, kind_of, end_of}
 use Rattle.journal_text.specs.Walk.LineStarts.{what_word_text, what_words, what_word_of}
 use Rattle.journal_text.specs.Walk.LineEffects.{effect_word_text, effect_words, effect_word_of}

@@ -1,7 +1,6 @@
 pub mod Digits
 pub mod KindNames
 pub mod Drops
-pub mod TwoNames
 pub mod Plain
 pub mod Splits
 pub mod Fields

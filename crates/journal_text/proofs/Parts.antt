@@ -13,7 +13,8 @@ use Rattle.dom_history.specs.declared.end_word.EndWord.{EndWord}
 use Rattle.dom_history.specs.declared.event.What.{What}
 use Rattle.dom_history.specs.declared.event.What.TheVariants.{Begin, Go, Take, Notice, Ready, Mark}
 use Rattle.dom_history.specs.declared.event.Sent.{Sent}
-use Rattle.journal_text.specs.Lines.{node_text, numbered_text, kind_text, what_text, place_text}
+use Rattle.node_texts.specs.Texts.{node_text}
+use Rattle.journal_text.specs.Lines.{numbered_text, kind_text, what_text, place_text}
 use Rattle.dom_text.specs.Cuts.{cut_at}
 use Rattle.journal_text.specs.Walk.Fields.{numbered_of}
 use Rattle.journal_text.specs.Walk.LineStarts.{notice_of, mark_of, what_word_of, what_behind, what_of, start_of}

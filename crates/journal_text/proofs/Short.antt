@@ -13,7 +13,8 @@ use Rattle.uid_names.specs.Texts.{text_of}
 use Rattle.uid_names.specs.declared.ids.Place.{Place}
 use Rattle.dom_history.specs.Events.{IsKindNumber}
 use Rattle.dom_history.specs.NodeTexts.{AreNodeNames}
-use Rattle.journal_text.specs.Lines.{node_text, numbered_text, place_text, kind_text, drop_text}
+use Rattle.node_texts.specs.Texts.{node_text}
+use Rattle.journal_text.specs.Lines.{numbered_text, place_text, kind_text, drop_text}
 use Rattle.journal_text.proofs.Drops.{one_more}
 use Rattle.journal_text.proofs.KindNames.{kind_text_of}
 

@@ -1,5 +1,5 @@
 -- The line of each event in a journal.
-use Rattle.std.specs.Prelude.{ℕ, List, [], ◌++◌, codes, decimal, Option, Some, None, IsSome, IfSome, unwrap_or}
+use Rattle.std.specs.Prelude.{ℕ, List, [], ◌++◌, codes, decimal, Option, Some, None, IsSome, IfSome}
 use Rattle.std.specs.List.{flat_map}
 use Rattle.uid_names.specs.Names.{ObjectName}
 use Rattle.uid_names.specs.Texts.{text_of}
@@ -9,15 +9,12 @@ use Rattle.uid_names.specs.declared.ids.Place.{Place}
 use Rattle.dom_history.specs.Events.{Happening}
 use Rattle.dom_history.specs.EndWords.{word_text}
 use Rattle.dom_history.specs.NodeTexts.{name_of}
+use Rattle.node_texts.specs.Texts.{node_text}
 use Rattle.dom_history.specs.declared.end_word.EndWord.{EndWord}
 use Rattle.dom_history.specs.declared.event.What.{What}
 use Rattle.dom_history.specs.declared.event.What.TheVariants.{Begin, Go, Take, Notice, Ready, Mark}
 use Rattle.dom_history.specs.declared.event.Sent.{Sent}
 use Rattle.dom_history.specs.declared.event.Effects.{Effects}
-
--- the name of a node that has one
-abbrev pub node_text : List (List ℕ) → ℕ → List ℕ
-node_text names node = unwrap_or (name_of names node) []
 
 abbrev pub name_in : Option FrameKind → List ℕ
 name_in None = []

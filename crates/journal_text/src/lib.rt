@@ -9,8 +9,6 @@ pub mod lines;
 pub mod named;
 pub mod reading;
 mod sizes;
-#[cfg(test)]
-mod tests;
 mod writing;
 
 pub use buffer::LineBuffer;

@@ -2,7 +2,8 @@
 ghost use Rattle.std.specs.Prelude.{◌≡◌, ◌+◌, ◌<◌, length, sum, IfSome, decimal};
 ghost use Rattle.std.specs.List.{flat_map};
 ghost use Rattle.dom_history.specs.Events.{IsKindNumber};
-ghost use Rattle.journal_text.specs.Lines.{node_text, numbered_text, kind_text, what_text, drop_text, sent_text, ended_text, effects_text, place_text, line, journal};
+ghost use Rattle.node_texts.specs.Texts.{node_text};
+ghost use Rattle.journal_text.specs.Lines.{numbered_text, kind_text, what_text, drop_text, sent_text, ended_text, effects_text, place_text, line, journal};
 
 use crate::writing::kind_name_of;
 use dom_history::{Effects, EndWord, Event, NodeNames, Sent, What};

@@ -3,38 +3,26 @@ ghost use Rattle.std.specs.Prelude.{◌≡◌, ◌+◌, ◌≤◌, ◌++◌, len
 ghost use Rattle.std.specs.List.{flat_map};
 ghost use Rattle.dom_history.specs.Events.{IsKindNumber};
 ghost use Rattle.journal_text.specs.Buffers.{filled};
-ghost use Rattle.journal_text.specs.Lines.{node_text, numbered_text, kind_text, what_text, drop_text, sent_text, ended_text, effects_text, place_text, line, journal, IsNamed, NamesWhat, Names};
+ghost use Rattle.journal_text.specs.Lines.{numbered_text, kind_text, what_text, drop_text, sent_text, ended_text, effects_text, place_text, line, journal, Names};
 
 use crate::buffer::LineBuffer;
 use dom_history::{Effects, EndWord, Event, EventList, NodeNames, Sent, What};
+use node_texts::node_text;
 use std::alloc::Global;
 use uid_names::{FrameKind, NoMemory, NodeId, Place, Uid};
 
-fn put_node(to: &mut LineBuffer, names: &NodeNames, node: NodeId)
-    requires named { IsNamed names.now node }
-    requires room { length to.old.text + length (node_text names.now node) ≤ to.old.room }
-    ensures { to.new ≡ filled (to.old.text ++ node_text names.now node) to.old.room }
-{
-    match names.name(node) {
-        Some(name) => to.put(name),
-        None => unreachable!(),
-    }
-}
-
 /// A node and a number behind it.
 fn put_numbered(to: &mut LineBuffer, names: &NodeNames, node: NodeId, number: u64)
-    requires named { IsNamed names.now node }
-    requires room { length to.old.text + length (numbered_text names.now node number) ≤ to.old.room }
+    requires { length to.old.text + length (numbered_text names.now node number) ≤ to.old.room }
     ensures { to.new ≡ filled (to.old.text ++ numbered_text names.now node number) to.old.room }
 {
-    put_node(to, names, node);
+    to.put(node_text(names, node));
     to.put(b" ");
     to.put_decimal(number);
 }
 
 fn put_what(to: &mut LineBuffer, names: &NodeNames, what: What)
-    requires named { NamesWhat names.now what }
-    requires room { length to.old.text + length (what_text names.now what) ≤ to.old.room }
+    requires { length to.old.text + length (what_text names.now what) ≤ to.old.room }
     ensures { to.new ≡ filled (to.old.text ++ what_text names.now what) to.old.room }
 {
     match what {
@@ -54,7 +42,7 @@ fn put_what(to: &mut LineBuffer, names: &NodeNames, what: What)
             to.put(b"notice ");
             to.put_decimal(p as u64);
             to.put(b" ");
-            put_node(to, names, from);
+            to.put(node_text(names, from));
             to.put(b" ");
             put_numbered(to, names, into, index);
         }
@@ -81,7 +69,6 @@ fn put_drop(to: &mut LineBuffer, uid: Uid, page: u32)
 
 /// The frame that was sent, if one was.
 fn put_sent(to: &mut LineBuffer, names: &NodeNames, sent: Option<Sent>)
-    requires named { IfSome sent (λ s. IsNamed names.now s.to) }
     requires kind { IfSome sent (λ s. IsKindNumber s.kind) }
     requires room { length to.old.text + length (sent_text names.now sent) ≤ to.old.room }
     ensures { to.new ≡ filled (to.old.text ++ sent_text names.now sent) to.old.room }
@@ -131,7 +118,6 @@ fn put_dropped(to: &mut LineBuffer, pages: &[(Uid, u32)])
 }
 
 fn put_effects(to: &mut LineBuffer, names: &NodeNames, effects: &Effects)
-    requires named { IfSome effects.now.sent (λ s. IsNamed names.now s.to) }
     requires kind { IfSome effects.now.sent (λ s. IsKindNumber s.kind) }
     requires room { length to.old.text + length (effects_text names.now effects.now) ≤ to.old.room }
     ensures { to.new ≡ filled (to.old.text ++ effects_text names.now effects.now) to.old.room }
@@ -142,13 +128,12 @@ fn put_effects(to: &mut LineBuffer, names: &NodeNames, effects: &Effects)
 }
 
 fn put_place(to: &mut LineBuffer, names: &NodeNames, place: Place)
-    requires named { IsNamed names.now place.node }
-    requires room { length to.old.text + length (place_text names.now place) ≤ to.old.room }
+    requires { length to.old.text + length (place_text names.now place) ≤ to.old.room }
     ensures { to.new ≡ filled (to.old.text ++ place_text names.now place) to.old.room }
 {
     to.put_decimal(place.tick);
     to.put(b" ");
-    put_node(to, names, place.node);
+    to.put(node_text(names, place.node));
     to.put(b" ");
 }
 

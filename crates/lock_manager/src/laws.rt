@@ -1,12 +1,11 @@
 //! Laws of lock tables. Each stands on a function without a body, so that the check proves it.
-ghost use Rattle.std.specs.Prelude.{◌≡◌, ◌+◌, ◌&&◌, false, [], Some, None, if◌then◌else◌};
+ghost use Rattle.std.specs.Prelude.{◌≡◌, ◌&&◌, false, [], Some, None, if◌then◌else◌};
 ghost use Rattle.uid_names.specs.Names.{ProcName, ObjectName, same_proc, same_uid};
 ghost use Rattle.uid_names.specs.declared.lock_row.LockRow.{LockRow};
 ghost use Rattle.uid_names.specs.Rows.{same_row};
-ghost use Rattle.uid_names.specs.Modes.{modes_clash};
 ghost use Rattle.lock_manager.specs.declared.grants.Grant.{Grant};
-ghost use Rattle.lock_manager.specs.Grants.{grant_of, conflict_of};
-ghost use Rattle.lock_manager.specs.Tables.{Table, IsTable, with_grant, without_grant, without_grants_on};
+ghost use Rattle.lock_manager.specs.Grants.{conflict_of};
+ghost use Rattle.lock_manager.specs.Tables.{Table, IsTable, GoTogether, held, held_unless, next_grant, with_grant, without_grant, without_grants_on};
 
 use crate::locks::Locks;
 use uid_names::laws::may_cross_threads;
@@ -24,19 +23,18 @@ pub fn changes_keep_tables()
 /// What a process holds on an object changes only where that is granted or ended.
 pub fn changes_leave_the_others()
     ensures granted { (row : LockRow) (table : Table) (p : ProcName) (u : ObjectName) →
-        grant_of p u (with_grant row table).grants
-        ≡ (if same_row p u row then Some (record { row = row; number = table.last + 1 }) else grant_of p u table.grants) }
+        held p u (with_grant row table) ≡ (if same_row p u row then Some (next_grant row table) else held p u table) }
     ensures released { (q : ProcName) (v : ObjectName) (table : Table) (p : ProcName) (u : ObjectName) →
-        grant_of p u (without_grant q v table).grants ≡ (if same_proc p q && same_uid u v then None else grant_of p u table.grants) }
+        held p u (without_grant q v table) ≡ held_unless (same_proc p q && same_uid u v) p u table }
     ensures dropped { (v : ObjectName) (table : Table) (p : ProcName) (u : ObjectName) →
-        grant_of p u (without_grants_on v table).grants ≡ (if same_uid u v then None else grant_of p u table.grants) }
+        held p u (without_grants_on v table) ≡ held_unless (same_uid u v) p u table }
 {}
 
 /// Two processes that hold an object do not conflict.
 pub fn holders_do_not_conflict()
     ensures { (table : Table) (p q : ProcName) (u : ObjectName) (a b : Grant) → IsTable table →
-        grant_of p u table.grants ≡ Some a → grant_of q u table.grants ≡ Some b → same_proc p q ≡ false →
-        modes_clash p a.row.mode q b.row.mode ≡ false }
+        held p u table ≡ Some a → held q u table ≡ Some b → same_proc p q ≡ false →
+        GoTogether p a q b }
 {}
 
 /// Threads may hand each other lock tables.

@@ -4,8 +4,6 @@
 pub mod grants;
 pub mod laws;
 pub mod locks;
-#[cfg(test)]
-mod tests;
 
 pub use grants::Grant;
 pub use locks::{AskRefusal, Locks, ROOM};

@@ -43,8 +43,8 @@ good-as d p op same m own = subst (λ (o : Op). IsAfter d.node d.nodes p o m) (s
 
 -- an unlock or a removal whose lock is kept
 release-kept : (delete : Bool) (u : ObjectName) → Fits (release_op delete u) Kept
-release-kept true u = tt
-release-kept false u = tt
+release-kept true u = refl
+release-kept false u = refl
 
 -- a desk on which no call of the process is open
 module _ (d : DeskState) (p : ℕ) (is : IsDesk d) (proc : IsProc p) (no_call : open_call_of d p ≡ None) where
@@ -62,18 +62,18 @@ module _ (d : DeskState) (p : ℕ) (is : IsDesk d) (proc : IsProc p) (no_call : 
   granted-good u m grant stamp room n alone seen stands =
       let set = set-idle u (Held m) grant stands.still (λ v differs. stands.others v) in
       ended-good d (with_state (learned (alone && is_fresh stamp seen) (after_drop (alone && not (is_seen stamp seen)) d u) u stamp room n) p u (Held m) grant) p (ops.Lock u m) refl refl Fine
-      (dropped_of (alone && not (is_seen stamp seen)) d u) (record { no_call = set.no_call; no_page = set.no_page; keeping = set.keeping }) tt
+      (dropped_of (alone && not (is_seen stamp seen)) d u) (record { no_call = set.no_call; no_page = set.no_page; keeping = set.keeping }) refl
 
   gone-good : (u : ObjectName) (m : Mode) (keeping : Bool) → LockStands d p u → IsAfter d.node d.nodes p (ops.Lock u m) (gone d u keeping)
   gone-good u m keeping stands =
-      ended-good d (after_drop (not keeping) d u) p (ops.Lock u m) refl refl NoObject (dropped_of (not keeping) d u) (record { no_call = no_call; no_page = stands.still; keeping = stands.others }) tt
+      ended-good d (after_drop (not keeping) d u) p (ops.Lock u m) refl refl NoObject (dropped_of (not keeping) d u) (record { no_call = no_call; no_page = stands.still; keeping = stands.others }) refl
 
   removed-good : (u : ObjectName) (keeping : Bool) → ReleaseStands d p u → IsAfter d.node d.nodes p (ops.Delete u) (removed (with_state d p u Free 0) u keeping)
   removed-good u keeping stands =
       let e = with_state d p u Free 0 in
       let set = set-idle u Free 0 stands.still stands.others in
       ended-good d (record (after_drop (not keeping) e u) { seen = stamps_kept keeping u e.seen }) p (ops.Delete u) refl refl Fine (dropped_of (not keeping) e u)
-      (record { no_call = set.no_call; no_page = set.no_page; keeping = set.keeping }) tt
+      (record { no_call = set.no_call; no_page = set.no_page; keeping = set.keeping }) refl
 
   -- a page or a length that was sent is settled: the tests are made anew
   module _ (u : ObjectName) (delete : Bool) (writer : WriterStands d p u delete) (stamp : ℕ) (least : 1 ≤ stamp) where
@@ -100,7 +100,7 @@ module _ (d : DeskState) (p : ℕ) (is : IsDesk d) (proc : IsProc p) (no_call : 
       (granted-good u m grant stamp room n (not (others_keep d.entries p u)) (stamp_of u d.seen) stands.0)
   answered-good op (LockAnswer.Refused q held) stands =
       good-as d p op (ops.Lock stands.0 stands.1) (answered d p (LockAnswer.Refused q held)) stands.3
-      (ended-good d d p (ops.Lock stands.0 stands.1) refl refl (Conflict q held) [] (lock-idle stands.0 stands.2) tt)
+      (ended-good d d p (ops.Lock stands.0 stands.1) refl refl (Conflict q held) [] (lock-idle stands.0 stands.2) refl)
   answered-good op (LockAnswer.Gone u) stands =
       good-as d p op (ops.Lock u stands.0) (answered d p (LockAnswer.Gone u)) stands.2 (gone-good u stands.0 (any_keeps d.entries u) stands.1)
   answered-good op (LockAnswer.PageSettled u delete taken stamp) stands =
@@ -109,7 +109,7 @@ module _ (d : DeskState) (p : ℕ) (is : IsDesk d) (proc : IsProc p) (no_call : 
       good-as d p op (release_op delete u) (answered d p (LockAnswer.LengthSettled u n delete taken stamp)) stands.3 (length-settled-good u delete stands.0 stamp stands.2 n taken stands.1)
   answered-good op (LockAnswer.Released u) stands =
       good-as d p op (ops.Unlock u) (answered d p (LockAnswer.Released u)) stands.1
-      (ended-good d (with_state d p u Free 0) p (ops.Unlock u) refl refl Fine [] (set-idle u Free 0 stands.0.still stands.0.others) tt)
+      (ended-good d (with_state d p u Free 0) p (ops.Unlock u) refl refl Fine [] (set-idle u Free 0 stands.0.still stands.0.others) refl)
   answered-good op (LockAnswer.Removed u) stands =
       good-as d p op (ops.Delete u) (answered d p (LockAnswer.Removed u)) stands.2 (removed-good u (any_keeps (with_state d p u Free 0).entries u) stands.0)
 
@@ -117,7 +117,7 @@ module _ (d : DeskState) (p : ℕ) (is : IsDesk d) (proc : IsProc p) (no_call : 
   failed-good : (op : Op) (call : LockCall) → CallStands d p call → IsCallOf op None (Some (open_call call)) → IsAfter d.node d.nodes p op (failed d p call)
   failed-good op (LockCall.Lock u m) stands own =
       good-as d p op (ops.Lock u m) (failed d p (LockCall.Lock u m)) own
-      (ended-good d (with_state d p u (Taking m) 0) p (ops.Lock u m) refl refl Doubt [] (set-idle u (Taking m) 0 stands.still (λ v differs. stands.others v)) tt)
+      (ended-good d (with_state d p u (Taking m) 0) p (ops.Lock u m) refl refl Doubt [] (set-idle u (Taking m) 0 stands.still (λ v differs. stands.others v)) refl)
   failed-good op (LockCall.PageOut u k delete) stands own =
       good-as d p op (release_op delete u) (failed d p (LockCall.PageOut u k delete)) own
       (ended-good d (with_page_done d p false) p (release_op delete u) refl refl Kept []
@@ -128,10 +128,10 @@ module _ (d : DeskState) (p : ℕ) (is : IsDesk d) (proc : IsProc p) (no_call : 
   failed-good op (LockCall.Unlock u) stands own =
       good-as d p op (ops.Unlock u) (failed d p (LockCall.Unlock u)) own
       (ended-good d (with_state d p u (Releasing (mode_at_home (state_of d p u))) 0) p (ops.Unlock u) refl refl Doubt []
-      (set-idle u (Releasing (mode_at_home (state_of d p u))) 0 stands.still stands.others) tt)
+      (set-idle u (Releasing (mode_at_home (state_of d p u))) 0 stands.still stands.others) refl)
   failed-good op (LockCall.Remove u) stands own =
       good-as d p op (ops.Delete u) (failed d p (LockCall.Remove u)) own
-      (ended-good d (with_state d p u Deleting 0) p (ops.Delete u) refl refl Doubt [] (set-idle u Deleting 0 stands.0.still stands.0.others) tt)
+      (ended-good d (with_state d p u Deleting 0) p (ops.Delete u) refl refl Doubt [] (set-idle u Deleting 0 stands.0.still stands.0.others) refl)
 
 -- a call of a lock, an unlock or a removal names its operation, whatever load or store is open
 no_task : (op : Op) (call : LockCall) (task : Option Task) → IsCallOf op task (Some (open_call call)) → IsCallOf op None (Some (open_call call))

@@ -46,10 +46,10 @@ module _ (d : DeskState) (p : ℕ) (u : ObjectName) (is : IsDesk d) (proc : IsPr
   -- a lock begins
   lock_by-good : (m : Mode) (held unsettled full at_node : Bool) → is_held (state_of d p u) ≡ held → is_unsettled (state_of d p u) ≡ unsettled → nat_le PROCESS_LOCKS (length (entries_of d p)) ≡ full
       → is_node d.nodes u.home ≡ at_node → IsAfter d.node d.nodes p (ops.Lock u m) (lock_by d p u m held unsettled full at_node)
-  lock_by-good m true unsettled full at_node a b c e = ended-good d d p (ops.Lock u m) refl refl AlreadyHeld [] idle tt
-  lock_by-good m false true full at_node a b c e = ended-good d d p (ops.Lock u m) refl refl Unsettled [] idle tt
-  lock_by-good m false false true at_node a b c e = ended-good d d p (ops.Lock u m) refl refl TooMany [] idle tt
-  lock_by-good m false false false false a b c e = ended-good d d p (ops.Lock u m) refl refl NoObject [] idle tt
+  lock_by-good m true unsettled full at_node a b c e = ended-good d d p (ops.Lock u m) refl refl AlreadyHeld [] idle refl
+  lock_by-good m false true full at_node a b c e = ended-good d d p (ops.Lock u m) refl refl Unsettled [] idle refl
+  lock_by-good m false false true at_node a b c e = ended-good d d p (ops.Lock u m) refl refl TooMany [] idle refl
+  lock_by-good m false false false false a b c e = ended-good d d p (ops.Lock u m) refl refl NoObject [] idle refl
   lock_by-good m false false false true a b c e =
       sent-good d d p (ops.Lock u m) refl refl (LockCall.Lock u m) u.home (Ask.Lock u m) is.four.calls proc node refl refl (refl, refl)
       (record { free = neither-free (state_of d p u) a b; room = room-left; node = node; still = idle.no_page; others = idle.keeping })
@@ -166,7 +166,7 @@ module _ (d : DeskState) (p : ℕ) (u : ObjectName) (is : IsDesk d) (proc : IsPr
     changed-another changed = another (is.lengths u changed)
 
   unlock_by-good : (free held writes : Bool) → is_free (state_of d p u) ≡ free → is_held (state_of d p u) ≡ held → may_write (state_of d p u) ≡ writes → IsAfter d.node d.nodes p (ops.Unlock u) (unlock_by d p u free held writes)
-  unlock_by-good true held writes a b c = ended-good d d p (ops.Unlock u) refl refl NotHeld [] idle tt
+  unlock_by-good true held writes a b c = ended-good d d p (ops.Unlock u) refl refl NotHeld [] idle refl
   unlock_by-good false true true a b c = release_of-good false (keeps-writes (entry_at d.entries p u) (idle.keeping u b) c) (λ e. absurd (cc))
   unlock_by-good false true false a b c = noted-good false b
   unlock_by-good false false writes a b c =
@@ -177,8 +177,8 @@ module _ (d : DeskState) (p : ℕ) (u : ObjectName) (is : IsDesk d) (proc : IsPr
   begin_unlock_of-good = unlock_by-good (is_free (state_of d p u)) (is_held (state_of d p u)) (may_write (state_of d p u)) refl refl refl
 
   delete_by-good : (held may : Bool) → is_held (state_of d p u) ≡ held → may_delete (state_of d p u) ≡ may → IsAfter d.node d.nodes p (ops.Delete u) (delete_by d p u held may)
-  delete_by-good false may a b = ended-good d d p (ops.Delete u) refl refl NoLock [] idle tt
-  delete_by-good true false a b = ended-good d d p (ops.Delete u) refl refl WrongMode [] idle tt
+  delete_by-good false may a b = ended-good d d p (ops.Delete u) refl refl NoLock [] idle refl
+  delete_by-good true false a b = ended-good d d p (ops.Delete u) refl refl WrongMode [] idle refl
   delete_by-good true true a b = release_of-good true (keeps-writes (entry_at d.entries p u) (idle.keeping u a) (deletes-writes (state_of d p u) b)) (λ e. b)
 
   pub begin_delete_of-good : IsAfter d.node d.nodes p (ops.Delete u) (begin_delete_of d p u)

@@ -2,6 +2,7 @@
 use Rattle.std.specs.Prelude.{ℕ, nat_le, Bool, true, false, length}
 use Rattle.uid_names.specs.Names.{ObjectName}
 use Rattle.uid_names.specs.declared.mode.Mode.{Mode}
+use Rattle.dom_history.specs.declared.deed.LockState.{LockState}
 use Rattle.dom_history.specs.declared.op.Reply.TheVariants.{NoObject, AlreadyHeld, Unsettled, TooMany}
 use Rattle.dom_history.specs.Locks.{is_held, is_unsettled}
 use Rattle.uid_names.specs.declared.limits.TheConstants.{PROCESS_LOCKS}
@@ -20,6 +21,9 @@ lock_by d p u m false false true at_node = ended d TooMany
 lock_by d p u m false false false false = ended d NoObject
 lock_by d p u m false false false true = sent d p (LockCall.Lock u m) u.home (Ask.Lock u m)
 
+-- by the process's state on the object
+abbrev pub lock_from : DeskState → ℕ → ObjectName → Mode → LockState → Moved
+lock_from d p u m s = lock_by d p u m (is_held s) (is_unsettled s) (nat_le PROCESS_LOCKS (length (entries_of d p))) (is_node d.nodes u.home)
+
 abbrev pub begin_lock_of : DeskState → ℕ → ObjectName → Mode → Moved
-begin_lock_of d p u m =
-    lock_by d p u m (is_held (state_of d p u)) (is_unsettled (state_of d p u)) (nat_le PROCESS_LOCKS (length (entries_of d p))) (is_node d.nodes u.home)
+begin_lock_of d p u m = lock_from d p u m (state_of d p u)

@@ -17,7 +17,7 @@ ghost use Rattle.fault_handler.specs.Ready.{LockStands, WriterStands, ReleaseSta
 ghost use Rattle.fault_handler.specs.Next.{FitsTurn, IsAsked, IsOpen, IsNext};
 ghost use Rattle.lock_validate.specs.Steps.{as_step, TellsTurn};
 ghost use Rattle.lock_validate.specs.Releases.{release_of};
-ghost use Rattle.lock_validate.specs.Answers.{is_seen, is_fresh, after_drop, dropped_of, learned, granted, gone, removed, answered, answer_came_of, answer_at, lock_answer_of};
+ghost use Rattle.lock_validate.specs.Answers.{is_seen, is_fresh, after_drop, dropped_of, learned, gone, removed, answered, answer_came_of, answer_at, lock_answer_of};
 ghost use Rattle.lock_validate.specs.Wants.{SendsPage, MayWantAt};
 
 use crate::releases::release;
@@ -154,7 +154,7 @@ fn granted(
     requires stamp { 1 ≤ given.stamp }
     requires room { IsRoom given.room }
     requires length { IsLength given.length }
-    ensures outcome { IfOk result (Gives as_step desk.new (granted desk.old proc.number uid mode given.grant given.stamp given.room given.length (not (others_keep desk.old.entries proc.number uid)) (stamp_of uid desk.old.seen))) }
+    ensures outcome { IfOk result (Gives as_step desk.new (answered desk.old proc.number (LockAnswer.Granted uid mode given.grant given.stamp given.room given.length))) }
     ensures memory { OnErr result (MayWantAt desk.old proc.number (LockAnswer.Granted uid mode given.grant given.stamp given.room given.length)) }
 {
     let outdated = are_outdated(desk, proc, uid, given.stamp);

@@ -1,14 +1,13 @@
 //! How a lock begins.
-ghost use Rattle.std.specs.Prelude.{◌≡◌, IsOk, IfOk, OnOk, nat_le, length, false};
+ghost use Rattle.std.specs.Prelude.{◌≡◌, IsOk, IfOk, OnOk};
+ghost use Rattle.dom_history.specs.declared.deed.LockState.TheVariants.{Free};
 ghost use Rattle.dom_history.specs.declared.op.Op.{Op};
-ghost use Rattle.dom_history.specs.Locks.{is_held, is_unsettled};
-ghost use Rattle.fault_handler.specs.Desks.{is_node, entries_of, state_of};
 ghost use Rattle.fault_handler.specs.Outcomes.{Gives};
 ghost use Rattle.fault_handler.specs.Conditions.{IsOf, IsIdle};
 ghost use Rattle.fault_handler.specs.Ready.{IsReady};
 ghost use Rattle.fault_handler.specs.Next.{FitsTurn, IsAsked, IsNext};
 ghost use Rattle.lock_validate.specs.Steps.{as_step, TellsTurn};
-ghost use Rattle.lock_validate.specs.Locking.{lock_by, begin_lock_of};
+ghost use Rattle.lock_validate.specs.Locking.{lock_from, begin_lock_of};
 
 use crate::sends::{end, send};
 use crate::step::Step;
@@ -52,7 +51,7 @@ fn lock_by(
 ) -> Step
     requires own { IsOf desk.old proc }
     requires idle { IsIdle desk.old proc.number }
-    ensures { Gives as_step desk.new (lock_by desk.old proc.number uid mode (is_held state) (is_unsettled state) (nat_le PROCESS_LOCKS (length (entries_of desk.old proc.number))) (is_node desk.old.nodes uid.home)) result }
+    ensures { Gives as_step desk.new (lock_from desk.old proc.number uid mode state) result }
 {
     match state {
         LockState::Held(_) => end(alloc, Reply::AlreadyHeld),
@@ -67,7 +66,7 @@ fn lock_by(
 fn lock_free(alloc: Global, desk: &mut Desk, proc: ProcId, uid: Uid, mode: Mode) -> Step
     requires own { IsOf desk.old proc }
     requires idle { IsIdle desk.old proc.number }
-    ensures { Gives as_step desk.new (lock_by desk.old proc.number uid mode false false (nat_le PROCESS_LOCKS (length (entries_of desk.old proc.number))) (is_node desk.old.nodes uid.home)) result }
+    ensures { Gives as_step desk.new (lock_from desk.old proc.number uid mode Free) result }
 {
     if usize::from(desk.not_free(proc)) >= PROCESS_LOCKS {
         return end(alloc, Reply::TooMany);

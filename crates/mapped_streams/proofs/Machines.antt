@@ -3,8 +3,8 @@ use Rattle.std.proofs.Common.{◌≡◌, Option, Some, None, List, [], ◌∷◌
 use Rattle.dom_history.specs.declared.op.Op.{Op}
 use Rattle.dom_history.specs.declared.op.Reply.{Reply}
 use Rattle.dom_history.specs.Fitting.{Fits}
-use Rattle.mapped_streams.specs.declared.step.StreamStep.TheVariants.{Do}
-use Rattle.mapped_streams.specs.Dialogues.{Dialogue, Ends, Asks, told, after, says, FitsSaid, FitsHeard, MayHear, told_last, said_to, unless_over, left_after, machine_left, machine_says}
+use Rattle.naming_tree.specs.declared.step.Step.TheVariants.{Do}
+use Rattle.mapped_streams.specs.Dialogues.{Dialogue, StreamStep, Ends, Asks, told, after, says, FitsSaid, FitsHeard, MayHear, told_last, said_to, unless_over, left_after, machine_left, machine_says}
 
 next_left : (d : Dialogue) (reply : Reply) → FitsSaid (says d) reply → left_after (unless_over d) (Some reply) ≡ unless_over (told d reply)
 next_left (Ends result) reply fits = absurd fits
@@ -30,7 +30,10 @@ pub asks_on : (d : Dialogue) (op : Op) → says d ≡ Do op → unless_over d �
 asks_on (Ends result) op e = absurd (grind (arith, e))
 asks_on (Asks other further) op e = refl
 
-said_op : (op other : Op) (reply : Reply) → Some (Do other) ≡ Some (Do op) → Fits other reply → Fits op reply
+abbrev IsSaid : StreamStep → StreamStep → Type 0
+IsSaid step said = Some step ≡ Some said
+
+said_op : (op other : Op) (reply : Reply) → IsSaid (Do other) (Do op) → Fits other reply → Fits op reply
 said_op op other reply e fits =
     let same : other ≡ op = grind (arith, e) in
     subst (λ o. Fits o reply) same fits

@@ -6,7 +6,7 @@ use Rattle.dom_history.specs.Fitting.{Fits}
 use Rattle.naming_tree.specs.Sessions.{closers_if}
 use Rattle.naming_tree.specs.Entering.{unmap_if}
 use Rattle.mapped_streams.specs.declared.step.StreamResult.{StreamResult}
-use Rattle.mapped_streams.specs.declared.step.StreamStep.TheVariants.{Do}
+use Rattle.naming_tree.specs.declared.step.Step.TheVariants.{Do}
 use Rattle.mapped_streams.specs.declared.work.Work.{Work}
 use Rattle.mapped_streams.specs.declared.streaming.Stage.{Stage}
 use Rattle.mapped_streams.specs.declared.streaming.Stage.TheVariants.{Lock, Length, Map, At, Close}

@@ -1,15 +1,15 @@
 -- What a reply makes of a stream is what it leaves of its dialogue.
-use Rattle.std.proofs.Common.{◌≡◌, ◌≤◌, ◌+◌, ◌*◌, ◌<◌, ◌-◌, min, ℕ, Bool, true, false, cond, Option, Some, None, List, [], ◌∷◌, length, refl, ap, ◌∙◌, sym, subst, arith}
-use Rattle.std.specs.Prelude.{nat_le, IfSome, count_by, ◌==◌}
+use Rattle.std.proofs.Common.{◌≡◌, ◌≤◌, ◌+◌, ◌<◌, ℕ, Bool, true, false, Option, Some, None, List, [], ◌∷◌, length, refl, sym, subst, arith}
+use Rattle.std.specs.Prelude.{nat_le, IfSome, ◌==◌}
 use Rattle.std.proofs.lemmas.Bool.Decides.{nat_tests}
 use Rattle.std.proofs.lemmas.List.Sums.{count_by-le-length}
 use Rattle.uid_names.specs.Names.{ObjectName}
 use Rattle.uid_names.specs.Rooms.{IsLength}
-use Rattle.uid_names.specs.declared.limits.TheConstants.{PAGE_BYTES}
-use Rattle.dom_history.specs.declared.op.Op.{Op}
+use Rattle.uid_names.proofs.Passed.{equal}
 use Rattle.dom_history.specs.declared.op.Reply.{Reply}
 use Rattle.dom_history.specs.declared.op.Reply.TheVariants.{Fine, Size, Bytes, At as MappedAt}
-use Rattle.dom_history.specs.Fitting.{Fits, FitsLength, FitsMap}
+use Rattle.dom_history.specs.Fitting.{Fits, is_length_reply, is_map_reply}
+use Rattle.dom_history.proofs.Fitting.{size-fits, at-fits}
 use Rattle.naming_tree.specs.Sessions.{closers_if}
 use Rattle.naming_tree.specs.Entering.{pages}
 use Rattle.mapped_streams.specs.declared.step.StreamResult.{StreamResult}
@@ -24,11 +24,11 @@ use Rattle.mapped_streams.specs.declared.streaming.Stage.{Stage}
 use Rattle.mapped_streams.specs.declared.streaming.Stage.TheVariants.{Lock, Length, Map, At, Close}
 use Rattle.mapped_streams.specs.declared.streaming.Streaming.{Streaming}
 use Rattle.mapped_streams.specs.Gathering.{lines, gathered_with, IsGathered}
-use Rattle.mapped_streams.specs.Pages.{IsMapped}
+use Rattle.mapped_streams.specs.Pages.{bytes_in, IsMapped}
 use Rattle.mapped_streams.specs.Dialogues.{Dialogue, Ends, told, after, says, FitsHeard, FitsSaid}
 use Rattle.mapped_streams.specs.Works.{work_after, work_op, is_done, IsText, IsWork}
 use Rattle.mapped_streams.specs.States.{opened_left, stage_left, left, stage_op, IsStage, IsStreaming}
-use Rattle.mapped_streams.specs.Turns.{Turn, Goes, Comes, state_of, stream_at, works_if, working, giving_up, behind_lock, behind_length, behind_map, behind_if, behind_work, first_refusal, behind_close, stage_turn, turn, stood_after}
+use Rattle.mapped_streams.specs.Turns.{Turn, Goes, Comes, state_of, stream_at, works_if, giving_up, behind_lock, behind_length, behind_map, behind_if, behind_work, first_refusal, behind_close, stage_turn, turn, stood_after}
 use Rattle.mapped_streams.proofs.Works.{work_told, work_done, left_by}
 use Rattle.mapped_streams.proofs.Stages.{fits_op}
 
@@ -61,14 +61,15 @@ lock_turns : (u : ObjectName) (work : Work) (refused : Option Reply) (reply : Re
 lock_turns u work refused Fine w = record { leaves = refl; keeps = streams u work refused Length w tt }
 lock_turns u work refused reply w = record { leaves = refl; keeps = tt }
 
-length_turns : (u : ObjectName) (work : Work) (refused : Option Reply) (reply : Reply) → IsWork work → FitsLength reply → Turns (Goes (behind_length u work refused reply)) (told (stage_left u work refused Length) reply)
-length_turns u work refused (Size n) w fits = record { leaves = refl; keeps = streams u work refused (Map n) w fits }
+length_turns : (u : ObjectName) (work : Work) (refused : Option Reply) (reply : Reply) → IsWork work → is_length_reply reply ≡ true → Turns (Goes (behind_length u work refused reply)) (told (stage_left u work refused Length) reply)
+length_turns u work refused (Size n) w fits = record { leaves = refl; keeps = streams u work refused (Map n) w (size-fits n fits) }
 length_turns u work refused reply w fits = record { leaves = refl; keeps = gives_up u work false reply w }
 
-map_turns : (u : ObjectName) (work : Work) (refused : Option Reply) (n : ℕ) (reply : Reply) → IsWork work → IsLength n → FitsMap reply → Turns (Goes (behind_map u work refused n reply)) (told (stage_left u work refused (Map n)) reply)
+map_turns : (u : ObjectName) (work : Work) (refused : Option Reply) (n : ℕ) (reply : Reply) → IsWork work → IsLength n → is_map_reply reply ≡ true → Turns (Goes (behind_map u work refused n reply)) (told (stage_left u work refused (Map n)) reply)
 map_turns u work refused n (MappedAt address fresh) w long fits =
+    let start = at-fits address fresh fits in
     works_so (is_done (record { address = address; length = n }) work) u work refused (record { at = record { address = address; length = n }; fresh = fresh }) w
-    (record { long = long; at = fits.0; below = fits.1 }) refl
+    (record { long = long; at = start.0; below = start.1 }) refl
 map_turns u work refused n reply w long fits = record { leaves = refl; keeps = gives_up u work false reply w }
 
 -- no more lines than bytes
@@ -84,7 +85,7 @@ abbrev IfWork : Option Work → Type 0
 IfWork next = IfSome next IsWork
 
 read_keeps : (at : Mapped) (page : ℕ) (gathered : Gathered) (reply : Reply) → IsGathered page gathered → Fits (work_op at (Read page gathered)) reply → IfWork (work_after (Read page gathered) reply)
-read_keeps at page gathered (Bytes more) h fits = gathers page gathered more h (omega (arith, fits))
+read_keeps at page gathered (Bytes more) h fits = gathers page gathered more h (omega (arith, equal (length more) (bytes_in at page) fits))
 read_keeps at page gathered reply h fits = tt
 
 append_keeps : (text : List ℕ) (side : Option Side) (reply : Reply) → IsText text → IfWork (work_after (Append text side) reply)
@@ -92,7 +93,7 @@ append_keeps text side Fine h = h
 append_keeps text side reply h = tt
 
 load_keeps : (source at : Mapped) (page : ℕ) (reply : Reply) → IsMapped source → nat_le (pages source.length) page ≡ false → Fits (work_op at (Copy source page None)) reply → IfWork (work_after (Copy source page None) reply)
-load_keeps source at page (Bytes bytes) m e fits = (m, record { there = before (pages source.length) e; whole = fits }) where
+load_keeps source at page (Bytes bytes) m e fits = (m, record { there = before (pages source.length) e; whole = equal (length bytes) (bytes_in source page) fits }) where
   before : (n : ℕ) → nat_le n page ≡ false → page < n
   before n e = grind (arith, nat_tests, e)
 load_keeps source at page reply m e fits = tt

@@ -11,7 +11,7 @@ use Rattle.dom_history.specs.declared.op.Reply.{Reply}
 use Rattle.dom_history.specs.declared.op.Reply.TheVariants.{Bytes, Fine as Done}
 use Rattle.naming_tree.specs.Entering.{pages}
 use Rattle.mapped_streams.specs.declared.step.StreamResult.TheVariants.{Store, Fine}
-use Rattle.mapped_streams.specs.declared.step.StreamStep.TheVariants.{Do}
+use Rattle.naming_tree.specs.declared.step.Step.TheVariants.{Do}
 use Rattle.mapped_streams.specs.declared.gathered.Gathered.{Gathered}
 use Rattle.mapped_streams.specs.declared.mapped.Mapped.{Mapped}
 use Rattle.mapped_streams.specs.declared.work.Side.{Side}

@@ -1,47 +1,16 @@
--- What is asked of the store, one operation after another, and what comes of it.
+-- The dialogues of streams, and where their machines stand in them.
 use Rattle.std.specs.Prelude.{Option, Some, None, List, [], ◌∷◌}
-use Rattle.dom_history.specs.declared.op.Op.{Op}
 use Rattle.dom_history.specs.declared.op.Reply.{Reply}
-use Rattle.dom_history.specs.Fitting.{Fits}
-use Rattle.dom_history.specs.Ranges.{IsOp}
+use Rattle.naming_tree.specs.declared.step.Step.{Step}
+use Rattle.naming_tree.specs.Dialogues.{DialogueOf}
+pub use Rattle.naming_tree.specs.Dialogues.{Ends, Asks, told, after, says, IsStep, FitsSaid, FitsHeard}
 use Rattle.mapped_streams.specs.declared.step.StreamResult.{StreamResult}
-use Rattle.mapped_streams.specs.declared.step.StreamStep.{StreamStep}
-use Rattle.mapped_streams.specs.declared.step.StreamStep.TheVariants.{Do, Over}
 
--- an operation is asked, and what follows depends on its reply; in the end there is a result
-pub data Dialogue : Type 0 where
-  Ends : (result : StreamResult) → Dialogue
-  Asks : (op : Op) → (further : Reply → Dialogue) → Dialogue
+abbrev pub Dialogue : Type 0
+Dialogue = DialogueOf StreamResult
 
--- what is left of it once it was told a reply
-abbrev pub told : Dialogue → Reply → Dialogue
-told (Ends result) reply = Ends result
-told (Asks op further) reply = further reply
-
--- what is left of it behind replies, of which the newest stands first
-abbrev pub after : Dialogue → List Reply → Dialogue
-after d [] = d
-after d (reply ∷ heard) = told (after d heard) reply
-
--- what it says: the operation that is asked next, or the result
-abbrev pub says : Dialogue → StreamStep
-says (Ends result) = Over result
-says (Asks op further) = Do op
-
--- a reply fits what was said before it
-abbrev pub FitsSaid : StreamStep → Reply → Type 0
-FitsSaid (Do op) reply = Fits op reply
-FitsSaid (Over result) reply = ⊥
-
--- so do all of these, of which the newest stands first
-abbrev pub FitsHeard : Dialogue → List Reply → Type 0
-FitsHeard d [] = Unit {0}
-FitsHeard d (reply ∷ heard) = FitsHeard d heard × FitsSaid (says (after d heard)) reply
-
--- an operation in its ranges
-abbrev pub IsStep : StreamStep → Type 0
-IsStep (Do op) = IsOp op
-IsStep (Over result) = Unit {0}
+abbrev pub StreamStep : Type 0
+StreamStep = Step StreamResult
 
 -- A machine is told a reply; told nothing, as at its first call, it says what it is at.
 abbrev pub told_last : Dialogue → Option Reply → Dialogue

@@ -6,3 +6,4 @@ pub mod Works
 pub mod States
 pub mod OneStore
 pub mod Turns
+pub mod Served

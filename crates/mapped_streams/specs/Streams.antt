@@ -1,6 +1,6 @@
 -- The dialogues of the streams. `held` are the operations that close what is open, newest first: after a refusal only
 -- these are made, and what they are answered changes nothing.
-use Rattle.std.specs.Prelude.{ℕ, Option, Some, None, List, [], ◌∷◌}
+use Rattle.std.specs.Prelude.{ℕ, Option, List, [], ◌∷◌}
 use Rattle.uid_names.specs.Names.{ObjectName}
 use Rattle.uid_names.specs.declared.mode.Mode.{Mode}
 use Rattle.uid_names.specs.declared.mode.Mode.TheVariants.{Read, Write}
@@ -16,20 +16,16 @@ use Rattle.mapped_streams.specs.declared.gathered.Gathered.{Gathered}
 use Rattle.mapped_streams.specs.declared.gathered.Gathered.TheVariants.{All, Lines}
 use Rattle.mapped_streams.specs.Pages.{pages_from, page_load, loads_from, page_store, end_of, stores_at}
 use Rattle.mapped_streams.specs.Gathering.{gathered_with, come_to}
-use Rattle.mapped_streams.specs.Dialogues.{Dialogue, Ends, Asks}
-
--- what is open is closed, and the result stays
-abbrev pub closing : List Op → StreamResult → Dialogue
-closing [] result = Ends result
-closing (op ∷ held) result = Asks op (λ _. closing held result)
+use Rattle.naming_tree.specs.Dialogues.{go_on_or, ask_or}
+pub use Rattle.naming_tree.specs.Dialogues.{closing}
+use Rattle.mapped_streams.specs.Dialogues.{Dialogue, Ends}
 
 -- an operation that is done goes on; one that is refused is the result, once what is open is closed
 abbrev pub go_on : {A : Type 0} → Option A → Reply → List Op → (A → Dialogue) → Dialogue
-go_on None reply held further = closing held (Store reply)
-go_on (Some answer) reply held further = further answer
+go_on answer reply held further = go_on_or Store answer reply held further
 
 abbrev pub ask : {A : Type 0} → (Reply → Option A) → List Op → Op → (A → Dialogue) → Dialogue
-ask answer held op further = Asks op (λ reply. go_on (answer reply) reply held further)
+ask answer held op further = ask_or Store answer held op further
 
 -- Open: the lock, the length, and the mapping
 abbrev pub mapping : ObjectName → ℕ → (Opened → Dialogue) → Dialogue

@@ -1,5 +1,5 @@
 -- What a reply makes of a stream.
-use Rattle.std.specs.Prelude.{ℕ, Bool, true, false, cond, Option, Some, None}
+use Rattle.std.specs.Prelude.{ℕ, Bool, true, false, Option, Some, None}
 use Rattle.uid_names.specs.Names.{ObjectName}
 use Rattle.dom_history.specs.declared.op.Reply.{Reply}
 use Rattle.dom_history.specs.declared.op.Reply.TheVariants.{Fine, Size, At as MappedAt}

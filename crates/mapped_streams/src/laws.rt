@@ -1,24 +1,16 @@
 //! Laws of streams. Each stands on a function without a body, so that the check proves it.
-ghost use Rattle.std.specs.Prelude.{◌≡◌, ◌≤◌, ◌+◌, ◌*◌, ◌++◌, ℕ, false, length, List, Option, Some};
+ghost use Rattle.std.specs.Prelude.{◌≡◌, ◌++◌, ℕ, length, List, Option, Some};
+ghost use Rattle.uid_names.specs.Names.{ObjectName};
 ghost use Rattle.dom_history.specs.declared.op.Op.{Op};
 ghost use Rattle.dom_history.specs.declared.op.Reply.{Reply};
 ghost use Rattle.dom_history.specs.Fitting.{Fits};
-ghost use Rattle.mapped_streams.specs.declared.step.StreamStep.TheVariants.{Do};
+ghost use Rattle.dom_history.specs.Mappings.{Mapping};
+ghost use Rattle.naming_tree.specs.declared.step.Step.TheVariants.{Do};
 ghost use Rattle.mapped_streams.specs.declared.step.StreamResult.TheVariants.{Bytes, Count};
 ghost use Rattle.mapped_streams.specs.Dialogues.{Dialogue, says, after, FitsHeard, MayHear, said_to, left_after, machine_says};
-ghost use Rattle.uid_names.specs.Names.{ProcName, ObjectName, same_uid};
-ghost use Rattle.uid_names.specs.Openings.{Start};
-ghost use Rattle.dom_history.specs.declared.deed.Deed.{Deed};
-ghost use Rattle.dom_history.specs.StoreEffects.{store_effects};
-ghost use Rattle.uid_names.specs.declared.limits.TheConstants.{PAGE_BYTES};
-ghost use Rattle.dom_history.specs.Objects.{room_of};
-ghost use Rattle.dom_history.specs.Bytes.{length_of};
-ghost use Rattle.dom_history.specs.Mappings.{Mapping};
-ghost use Rattle.dom_history.specs.Replies.{before_of, mapping_of};
-ghost use Rattle.dom_history.specs.Runs.{AreAnswered};
 ghost use Rattle.mapped_streams.specs.Gathering.{lines};
 ghost use Rattle.mapped_streams.specs.Streams.{read_all, count_lines, append, copy};
-ghost use Rattle.mapped_streams.specs.OneStore.{come, behind, content, source_at, IsDone};
+ghost use Rattle.mapped_streams.specs.Served.{Asker, holds, source, ComesTo, Leaves, HasRoomFor, IsCopied};
 
 /// A machine says what its dialogue says after all that it heard.
 #[tactic(auto, using(crate::proofs::Machines::machine_heard))]
@@ -33,20 +25,20 @@ pub fn machines_take_each_reply_that_fits()
 
 /// Where one store refuses nothing, an object is read whole.
 pub fn objects_are_read_whole()
-    ensures { (opening : Start) (p : ProcName) (u : ObjectName) (deeds : List Deed) → AreAnswered opening deeds → IsDone (come opening p (read_all u) deeds) → come opening p (read_all u) deeds ≡ Bytes (content opening (store_effects deeds) u) }
+    ensures { (a : Asker) (u : ObjectName) → ComesTo a (read_all u) (Bytes (holds a u)) }
 {}
 
 /// And all its lines are counted.
 pub fn all_lines_are_counted()
-    ensures { (opening : Start) (p : ProcName) (u : ObjectName) (deeds : List Deed) → AreAnswered opening deeds → IsDone (come opening p (count_lines u) deeds) → come opening p (count_lines u) deeds ≡ Count (lines (content opening (store_effects deeds) u)) }
+    ensures { (a : Asker) (u : ObjectName) → ComesTo a (count_lines u) (Count (lines (holds a u))) }
 {}
 
 /// A text for which there is room is put behind what an object held.
 pub fn texts_are_put_behind()
-    ensures { (opening : Start) (p : ProcName) (u : ObjectName) (text : List ℕ) (deeds : List Deed) → AreAnswered opening deeds → length_of opening (store_effects deeds) u + length text ≤ PAGE_BYTES * room_of opening (store_effects deeds) u → IsDone (come opening p (append u text) deeds) → content opening (store_effects (behind opening p (append u text) deeds)) u ≡ content opening (store_effects deeds) u ++ text }
+    ensures { (a : Asker) (u : ObjectName) (text : List ℕ) → HasRoomFor a u (length text) → Leaves a (append u text) u (holds a u ++ text) }
 {}
 
 /// An object that was empty, and has room for it, holds what the source of a copy holds, which its process has mapped.
 pub fn copies_hold_what_their_sources_hold()
-    ensures { (opening : Start) (p : ProcName) (from to : ObjectName) (m : Mapping) (deeds : List Deed) → AreAnswered opening deeds → same_uid to from ≡ false → mapping_of (before_of opening deeds p) p from ≡ Some m → length_of opening (store_effects deeds) to ≡ 0 → length_of opening (store_effects deeds) from ≤ PAGE_BYTES * room_of opening (store_effects deeds) to → IsDone (come opening p (copy (source_at opening (store_effects deeds) m) to) deeds) → content opening (store_effects (behind opening p (copy (source_at opening (store_effects deeds) m) to) deeds)) to ≡ content opening (store_effects deeds) from }
+    ensures { (a : Asker) (from to : ObjectName) (m : Mapping) → IsCopied a from to m → Leaves a (copy (source a m) to) to (holds a from) }
 {}

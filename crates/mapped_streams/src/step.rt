@@ -1,5 +1,6 @@
 //! What the machines ask and come to.
-use dom_history::{Op, Reply};
+use dom_history::Reply;
+use naming_tree::Step;
 use uid_names::ByteList;
 
 /// What a machine comes to.
@@ -12,9 +13,5 @@ pub enum StreamResult {
     Store(Reply),
 }
 
-/// What a machine says: the next operation, or what it has come to.
-#[derive(Drop, Debug)]
-pub enum StreamStep {
-    Do(Op),
-    Over(StreamResult),
-}
+/// What a stream says.
+pub type StreamStep = Step<StreamResult>;

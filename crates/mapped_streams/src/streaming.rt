@@ -1,12 +1,12 @@
 //! How far streams have come: an object is opened, worked on and closed.
-ghost use Rattle.std.specs.Prelude.{◌≡◌, ℕ, List, [], ◌∷◌, true, false, IfOk, OnOk, IfNone};
+ghost use Rattle.std.specs.Prelude.{◌≡◌, ℕ, List, [], true, false, IsTrue, IfOk, OnOk, IfNone};
 ghost use Rattle.uid_names.specs.Rooms.{IsLength};
 ghost use Rattle.dom_history.specs.Ranges.{IsOp};
-ghost use Rattle.dom_history.specs.Fitting.{Fits, FitsLength, FitsMap};
-ghost use Rattle.dom_history.specs.declared.op.Op.TheVariants.{Lock as LockOp, Unlock as UnlockOp, Length as LengthOp, Map as MapOp};
+ghost use Rattle.dom_history.specs.Fitting.{Fits, is_length_reply, is_map_reply};
+ghost use Rattle.dom_history.specs.declared.op.Op.TheVariants.{Lock as LockOp, Length as LengthOp, Map as MapOp};
 ghost use Rattle.mapped_streams.specs.declared.step.StreamResult.TheVariants.{Store};
 ghost use Rattle.naming_tree.specs.Entering.{is_fine as is_fine_reply};
-ghost use Rattle.naming_tree.specs.Sessions.{fine, size, place, closers_if};
+ghost use Rattle.naming_tree.specs.Sessions.{fine, closers_if};
 ghost use Rattle.mapped_streams.specs.Dialogues.{told};
 ghost use Rattle.mapped_streams.specs.Pages.{IsMapped};
 ghost use Rattle.mapped_streams.specs.Streams.{closing, go_on, measuring, mapping};
@@ -136,9 +136,9 @@ impl Streaming {
     /// Takes in the reply to the length.
     fn on_length(&mut self, alloc: Global, reply: &Reply) -> Result<(), NoMemory>
         requires work { IsWork self.old.work }
-        requires fits { FitsLength reply.now }
+        requires fits { IsTrue (is_length_reply reply.now) }
         ensures value { OnOk result (self.new ≡ behind_length self.old.uid self.old.work self.old.refused reply.now) }
-        ensures left { OnOk result (left self.new ≡ go_on (size reply.now) reply.now (UnlockOp self.old.uid ∷ []) (λ n. mapping self.old.uid n (opened_left self.old.uid self.old.work))) }
+        ensures left { OnOk result (left self.new ≡ told (measuring self.old.uid (opened_left self.old.uid self.old.work)) reply.now) }
         ensures range { OnOk result (IsStreaming self.new) }
     {
         match reply {
@@ -154,9 +154,9 @@ impl Streaming {
     fn on_map(&mut self, alloc: Global, length: u32, reply: &Reply) -> Result<(), NoMemory>
         requires work { IsWork self.old.work }
         requires length { IsLength length }
-        requires fits { FitsMap reply.now }
+        requires fits { IsTrue (is_map_reply reply.now) }
         ensures value { OnOk result (self.new ≡ behind_map self.old.uid self.old.work self.old.refused length reply.now) }
-        ensures left { OnOk result (left self.new ≡ go_on (place reply.now) reply.now (UnlockOp self.old.uid ∷ []) (λ at. opened_left self.old.uid self.old.work (record { at = record { address = at.0; length = length }; fresh = at.1 }))) }
+        ensures left { OnOk result (left self.new ≡ told (mapping self.old.uid length (opened_left self.old.uid self.old.work)) reply.now) }
         ensures range { OnOk result (IsStreaming self.new) }
     {
         match reply {

@@ -7,7 +7,7 @@ use aegis_shell::Shell;
 use anyhow::Result;
 use dom_history::{Op, Reply, Spot};
 use plain_store::PlainStore;
-use script_reader::read_script;
+use script_reader::{Script, read_script};
 use std::alloc::Global;
 use uid_names::{ByteList, Mode, NoMemory, ProcId};
 
@@ -37,17 +37,19 @@ pub fn read(rt: &HostRuntime, count: u32) -> Result<(u64, u64)> {
     })
 }
 
-/// Makes the shells of all 32 processes at a time.
+/// Makes the shells of all 32 processes of a script, which are there at a time: how many they are.
+fn shells_made(alloc: Global, script: &Script) -> Result<usize> {
+    let mut shells = Vec::new(alloc);
+    for p in 0..32u8 {
+        let proc = process(p / 4 + 1, p % 4 + 1)?;
+        shells.push(Shell::new(alloc, script, proc)?)?;
+    }
+    Ok(shells.len())
+}
+
 pub fn make_shells(rt: &HostRuntime, count: u32) -> Result<(u64, u64)> {
     let script = read_script(rt.alloc(), script(rt.alloc())?.bytes())?;
-    timed!(rt, count, _i => {
-        let mut shells = Vec::new(rt.alloc());
-        for p in 0..32u8 {
-            let proc = process(p / 4 + 1, p % 4 + 1)?;
-            shells.push(Shell::new(rt.alloc(), &script, proc)?)?;
-        }
-        u32::from(shells.len() == 32)
-    })
+    timed!(rt, count, _i => u32::from(shells_made(rt.alloc(), &script)? == 32))
 }
 
 /// A store with the first object of node 2, a process, and how much was done.

@@ -1,9 +1,9 @@
 //! Cases: each is a title and its rows, as `crd d 8: added`, and an empty line ends it. Its rows are done one after
 //! another, in a new store.
 use crate::rows::answer;
-use crate::world::World;
 use anyhow::{Context, Result};
 use dom_text::{cut, put_decimal};
+use plain_machines::world::World;
 use std::alloc::Global;
 use uid_names::ByteList;
 

@@ -4,18 +4,8 @@
 #![tactic(auto)]
 
 mod cases;
-mod machines;
 mod records;
-mod refusals;
 mod rows;
-#[cfg(test)]
-mod stream_walks;
-mod streams;
-#[cfg(test)]
-mod tree;
-#[cfg(test)]
-mod walks;
-mod world;
 
 use anyhow::Result;
 use cases::tried;

@@ -3,17 +3,19 @@ ghost use Rattle.std.specs.Prelude.{IsSome, IfOk};
 ghost use Rattle.uid_names.specs.Rooms.{IsRoom};
 ghost use Rattle.dir_records.specs.Paths.{route_of};
 
-use crate::machines::{add, add_at, list, remove, remove_at, walk};
 use crate::records::{put_names, read_again, record_bytes};
-use crate::refusals::{Refusal, refused};
-use crate::streams::{Served, appending, copy, fill, leave, open, read, serve, some_bytes};
-use crate::world::World;
 use anyhow::{Context, Result, bail};
 use dir_records::{Component, is_path};
 use dom_history::{EndWord, Op, Reply};
 use dom_text::{cut, decimal, put_decimal};
 use mapped_streams::StreamResult;
 use naming_tree::{Addition, NameResult, Walked};
+use plain_machines::machines::{add, add_at, list, remove, remove_at, walk};
+use plain_machines::refusals::{Refusal, refused};
+use plain_machines::streams::{
+    Served, appending, copy, fill, leave, open, read, serve, some_bytes,
+};
+use plain_machines::world::World;
 use std::alloc::Global;
 use uid_names::{ByteList, MAX_ROOM, Mode, ObjKind, Uid};
 

@@ -1,11 +1,10 @@
 -- What is left of the dialogue of a task by a path, and how each reply leads on.
-use Rattle.std.proofs.Common.{◌≡◌, ℕ, Bool, true, false, Option, Some, None, List, [], ◌∷◌, ◌++◌, refl, ap, ◌∙◌, sym, subst, append-nil, arith}
-use Rattle.std.specs.Prelude.{option_map, IsSome}
+use Rattle.std.proofs.Common.{◌≡◌, ℕ, Bool, true, false, Option, Some, None, List, [], refl, ap, ◌∙◌, sym, subst, append-nil, arith}
+use Rattle.std.specs.Prelude.{IsSome}
 use Rattle.uid_names.specs.Names.{ObjectName}
 use Rattle.uid_names.specs.Rooms.{IsRoom}
 use Rattle.uid_names.specs.declared.mode.ObjKind.{ObjKind}
 use Rattle.uid_names.specs.declared.mode.ObjKind.TheVariants.{Directory}
-use Rattle.dom_history.specs.declared.op.Op.{Op}
 use Rattle.dom_history.specs.declared.op.Reply.{Reply}
 use Rattle.dir_records.specs.declared.path.Route.{Route}
 use Rattle.dir_records.specs.declared.path.Start.{Start}
@@ -14,30 +13,28 @@ use Rattle.naming_tree.specs.declared.session.Entering.TheVariants as entering
 use Rattle.naming_tree.specs.declared.session.Entering.{Entering}
 use Rattle.naming_tree.specs.declared.session.Held.{Held}
 use Rattle.naming_tree.specs.declared.step.Within.{Within}
-use Rattle.naming_tree.specs.declared.adding.AddStage.TheVariants as AddStages
-use Rattle.naming_tree.specs.declared.removing.RemoveStage.TheVariants as RemoveStages
+use Rattle.naming_tree.specs.declared.changing.Change.TheVariants.{Add, Remove}
+use Rattle.naming_tree.specs.declared.changing.Stage.TheVariants as stages
 use Rattle.naming_tree.specs.declared.step.Walked.{Walked}
 use Rattle.naming_tree.specs.declared.step.Walked.TheVariants.{Root, At}
 use Rattle.naming_tree.specs.declared.step.NameResult.{NameResult}
 use Rattle.naming_tree.specs.declared.step.NameResult.TheVariants.{Found}
-use Rattle.naming_tree.specs.declared.step.NameStep.TheVariants.{Do}
 use Rattle.naming_tree.specs.declared.reading.Reading.{Reading}
-use Rattle.naming_tree.specs.declared.adding.Adding.{Adding}
-use Rattle.naming_tree.specs.declared.removing.Removing.{Removing}
+use Rattle.naming_tree.specs.declared.changing.Changing.{Changing}
 use Rattle.naming_tree.specs.declared.walking.Aim.TheVariants.{Begin}
 use Rattle.naming_tree.specs.declared.walking.Walking.{Walking}
 use Rattle.naming_tree.specs.declared.task.Task.{Task}
-use Rattle.naming_tree.specs.declared.task.Task.TheVariants.{List as ListRows, Add, Remove}
+use Rattle.naming_tree.specs.declared.task.Task.TheVariants.{List as ListRows, Change}
 use Rattle.naming_tree.specs.declared.by_path.ByPath.{ByPath}
 use Rattle.dir_records.specs.Directories.{rows_in}
 use Rattle.dir_records.specs.Paths.{route_of}
 use Rattle.naming_tree.specs.Dialogues.{Dialogue, Ends, told, says, after, FitsSaid, FitsHeard}
-use Rattle.naming_tree.specs.Turns.{Turn, Goes, Comes, FitsAsked, machine_says}
+use Rattle.naming_tree.specs.Turns.{does, Turn, Goes, Comes, FitsAsked, machine_says}
 use Rattle.naming_tree.specs.Readings.{reading_of, reading_after, is_done, is_done_at}
-use Rattle.naming_tree.specs.Additions.{add_at, IsAddition, IsText}
+use Rattle.naming_tree.specs.Additions.{add_at, IsText}
 use Rattle.naming_tree.specs.Removals.{drop_at}
-use Rattle.naming_tree.specs.Adding.{adding_after, adding_of}
-use Rattle.naming_tree.specs.Removing.{removing_after, removing_of}
+use Rattle.naming_tree.specs.Changes.{changed}
+use Rattle.naming_tree.specs.Changing.{changing_after, changing_of, IsChange}
 use Rattle.naming_tree.specs.Walks.{start_at, most_links, on_start, on_route, along, follow}
 use Rattle.naming_tree.specs.Walking.{walking_after, walking_of, moved}
 use Rattle.dir_records.specs.LastNames.{last_of}
@@ -45,6 +42,7 @@ use Rattle.naming_tree.specs.NamePaths.{in_directory, listing, listed, by_parent
 use Rattle.naming_tree.specs.Tasks.{turn_in, task_begins, task_after, task_asks, list_at, at_root}
 use Rattle.naming_tree.specs.ByPaths.{on_task, at_object, on_found, on_walk, told_at, unless_alone, by_path_after, by_path_asks, asks_at, walked_to, alone_with, list_dir_of, add_name_of, drop_name_of}
 use Rattle.naming_tree.specs.ByPaths as paths
+use Rattle.naming_tree.specs.Sayings.{ListSays, AddSays, DropSays}
 use Rattle.naming_tree.proofs.ReadingsLeft.{reading_left}
 use Rattle.naming_tree.proofs.ReadingsOn.{IsSound, reading_on, reading_sound}
 use Rattle.naming_tree.proofs.ReadingsSay.{reading_says}
@@ -52,17 +50,15 @@ use Rattle.naming_tree.proofs.WalksLeft.{walk_left, behind, moved_left, walk_on}
 use Rattle.naming_tree.proofs.WalksLeft as walk
 use Rattle.naming_tree.proofs.WalksLive.{moved_live, walk_live}
 use Rattle.naming_tree.proofs.WalksLive as walks
-use Rattle.naming_tree.proofs.AddingsLeft.{adding_left, addition_on, addition_live}
-use Rattle.naming_tree.proofs.AddingsLeft as adds
-use Rattle.naming_tree.proofs.RemovingsLeft.{removing_left, removal_on, removal_live}
-use Rattle.naming_tree.proofs.RemovingsLeft as removes
-use Rattle.naming_tree.proofs.Machines.{IsAt, Tells, says_all}
+use Rattle.naming_tree.proofs.StagesLeft.{change_in}
+use Rattle.naming_tree.proofs.ChangingsLeft.{changing_left, change_on, change_live}
+use Rattle.naming_tree.proofs.ChangingsLeft as changes
+use Rattle.naming_tree.proofs.Machines.{IsAt, Tells, fits_asked, says_all}
 
 -- on from where the walk led
 abbrev pub found : Task → Walked → Dialogue
 found (ListRows r) = listing
-found (Add a) = in_directory (λ u. add_at u a.what)
-found (Remove r) = in_directory (λ u. drop_at u r.name)
+found (Change c) = in_directory (λ u. changed u (change_in c.change))
 
 -- what is left of a task that has begun
 abbrev rows_then : List ℕ → Dialogue
@@ -70,8 +66,7 @@ rows_then bytes = Ends (listed (rows_in bytes))
 
 abbrev pub task_left : Task → Dialogue
 task_left (ListRows r) = reading_left r rows_then
-task_left (Add a) = adding_left a
-task_left (Remove r) = removing_left r
+task_left (Change c) = changing_left c
 
 abbrev pub left_at : Option Walking → Task → Dialogue
 left_at (Some w) task = walk_left (found task) w
@@ -87,14 +82,12 @@ turn_left (Comes result) = Ends result
 -- a task that waits for its directory
 abbrev pub IsFresh : Task → Type 0
 IsFresh (ListRows r) = Unit {0}
-IsFresh (Add a) = IsAddition a.what × (a.bytes ≡ [])
-IsFresh (Remove r) = r.bytes ≡ []
+IsFresh (Change c) = IsChange c.change × (c.bytes ≡ [])
 
 -- a task that has begun
 abbrev pub IsGoing : Task → Type 0
 IsGoing (ListRows r) = IsSound r × (is_done r ≡ false)
-IsGoing (Add a) = adds.Live a
-IsGoing (Remove r) = removes.Live r
+IsGoing (Change c) = changes.Live c
 
 abbrev pub LiveAt : Option Walking → Task → Type 0
 LiveAt (Some w) task = walks.Live w × IsFresh task
@@ -127,33 +120,25 @@ task_live (Comes result) b e h = tt
 
 begins_left : (task : Task) (u : ObjectName) → IsFresh task → task_turn_left (task_begins u task) ≡ found task (At u Directory None)
 begins_left (ListRows r) u h = refl
-begins_left (Add a) u h = ap (λ (bytes : List ℕ). adding_left (record a { parent = u; bytes = bytes; stage = Some (AddStages.Enter entering.Lock) })) h.1
-begins_left (Remove r) u h = ap (λ (bytes : List ℕ). removing_left (record r { parent = u; bytes = bytes; stage = Some (RemoveStages.Enter entering.Lock) })) h
+begins_left (Change c) u h = ap (λ (bytes : List ℕ). changing_left (record c { parent = u; bytes = bytes; stage = Some (stages.Enter entering.Lock) })) h.1
 
 begins_live : (task : Task) (u : ObjectName) → IsFresh task → GoingTurn (task_begins u task)
 begins_live (ListRows r) u h = (tt, refl)
-begins_live (Add a) u h = record {
-  sound = record { what = h.0; began = tt; stage = tt };
-  on = record { adding = record { what = h.0; stage = tt }; asks = refl };
-}
-begins_live (Remove r) u h = record { sound = record { began = tt; stage = tt }; on = record { removing = tt; asks = refl } }
+begins_live (Change c) u h = changes.begun_live (record c { parent = u }) h.0
 
 root_left : (task : Task) → Ends (at_root task) ≡ found task Root
 root_left (ListRows r) = refl
-root_left (Add a) = refl
-root_left (Remove r) = refl
+root_left (Change c) = refl
 
 same_place : (task : Task) (u : ObjectName) (within : Option Within) → found task (At u Directory None) ≡ found task (At u Directory within)
 same_place (ListRows r) u within = refl
-same_place (Add a) u within = refl
-same_place (Remove r) u within = refl
+same_place (Change c) u within = refl
 
 no_directory : (task : Task) (u : ObjectName) (kind : ObjKind) (within : Option Within) (b : ByPath) → b.task ≡ task → IsFresh task → turn_left (at_object kind u b) ≡ found task (At u kind within)
 no_directory task u Directory within b e h =
     task_turn (task_begins u b.task) b ∙ ap (λ (t : Task). task_turn_left (task_begins u t)) e ∙ begins_left task u h ∙ same_place task u within
 no_directory (ListRows r) u kind within b e h = refl
-no_directory (Add a) u kind within b e h = refl
-no_directory (Remove r) u kind within b e h = refl
+no_directory (Change c) u kind within b e h = refl
 
 found_left : (result : NameResult) (b : ByPath) → IsFresh b.task → turn_left (on_found result b) ≡ walk.end_left (found b.task) result
 found_left (Found Root) b h = root_left b.task
@@ -185,55 +170,38 @@ rows_live r false refused h e = (h, e)
 rows_live r true (Some reply) h e = tt
 rows_live r true None h e = tt
 
-add_turn : (turn : Turn Adding) → task_turn_left (turn_in Add turn) ≡ adds.turn_left turn
-add_turn (Goes a) = refl
-add_turn (Comes result) = refl
+change_turn : (turn : Turn Changing) → task_turn_left (turn_in Change turn) ≡ changes.turn_left turn
+change_turn (Goes c) = refl
+change_turn (Comes result) = refl
 
-add_live : (turn : Turn Adding) → adds.LiveTurn turn → GoingTurn (turn_in Add turn)
-add_live (Goes a) h = h
-add_live (Comes result) h = tt
-
-remove_turn : (turn : Turn Removing) → task_turn_left (turn_in Remove turn) ≡ removes.turn_left turn
-remove_turn (Goes r) = refl
-remove_turn (Comes result) = refl
-
-remove_live : (turn : Turn Removing) → removes.LiveTurn turn → GoingTurn (turn_in Remove turn)
-remove_live (Goes r) h = h
-remove_live (Comes result) h = tt
+change_going : (turn : Turn Changing) → changes.LiveTurn turn → GoingTurn (turn_in Change turn)
+change_going (Goes c) h = h
+change_going (Comes result) h = tt
 
 -- a reply leads a task on
 task_on : (task : Task) (reply : Reply) → IsGoing task → FitsAsked (task_asks task) (Some reply) → task_turn_left (task_after task reply) ≡ told (task_left task) reply
 task_on (ListRows r) reply h fits =
     let next = reading_after r reply in
     rows_at next next.enter next.closing.held next.closing.refused refl refl refl ∙ sym (reading_on r reply rows_then h.0 h.1)
-task_on (Add a) reply h fits = add_turn (adding_after a (Some reply)) ∙ addition_on a reply h.sound h.on fits
-task_on (Remove r) reply h fits = remove_turn (removing_after r (Some reply)) ∙ removal_on r reply h.sound h.on fits
+task_on (Change c) reply h fits = change_turn (changing_after c (Some reply)) ∙ change_on c reply h.sound h.on fits
 
 task_on_live : (task : Task) (reply : Reply) → IsGoing task → FitsAsked (task_asks task) (Some reply) → GoingTurn (task_after task reply)
 task_on_live (ListRows r) reply h fits =
     let next = reading_after r reply in
     rows_live next (is_done next) next.closing.refused (reading_sound r reply h.0 fits) refl
-task_on_live (Add a) reply h fits = add_live (adding_after a (Some reply)) (addition_live a reply h fits)
-task_on_live (Remove r) reply h fits = remove_live (removing_after r (Some reply)) (removal_live r reply h fits)
+task_on_live (Change c) reply h fits = change_going (changing_after c (Some reply)) (change_live c reply h fits)
 
 -- what it asks is what its dialogue says
-task_asked : (task : Task) → IsGoing task → option_map Do (task_asks task) ≡ Some (says (task_left task))
+task_asked : (task : Task) → IsGoing task → does (task_asks task) ≡ Some (says (task_left task))
 task_asked (ListRows r) h = ap Some (sym (reading_says r rows_then h.0 h.1))
-task_asked (Add a) h = adds.asked_live a h
-task_asked (Remove r) h = removes.asked_live r h
+task_asked (Change c) h = changes.asked_live c h
 
-asked_at : (walking : Option Walking) (task : Task) → LiveAt walking task → option_map Do (asks_at None walking task) ≡ Some (says (left_at walking task))
-asked_at (Some w) task h = ap (option_map Do) h.0.asks ∙ ap Some (sym (reading_says w.reading (behind (found task) w.aim w) h.0.sound h.0.going))
+asked_at : (walking : Option Walking) (task : Task) → LiveAt walking task → does (asks_at None walking task) ≡ Some (says (left_at walking task))
+asked_at (Some w) task h = ap does h.0.asks ∙ ap Some (sym (reading_says w.reading (behind (found task) w.aim w) h.0.sound h.0.going))
 asked_at None task h = task_asked task h
 
-asked : (b : ByPath) → Live b → option_map Do (by_path_asks b) ≡ Some (says (path_left b))
-asked b h = ap (λ alone. option_map Do (asks_at alone b.walking b.task)) h.going ∙ asked_at b.walking b.task h.at
-
-said : (d : Dialogue) (asks : Option Op) (reply : Reply) → option_map Do asks ≡ Some (says d) → FitsSaid (says d) reply → FitsAsked asks (Some reply)
-said d None reply e fits = absurd (grind (arith, e))
-said d (Some op) reply e fits =
-    let same : says d ≡ Do op = grind (arith, e) in
-    subst (λ step. FitsSaid step reply) same fits
+asked : (b : ByPath) → Live b → does (by_path_asks b) ≡ Some (says (path_left b))
+asked b h = ap (λ alone. does (asks_at alone b.walking b.task)) h.going ∙ asked_at b.walking b.task h.at
 
 -- a reply leads it on
 on_at : (b : ByPath) (walking : Option Walking) (task : Task) (reply : Reply) → b.alone ≡ None → b.task ≡ task → LiveAt walking task → FitsSaid (says (left_at walking task)) reply → turn_left (told_at walking (Some reply) b) ≡ told (left_at walking task) reply
@@ -244,7 +212,7 @@ on_at b (Some w) task reply g e h fits =
 on_at b None task reply g e h fits =
     task_turn (task_after b.task reply) b
     ∙ ap (λ (t : Task). task_turn_left (task_after t reply)) e
-    ∙ task_on task reply h (said (task_left task) (task_asks task) reply (task_asked task h) fits)
+    ∙ task_on task reply h (fits_asked (task_left task) (task_asks task) reply (task_asked task h) fits)
 
 live_at : (b : ByPath) (walking : Option Walking) (task : Task) (reply : Reply) → b.alone ≡ None → b.task ≡ task → LiveAt walking task → FitsSaid (says (left_at walking task)) reply → LiveTurn (told_at walking (Some reply) b)
 live_at b (Some w) task reply g e h fits =
@@ -252,7 +220,7 @@ live_at b (Some w) task reply g e h fits =
     (walk_live w reply h.0 (subst (λ step. FitsSaid step reply) (reading_says w.reading (behind (found task) w.aim w) h.0.sound h.0.going) fits))
 live_at b None task reply g e h fits =
     task_live (task_after b.task reply) b g
-    (subst (λ (t : Task). GoingTurn (task_after t reply)) (sym e) (task_on_live task reply h (said (task_left task) (task_asks task) reply (task_asked task h) fits)))
+    (subst (λ (t : Task). GoingTurn (task_after t reply)) (sym e) (task_on_live task reply h (fits_asked (task_left task) (task_asks task) reply (task_asked task h) fits)))
 
 at_turn : (turn : Turn ByPath) (d : Dialogue) → LiveTurn turn → turn_left turn ≡ d → IsAt by_path_asks by_path_after path_left Live turn d
 at_turn (Goes b) d h e = (h, e)
@@ -288,7 +256,7 @@ list_along site route working heard fits =
 none_some : IsSome {T = Route} None → ⊥
 none_some h = grind (arith, h)
 
-pub list_says : (site : Site) (path : List ℕ) (working : ObjectName) (heard : List Reply) (route : Option Route) → route_of path ≡ route → IsSome route → FitsHeard (list_dir site path working) heard → machine_says by_path_asks by_path_after (list_dir_of site (route_of path) working) heard ≡ Some (says (after (list_dir site path working) heard))
+list_says : (site : Site) (path : List ℕ) (working : ObjectName) (heard : List Reply) (route : Option Route) → route_of path ≡ route → IsSome route → FitsHeard (list_dir site path working) heard → machine_says by_path_asks by_path_after (list_dir_of site (route_of path) working) heard ≡ Some (says (after (list_dir site path working) heard))
 list_says site path working heard None e some fits = absurd (none_some some)
 list_says site path working heard (Some route) e some fits =
     rw e (list_along site route working heard (subst (λ r. FitsHeard (on_route site r working [] (along site true listing (follow site true listing most_links))) heard) e fits))
@@ -309,25 +277,25 @@ last_says site start working alone task next (Some (front, name)) heard fresh sa
     in
     says_all by_path_asks by_path_after path_left Live paths_tell (walked_to site route working (task name)) d heard begins fits
 
-pub add_says : (site : Site) (path : List ℕ) (working : ObjectName) (kind : ObjKind) (room : ℕ) (text : Option (List ℕ)) (heard : List Reply) (route : Option Route) → route_of path ≡ route → IsSome route → IsRoom room → IsText kind text → FitsHeard (add_name site path working kind room text) heard → machine_says by_path_asks by_path_after (add_name_of site (route_of path) working kind room text) heard ≡ Some (says (after (add_name site path working kind room text) heard))
+add_says : (site : Site) (path : List ℕ) (working : ObjectName) (kind : ObjKind) (room : ℕ) (text : Option (List ℕ)) (heard : List Reply) (route : Option Route) → route_of path ≡ route → IsSome route → IsRoom room → IsText kind text → FitsHeard (add_name site path working kind room text) heard → machine_says by_path_asks by_path_after (add_name_of site (route_of path) working kind room text) heard ≡ Some (says (after (add_name site path working kind room text) heard))
 add_says site path working kind room text heard None e some in_room is_text fits = absurd (none_some some)
 add_says site path working kind room text heard (Some route) e some in_room is_text fits =
-    rw e (last_says site route.start working added_alone (λ name. Add (adding_of working (addition kind room text name))) (λ name parent. add_at parent (addition kind room text name)) (last_of route.names) heard
+    rw e (last_says site route.start working added_alone (λ name. Change (changing_of working (Add (addition kind room text name)))) (λ name parent. add_at parent (addition kind room text name)) (last_of route.names) heard
     (λ name. (record { room = in_room; text = is_text }, refl)) (λ name. refl)
     (subst (λ r. FitsHeard (by_parent site r working added_alone (λ name parent. add_at parent (addition kind room text name))) heard) e fits))
 
-pub drop_says : (site : Site) (path : List ℕ) (working : ObjectName) (heard : List Reply) (route : Option Route) → route_of path ≡ route → IsSome route → FitsHeard (drop_name site path working) heard → machine_says by_path_asks by_path_after (drop_name_of site (route_of path) working) heard ≡ Some (says (after (drop_name site path working) heard))
+drop_says : (site : Site) (path : List ℕ) (working : ObjectName) (heard : List Reply) (route : Option Route) → route_of path ≡ route → IsSome route → FitsHeard (drop_name site path working) heard → machine_says by_path_asks by_path_after (drop_name_of site (route_of path) working) heard ≡ Some (says (after (drop_name site path working) heard))
 drop_says site path working heard None e some fits = absurd (none_some some)
 drop_says site path working heard (Some route) e some fits =
-    rw e (last_says site route.start working removed_alone (λ name. Remove (removing_of working name)) (λ name parent. drop_at parent name) (last_of route.names) heard
-    (λ name. refl) (λ name. refl)
+    rw e (last_says site route.start working removed_alone (λ name. Change (changing_of working (Remove name))) (λ name parent. drop_at parent name) (last_of route.names) heard
+    (λ name. (tt, refl)) (λ name. refl)
     (subst (λ r. FitsHeard (by_parent site r working removed_alone (λ name parent. drop_at parent name)) heard) e fits))
 
-pub list_heard : (site : Site) (path : List ℕ) (working : ObjectName) (heard : List Reply) → IsSome (route_of path) → FitsHeard (list_dir site path working) heard → machine_says by_path_asks by_path_after (list_dir_of site (route_of path) working) heard ≡ Some (says (after (list_dir site path working) heard))
-list_heard site path working heard some fits = list_says site path working heard (route_of path) refl some fits
+pub list_heard : (site : Site) (path : List ℕ) (working : ObjectName) → ListSays site path working
+list_heard site path working some heard fits = list_says site path working heard (route_of path) refl some fits
 
-pub add_heard : (site : Site) (path : List ℕ) (working : ObjectName) (kind : ObjKind) (room : ℕ) (text : Option (List ℕ)) (heard : List Reply) → IsSome (route_of path) → IsRoom room → IsText kind text → FitsHeard (add_name site path working kind room text) heard → machine_says by_path_asks by_path_after (add_name_of site (route_of path) working kind room text) heard ≡ Some (says (after (add_name site path working kind room text) heard))
-add_heard site path working kind room text heard some in_room is_text fits = add_says site path working kind room text heard (route_of path) refl some in_room is_text fits
+pub add_heard : (site : Site) (path : List ℕ) (working : ObjectName) (kind : ObjKind) (room : ℕ) (text : Option (List ℕ)) → AddSays site path working kind room text
+add_heard site path working kind room text some in_room is_text heard fits = add_says site path working kind room text heard (route_of path) refl some in_room is_text fits
 
-pub drop_heard : (site : Site) (path : List ℕ) (working : ObjectName) (heard : List Reply) → IsSome (route_of path) → FitsHeard (drop_name site path working) heard → machine_says by_path_asks by_path_after (drop_name_of site (route_of path) working) heard ≡ Some (says (after (drop_name site path working) heard))
-drop_heard site path working heard some fits = drop_says site path working heard (route_of path) refl some fits
+pub drop_heard : (site : Site) (path : List ℕ) (working : ObjectName) → DropSays site path working
+drop_heard site path working some heard fits = drop_says site path working heard (route_of path) refl some fits

@@ -1,6 +1,5 @@
 -- What is left of a machine's dialogue as it comes to its end.
-use Rattle.std.proofs.Common.{◌≡◌, ℕ, Bool, true, false, not, ◌&&◌, Option, Some, None, List, [], ◌∷◌, refl, ap, ◌∙◌, sym}
-use Rattle.uid_names.specs.Names.{ObjectName}
+use Rattle.std.proofs.Common.{◌≡◌, Bool, true, false, not, ◌&&◌, Option, Some, None, List, [], ◌∷◌, refl}
 use Rattle.dom_history.specs.declared.op.Op.{Op}
 use Rattle.dom_history.specs.declared.op.Reply.{Reply}
 use Rattle.dom_history.specs.declared.op.Reply.TheVariants.{Fine}
@@ -8,7 +7,7 @@ use Rattle.naming_tree.specs.declared.session.Held.{Held}
 use Rattle.naming_tree.specs.declared.ending.Ending.{Ending}
 use Rattle.naming_tree.specs.declared.step.NameResult.{NameResult}
 use Rattle.naming_tree.specs.declared.step.NameResult.TheVariants.{Store, BadDir}
-use Rattle.naming_tree.specs.declared.step.NameStep.TheVariants.{Do}
+use Rattle.naming_tree.specs.declared.step.Step.TheVariants.{Do}
 use Rattle.naming_tree.specs.Entering.{held_op, held_after, refusal, is_fine}
 use Rattle.naming_tree.specs.Endings.{ending_after, result_at, result_of, IsEndingBy, IsEnding}
 use Rattle.naming_tree.specs.Dialogues.{Dialogue, Ends, told, says}

@@ -1,12 +1,13 @@
 -- An opening keeps to stages that can be reached, and opens what mappings can be of.
-use Rattle.std.proofs.Common.{◌≡◌, ℕ, ◌+◌, ◌<◌, Bool, true, false, cond, refl, arith}
+use Rattle.std.proofs.Common.{◌≡◌, ℕ, ◌+◌, Bool, true, false, cond, refl, arith}
 use Rattle.std.specs.Prelude.{nat_lt}
 use Rattle.uid_names.specs.Names.{ObjectName}
 use Rattle.uid_names.specs.Rooms.{IsLength}
 use Rattle.uid_names.specs.declared.mode.Mode.{Mode}
 use Rattle.dom_history.specs.declared.op.Reply.{Reply}
 use Rattle.dom_history.specs.declared.op.Reply.TheVariants.{Fine, Size, At, Bytes}
-use Rattle.dom_history.specs.Fitting.{Fits, FitsLength, FitsMap}
+use Rattle.dom_history.specs.Fitting.{Fits, is_length_reply, is_map_reply}
+use Rattle.dom_history.proofs.Fitting.{size-fits, at-fits}
 use Rattle.naming_tree.specs.declared.session.Opened.{Opened}
 use Rattle.naming_tree.specs.declared.session.Entering.{Entering}
 use Rattle.naming_tree.specs.declared.session.Entering.TheVariants.{Lock, Length, Map, Load}
@@ -30,12 +31,12 @@ lock_entry : (reply : Reply) → IsEntry (on_lock reply)
 lock_entry Fine = tt
 lock_entry reply = tt
 
-length_entry : (u : ObjectName) (reply : Reply) → FitsLength reply → IsEntry (on_length u reply)
-length_entry u (Size n) h = h
+length_entry : (u : ObjectName) (reply : Reply) → is_length_reply reply ≡ true → IsEntry (on_length u reply)
+length_entry u (Size n) h = size-fits n h
 length_entry u reply h = tt
 
-map_entry : (u : ObjectName) (n : ℕ) (reply : Reply) → IsLength n → FitsMap reply → IsEntry (on_map u n reply)
-map_entry u n (At address fresh) long h = at_entry (record { uid = u; length = n; address = address; fresh = fresh }) 0 (record { long = long; at = h.0; below = h.1 })
+map_entry : (u : ObjectName) (n : ℕ) (reply : Reply) → IsLength n → is_map_reply reply ≡ true → IsEntry (on_map u n reply)
+map_entry u n (At address fresh) long h = let start = at-fits address fresh h in at_entry (record { uid = u; length = n; address = address; fresh = fresh }) 0 (record { long = long; at = start.0; below = start.1 })
 map_entry u n reply long h = tt
 
 load_entry : (o : Opened) (page : ℕ) (reply : Reply) → IsOpened o → IsEntry (on_load o page reply)

@@ -8,9 +8,12 @@ pub mod WalksLive
 pub mod EntriesOn
 pub mod AddingsOn
 pub mod RemovingsOn
+pub mod ChangingsOn
 pub mod EndingsLeft
+pub mod StagesLeft
 pub mod AddingsLeft
 pub mod RemovingsLeft
+pub mod ChangingsLeft
 pub mod ByPathsLeft
 pub mod Ready
 pub mod WalksBounded

@@ -1,14 +1,19 @@
 -- A machine whose states are what is left of a dialogue says what the dialogue says after all that it heard.
-use Rattle.std.proofs.Common.{◌≡◌, Bool, Option, Some, None, List, [], ◌∷◌, refl, ap, ◌∙◌, sym, subst}
-use Rattle.std.specs.Prelude.{option_map}
+use Rattle.std.proofs.Common.{◌≡◌, Option, Some, None, List, [], ◌∷◌, refl, ap, ◌∙◌, sym, subst, arith}
 use Rattle.dom_history.specs.declared.op.Op.{Op}
 use Rattle.dom_history.specs.declared.op.Reply.{Reply}
 use Rattle.naming_tree.specs.declared.step.NameResult.{NameResult}
-use Rattle.naming_tree.specs.declared.step.NameStep.{NameStep}
-use Rattle.naming_tree.specs.declared.step.NameStep.TheVariants.{Do, Over}
-use Rattle.naming_tree.specs.Dialogues.{Dialogue, Ends, Asks, told, says, FitsSaid, FitsHeard}
+use Rattle.naming_tree.specs.declared.step.Step.TheVariants.{Do}
+use Rattle.naming_tree.specs.Dialogues.{Dialogue, Ends, told, says, FitsSaid, FitsHeard}
 use Rattle.naming_tree.specs.Dialogues as dialogue
-use Rattle.naming_tree.specs.Turns.{Turn, Goes, Comes, state_of, step_of, stood_after, stood_says, machine_after, machine_says}
+use Rattle.naming_tree.specs.Turns.{does, Turn, Goes, Comes, state_of, step_of, stood_after, stood_says, machine_after, machine_says, FitsAsked}
+
+-- a reply that fits what a dialogue says may be told to a machine that asks that
+pub fits_asked : (d : Dialogue) (asks : Option Op) (reply : Reply) → does asks ≡ Some (says d) → FitsSaid (says d) reply → FitsAsked asks (Some reply)
+fits_asked d None reply e fits = absurd (grind (arith, e))
+fits_asked d (Some op) reply e fits =
+    let same : says d ≡ Do op = grind (arith, e) in
+    subst (λ step. FitsSaid step reply) same fits
 
 module _ {S : Type 0} (asks : S → Option Op) (after : S → Option Reply → Turn S) (left : S → Dialogue) (Live : S → Type 0) where
   -- the turn leads to what is left of a dialogue
@@ -18,7 +23,7 @@ module _ {S : Type 0} (asks : S → Option Op) (after : S → Option Reply → T
 
   -- each state says what its dialogue says, and goes on as that does
   pub record Tells : Type 0 where
-    pub asked : (s : S) → Live s → option_map Do (asks s) ≡ Some (says (left s))
+    pub asked : (s : S) → Live s → does (asks s) ≡ Some (says (left s))
     pub on : (s : S) (reply : Reply) → Live s → FitsSaid (says (left s)) reply → IsAt (after s (Some reply)) (told (left s) reply)
 
   -- the turn to one reply more

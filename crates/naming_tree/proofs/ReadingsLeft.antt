@@ -1,5 +1,5 @@
 -- What is left of a reading's dialogue at each of its stages, and how each reply leads on.
-use Rattle.std.proofs.Common.{◌≡◌, ℕ, zero, suc, ◌+◌, ◌-◌, ◌<◌, ◌≤◌, Bool, true, false, not, ◌&&◌, cond, Option, Some, None, List, [], ◌∷◌, ◌++◌, map, refl, ap, ◌∙◌, sym, subst, arith}
+use Rattle.std.proofs.Common.{◌≡◌, ℕ, suc, ◌+◌, ◌-◌, ◌<◌, Bool, true, false, not, ◌&&◌, cond, Option, Some, None, List, [], ◌∷◌, ◌++◌, map, refl, ap, ◌∙◌, arith}
 use Rattle.std.specs.Prelude.{nat_lt}
 use Rattle.std.specs.List.{range_with_len}
 use Rattle.uid_names.specs.Names.{ObjectName}
@@ -18,10 +18,10 @@ use Rattle.naming_tree.specs.declared.session.Entry.TheVariants.{On, In, Out}
 use Rattle.naming_tree.specs.declared.session.Closing.{Closing}
 use Rattle.naming_tree.specs.declared.step.NameResult.TheVariants.{Store}
 use Rattle.naming_tree.specs.declared.reading.Reading.{Reading}
-use Rattle.naming_tree.specs.Entering.{pages, page_load, entry_of, entry_at, on_lock, on_length, on_map, on_load, bytes_after, loaded, held_op, close_op, held_after, rest_held, rest_of, closing_after, is_fine, refusal, IsEntering}
-use Rattle.naming_tree.specs.Dialogues.{Dialogue, Ends, Asks, told}
+use Rattle.naming_tree.specs.Entering.{pages, page_load, entry_of, on_lock, on_length, on_map, on_load, bytes_after, loaded, held_op, close_op, held_after, rest_held, closing_after, is_fine, refusal, IsEntering}
+use Rattle.naming_tree.specs.Dialogues.{Dialogue, told}
 use Rattle.naming_tree.specs.Sessions.{fine, size, place, bytes as bytes_in, closing, go_on, ask, closers, closers_if, shutting, loading, loads_from, opening}
-use Rattle.naming_tree.specs.Readings.{reading_after, entered, closed, heard_at, stage_of, closing_of}
+use Rattle.naming_tree.specs.Readings.{stage_of, closing_of}
 
 -- the operations that close what is held
 abbrev pub ops_at : Option ObjectName → Bool → ObjectName → List Op

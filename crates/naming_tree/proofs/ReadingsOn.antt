@@ -1,20 +1,19 @@
 -- A reading goes on as its dialogue does, and keeps to stages that can be reached.
-use Rattle.std.proofs.Common.{◌≡◌, ℕ, ◌+◌, ◌<◌, Bool, true, false, cond, Option, Some, None, List, refl, ap, ◌∙◌, sym, subst, arith}
-use Rattle.std.specs.Prelude.{nat_lt, IfSome}
+use Rattle.std.proofs.Common.{◌≡◌, ℕ, ◌+◌, Bool, true, false, cond, Option, Some, None, List, refl, ◌∙◌, sym, subst, arith}
+use Rattle.std.specs.Prelude.{nat_lt}
 use Rattle.std.proofs.lemmas.Bool.{false≢true}
 use Rattle.uid_names.specs.Names.{ObjectName}
-use Rattle.uid_names.specs.declared.mode.Mode.{Mode}
 use Rattle.uid_names.specs.declared.mode.Mode.TheVariants.{Read}
 use Rattle.dom_history.specs.declared.op.Reply.{Reply}
 use Rattle.dom_history.specs.declared.op.Reply.TheVariants.{Fine, Size, At, Bytes}
-use Rattle.dom_history.specs.Fitting.{Fits, FitsLength, FitsMap}
+use Rattle.dom_history.specs.Fitting.{Fits, is_length_reply, is_map_reply}
+use Rattle.dom_history.proofs.Fitting.{size-fits, at-fits}
 use Rattle.uid_names.specs.Rooms.{IsLength}
 use Rattle.naming_tree.specs.declared.session.Opened.{Opened}
 use Rattle.naming_tree.specs.declared.session.Held.{Held}
 use Rattle.naming_tree.specs.declared.session.Entering.{Entering}
 use Rattle.naming_tree.specs.declared.session.Entering.TheVariants.{Lock, Length, Map, Load}
-use Rattle.naming_tree.specs.declared.session.Entry.{Entry}
-use Rattle.naming_tree.specs.declared.session.Entry.TheVariants.{On, In, Out}
+use Rattle.naming_tree.specs.declared.session.Entry.TheVariants.{On, In}
 use Rattle.naming_tree.specs.declared.session.Closing.{Closing}
 use Rattle.naming_tree.specs.declared.reading.Reading.{Reading}
 use Rattle.naming_tree.specs.Entering.{pages, enter_op, entry_of, entry_at, on_lock, on_length, on_map, on_load, bytes_after, closing_after, IsEntering, IsOpened}
@@ -57,12 +56,13 @@ module _ (u : ObjectName) where
   lock_sound Fine = tt
   lock_sound reply = tt
 
-  length_sound : (reply : Reply) → FitsLength reply → IsSoundAt (stage_of (on_length u reply)) (closing_of reply (on_length u reply))
-  length_sound (Size n) h = h
+  length_sound : (reply : Reply) → is_length_reply reply ≡ true → IsSoundAt (stage_of (on_length u reply)) (closing_of reply (on_length u reply))
+  length_sound (Size n) h = size-fits n h
   length_sound reply h = tt
 
-  map_sound : (n : ℕ) (reply : Reply) → IsLength n → FitsMap reply → IsSoundAt (stage_of (on_map u n reply)) (closing_of reply (on_map u n reply))
-  map_sound n (At address fresh) long h = entry_sound (record { uid = u; length = n; address = address; fresh = fresh }) 0 (At address fresh) (record { long = long; at = h.0; below = h.1 })
+  map_sound : (n : ℕ) (reply : Reply) → IsLength n → is_map_reply reply ≡ true → IsSoundAt (stage_of (on_map u n reply)) (closing_of reply (on_map u n reply))
+  map_sound n (At address fresh) long h =
+      let start = at-fits address fresh h in entry_sound (record { uid = u; length = n; address = address; fresh = fresh }) 0 (At address fresh) (record { long = long; at = start.0; below = start.1 })
   map_sound n reply long h = tt
 
   load_sound : (o : Opened) (page : ℕ) (reply : Reply) → IsOpened o → IsSoundAt (stage_of (on_load o page reply)) (closing_of reply (on_load o page reply))

@@ -1,5 +1,5 @@
 -- What a reading asks is what its dialogue says.
-use Rattle.std.proofs.Common.{◌≡◌, ℕ, ◌+◌, Bool, true, false, Option, Some, None, List, [], ◌∷◌, refl, ap, ◌∙◌, sym, subst}
+use Rattle.std.proofs.Common.{◌≡◌, ℕ, Bool, true, false, Option, Some, None, List, ◌∷◌, refl, ap, sym}
 use Rattle.std.proofs.lemmas.Bool.{false≢true}
 use Rattle.uid_names.specs.Names.{ObjectName}
 use Rattle.uid_names.specs.declared.mode.Mode.{Mode}
@@ -11,13 +11,13 @@ use Rattle.naming_tree.specs.declared.session.Held.{Held}
 use Rattle.naming_tree.specs.declared.session.Entering.{Entering}
 use Rattle.naming_tree.specs.declared.session.Entering.TheVariants.{Lock, Length, Map, Load}
 use Rattle.naming_tree.specs.declared.session.Closing.{Closing}
-use Rattle.naming_tree.specs.declared.step.NameStep.TheVariants.{Do}
+use Rattle.naming_tree.specs.declared.step.Step.TheVariants.{Do}
 use Rattle.naming_tree.specs.declared.reading.Reading.{Reading}
-use Rattle.naming_tree.specs.Entering.{page_load, enter_op, held_op, held_after, IsEntering}
+use Rattle.naming_tree.specs.Entering.{enter_op, held_op, held_after, IsEntering}
 use Rattle.naming_tree.specs.Dialogues.{Dialogue, says}
-use Rattle.naming_tree.specs.Sessions.{closers, loading, loads_from}
+use Rattle.naming_tree.specs.Sessions.{closers, loading}
 use Rattle.naming_tree.specs.Readings.{reading_op, op_at, is_done, is_done_at}
-use Rattle.naming_tree.proofs.ReadingsLeft.{entering_left, closing_by, closing_left, ops_held, ops_first, loads_first, reading_left, read_left, shut_then, IsCounted}
+use Rattle.naming_tree.proofs.ReadingsLeft.{entering_left, closing_by, closing_left, ops_held, ops_first, loads_first, reading_left, read_left, shut_then}
 use Rattle.naming_tree.proofs.ReadingsOn.{IsSoundAt, IsSound}
 
 -- an opening

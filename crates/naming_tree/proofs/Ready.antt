@@ -1,15 +1,13 @@
 -- A machine that said an operation may be told each reply that fits it.
 use Rattle.std.proofs.Common.{◌≡◌, Option, Some, None, refl, subst, sym, arith}
-use Rattle.std.specs.Prelude.{option_map, IsSome}
 use Rattle.dom_history.specs.declared.op.Op.{Op}
 use Rattle.dom_history.specs.declared.op.Reply.{Reply}
 use Rattle.dom_history.specs.Fitting.{Fits}
-use Rattle.naming_tree.specs.declared.step.NameStep.{NameStep}
-use Rattle.naming_tree.specs.declared.step.NameStep.TheVariants.{Do, Over}
-use Rattle.naming_tree.specs.Turns.{Turn, Goes, Comes, step_of, state_of, stood_after, stood_says, FitsAsked, FitsStood, IsReady}
+use Rattle.naming_tree.specs.declared.step.Step.TheVariants.{Do}
+use Rattle.naming_tree.specs.Turns.{does, Turn, Goes, Comes, step_of, state_of, stood_after, stood_says, FitsAsked, IsReady}
 
 module _ {S : Type 0} (asks : S → Option Op) where
-  asked_so : (asked : Option Op) (op : Op) (reply : Reply) → Some (Do op) ≡ option_map Do asked → Fits op reply → FitsAsked asked (Some reply)
+  asked_so : (asked : Option Op) (op : Op) (reply : Reply) → Some (Do op) ≡ does asked → Fits op reply → FitsAsked asked (Some reply)
   asked_so None op reply e fits = absurd (grind (arith, e))
   asked_so (Some other) op reply e fits =
       let same : op ≡ other = grind (arith, e) in

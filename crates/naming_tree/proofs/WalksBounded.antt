@@ -1,5 +1,5 @@
 -- A walk follows at most eight links, and looks up at most the names of its path and of their texts.
-use Rattle.std.proofs.Common.{◌≡◌, ℕ, zero, suc, ◌+◌, Bool, true, false, Option, Some, None, List, [], ◌∷◌, ◌++◌, length, subst, length-append, add-zero}
+use Rattle.std.proofs.Common.{ℕ, zero, suc, ◌+◌, Bool, true, false, Option, Some, None, List, [], ◌∷◌, ◌++◌, length, subst, length-append, add-zero}
 use Rattle.uid_names.specs.Names.{ObjectName}
 use Rattle.uid_names.specs.declared.mode.ObjKind.{ObjKind}
 use Rattle.uid_names.specs.declared.mode.ObjKind.TheVariants as kinds

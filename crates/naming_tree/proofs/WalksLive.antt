@@ -1,6 +1,6 @@
 -- Each state of a walk that has begun asks an operation of its reading.
 use Rattle.std.proofs.Common.{◌≡◌, ℕ, zero, suc, Bool, true, false, Option, Some, None, List, [], ◌∷◌, ◌++◌, refl, ap, ◌∙◌, sym, subst, append-nil, arith}
-use Rattle.std.specs.Prelude.{option_map, IsSome}
+use Rattle.std.specs.Prelude.{IsSome}
 use Rattle.uid_names.specs.Names.{ObjectName}
 use Rattle.uid_names.specs.declared.mode.ObjKind.{ObjKind}
 use Rattle.uid_names.specs.declared.mode.ObjKind.TheVariants as kinds
@@ -14,7 +14,6 @@ use Rattle.naming_tree.specs.declared.step.Walked.{Walked}
 use Rattle.naming_tree.specs.declared.step.Walked.TheVariants.{Root, At}
 use Rattle.naming_tree.specs.declared.step.NameResult.{NameResult}
 use Rattle.naming_tree.specs.declared.step.NameResult.TheVariants.{Found, NotDir}
-use Rattle.naming_tree.specs.declared.step.NameStep.TheVariants.{Do}
 use Rattle.naming_tree.specs.declared.walking.Aim.{Aim}
 use Rattle.naming_tree.specs.declared.walking.Aim.TheVariants.{Begin, Name, Link}
 use Rattle.naming_tree.specs.declared.walking.Walking.{Walking}
@@ -23,7 +22,8 @@ use Rattle.dir_records.specs.Records.{Slot}
 use Rattle.dir_records.specs.Directories.{directory_of, row_named}
 use Rattle.dir_records.specs.Paths.{route_of}
 use Rattle.naming_tree.specs.Dialogues.{Dialogue, Ends, told, says, after, FitsSaid, FitsHeard}
-use Rattle.naming_tree.specs.Turns.{Turn, Goes, Comes, machine_says}
+use Rattle.naming_tree.specs.Sayings.{WalkSays}
+use Rattle.naming_tree.specs.Turns.{does, Turn, Goes, Comes, machine_says}
 use Rattle.naming_tree.specs.Readings.{reading_after, reading_op, is_done}
 use Rattle.naming_tree.specs.Walks.{start_at, at_row, holder, at_end, at_middle, most_links, on_start, on_route, along, follow, walk}
 use Rattle.naming_tree.specs.Walking.{looks, follows, stands, settled, at_found, at_slots, at_route, moved_by, moved, on_reading, walking_after, walking_asks, asks_at, walking_of, walk_of}
@@ -120,7 +120,7 @@ fits_asked w reply h fits = subst (λ step. FitsSaid step reply) (reading_says w
 
 walks_tell : Tells walking_asks walking_after (walk_left value) Live
 walks_tell = record {
-  asked = λ w h. ap (option_map Do) h.asks ∙ ap Some (sym (reading_says w.reading (behind value w.aim w) h.sound h.going));
+  asked = λ w h. ap does h.asks ∙ ap Some (sym (reading_says w.reading (behind value w.aim w) h.sound h.going));
   on = λ w reply h fits. at_turn (walking_after w (Some reply)) (told (walk_left value w) reply) (walk_live w reply h (fits_asked w reply h fits)) (walk_on value w reply h.sound h.going);
 }
 
@@ -141,8 +141,8 @@ module _ (site : Site) (working : ObjectName) (last : Bool) where
       (at_turn (moved w) (walk_along (Some route)) (moved_live w.aim w.reading.bytes w) (begins route)) fits
 
   -- a walk says what its dialogue says after all that it heard
-  pub walk_says : (path : List ℕ) (heard : List Reply) → IsSome (route_of path) → FitsHeard (walk site path working last) heard → machine_says walking_asks walking_after (walk_of site last (route_of path) working) heard ≡ Some (says (after (walk site path working last) heard))
-  walk_says path heard some fits = by_route (route_of path) refl
+  pub walk_says : (path : List ℕ) → WalkSays site path working last
+  walk_says path some heard fits = by_route (route_of path) refl
     where
       by_route : (route : Option Route) → route_of path ≡ route → machine_says walking_asks walking_after (walk_of site last (route_of path) working) heard ≡ Some (says (after (walk_along (route_of path)) heard))
       by_route None e = absurd (none_is_none (subst IsSome e some))

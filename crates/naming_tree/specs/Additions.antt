@@ -1,5 +1,5 @@
 -- A name that is added to a directory, and what that asks.
-use Rattle.std.specs.Prelude.{◌≡◌, ◌≤◌, ℕ, nat_lt, Bool, true, false, Option, Some, None, List, [], ◌∷◌, IsSome}
+use Rattle.std.specs.Prelude.{ℕ, nat_lt, Bool, true, false, Option, Some, None, List, ◌∷◌, IsSome}
 use Rattle.uid_names.specs.Names.{ObjectName}
 use Rattle.uid_names.specs.Rooms.{IsRoom}
 use Rattle.uid_names.specs.declared.mode.Mode.TheVariants.{Write}
@@ -10,14 +10,15 @@ use Rattle.dom_history.specs.declared.op.Spot.TheVariants.{Of}
 use Rattle.dir_records.specs.declared.row.DirRow.{DirRow}
 use Rattle.dir_records.specs.declared.directory.TheConstants.{MOST_RECORDS}
 use Rattle.naming_tree.specs.declared.session.Opened.{Opened}
-use Rattle.naming_tree.specs.declared.step.NameResult.TheVariants.{Added, NameExists, DirFull, BadDir}
+use Rattle.naming_tree.specs.declared.step.NameResult.TheVariants.{Added, NameExists, DirFull}
 use Rattle.naming_tree.specs.declared.addition.Addition.{Addition}
 use Rattle.dir_records.specs.Records.{Slot, row_bytes}
-use Rattle.dir_records.specs.Directories.{directory_of, row_named, first_free}
+use Rattle.dir_records.specs.Directories.{row_named, first_free}
 use Rattle.dir_records.specs.Paths.{route_of}
 use Rattle.naming_tree.specs.Placing.{store_record}
 use Rattle.naming_tree.specs.Dialogues.{Dialogue, Ends}
-use Rattle.naming_tree.specs.Sessions.{fine, made, closing, ask, closers, shutting, entering}
+use Rattle.naming_tree.specs.Sessions.{fine, made, closing, ask, closers, shutting}
+use Rattle.naming_tree.specs.Changes.{changed}
 
 -- the row of an addition
 abbrev pub added_row : Addition → ObjectName → DirRow
@@ -48,13 +49,12 @@ abbrev pub on_name : Option DirRow → Addition → Opened → ℕ → Dialogue
 on_name (Some row) a o place = closing (closers o) NameExists
 on_name None a o place = on_place (nat_lt place MOST_RECORDS) a o place
 
-abbrev pub on_slots : Option (List Slot) → Addition → Opened → Dialogue
-on_slots None a o = closing (closers o) BadDir
-on_slots (Some slots) a o = on_name (row_named a.name slots) a o (first_free slots)
+abbrev pub placing : Addition → List Slot → Opened → Dialogue
+placing a slots o = on_name (row_named a.name slots) a o (first_free slots)
 
 -- a name is added to a directory, with a new object
 abbrev pub add_at : ObjectName → Addition → Dialogue
-add_at parent a = entering parent Write (λ o all. on_slots (directory_of all) a o)
+add_at parent a = changed parent (placing a)
 
 -- a text is there for a link alone, and is a path
 abbrev pub IsText : ObjKind → Option (List ℕ) → Type 0

@@ -14,10 +14,10 @@ use Rattle.naming_tree.specs.declared.step.NameResult.TheVariants.{Found, NotDir
 use Rattle.naming_tree.specs.declared.walking.Walking.{Walking}
 use Rattle.dir_records.specs.declared.path.Start.{Start}
 use Rattle.naming_tree.specs.declared.task.Task.{Task}
-use Rattle.naming_tree.specs.declared.task.Task.TheVariants.{List as ListRows, Add, Remove}
+use Rattle.naming_tree.specs.declared.task.Task.TheVariants.{List as ListRows, Change}
+use Rattle.naming_tree.specs.declared.changing.Change.TheVariants.{Add, Remove}
 use Rattle.naming_tree.specs.Readings.{reading_of}
-use Rattle.naming_tree.specs.Adding.{adding_of}
-use Rattle.naming_tree.specs.Removing.{removing_of}
+use Rattle.naming_tree.specs.Changing.{changing_of}
 use Rattle.naming_tree.specs.Walks.{start_at}
 use Rattle.dir_records.specs.LastNames.{last_of}
 use Rattle.naming_tree.specs.NamePaths.{added_alone, removed_alone, addition}
@@ -111,8 +111,8 @@ list_dir_of site (Some route) working = Some (walked_to site route working (List
 
 abbrev pub add_name_of : Site → Option Route → ObjectName → ObjKind → ℕ → Option (List ℕ) → Option ByPath
 add_name_of site None working kind room text = None
-add_name_of site (Some route) working kind room text = Some (on_last site route.start working added_alone (λ name. Add (adding_of working (addition kind room text name))) (last_of route.names))
+add_name_of site (Some route) working kind room text = Some (on_last site route.start working added_alone (λ name. Change (changing_of working (Add (addition kind room text name)))) (last_of route.names))
 
 abbrev pub drop_name_of : Site → Option Route → ObjectName → Option ByPath
 drop_name_of site None working = None
-drop_name_of site (Some route) working = Some (on_last site route.start working removed_alone (λ name. Remove (removing_of working name)) (last_of route.names))
+drop_name_of site (Some route) working = Some (on_last site route.start working removed_alone (λ name. Change (changing_of working (Remove name))) (last_of route.names))

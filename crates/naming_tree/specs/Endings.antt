@@ -1,14 +1,12 @@
 -- How a machine that has opened a directory comes to its end, reply by reply.
-use Rattle.std.specs.Prelude.{◌≡◌, ℕ, Bool, true, false, Option, Some, None, IsSome}
-use Rattle.dom_history.specs.declared.op.Op.{Op}
+use Rattle.std.specs.Prelude.{Bool, true, false, Option, Some, None}
 use Rattle.dom_history.specs.declared.op.Reply.{Reply}
 use Rattle.naming_tree.specs.declared.session.Opened.{Opened}
 use Rattle.naming_tree.specs.declared.session.Held.{Held}
-use Rattle.naming_tree.specs.declared.session.Closing.{Closing}
 use Rattle.naming_tree.specs.declared.ending.Ending.{Ending}
 use Rattle.naming_tree.specs.declared.step.NameResult.{NameResult}
 use Rattle.naming_tree.specs.declared.step.NameResult.TheVariants.{Store}
-use Rattle.naming_tree.specs.Entering.{held_of, held_op, closing_after, op_of_closing}
+use Rattle.naming_tree.specs.Entering.{held_of, closing_after}
 use Rattle.naming_tree.specs.Readings.{nothing_held, give_up, shut}
 
 -- it has not come to it

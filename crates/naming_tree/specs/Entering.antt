@@ -1,5 +1,5 @@
 -- How an object is opened, loaded whole and closed, reply by reply.
-use Rattle.std.specs.Prelude.{◌≡◌, ◌<◌, ◌≤◌, ◌%◌, ◌^◌, ℕ, ◌+◌, ◌*◌, ◌-◌, ◌/◌, min, nat_lt, Bool, true, false, not, ◌&&◌, cond, Option, Some, None, List, [], ◌∷◌, ◌++◌}
+use Rattle.std.specs.Prelude.{◌≡◌, ◌<◌, ◌%◌, ℕ, ◌+◌, ◌*◌, ◌-◌, min, nat_lt, Bool, true, false, not, ◌&&◌, cond, Option, Some, None, List, ◌++◌}
 use Rattle.std.specs.Int.{div_ceil}
 use Rattle.uid_names.specs.Names.{ObjectName}
 use Rattle.uid_names.specs.Rooms.{IsLength}

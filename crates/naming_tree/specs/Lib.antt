@@ -5,13 +5,16 @@ pub mod Readings
 pub mod Walks
 pub mod Endings
 pub mod Placing
+pub mod Changes
 pub mod Additions
 pub mod Adding
 pub mod Removals
 pub mod Removing
+pub mod Changing
 pub mod NamePaths
 pub mod Tasks
 pub mod ByPaths
 pub mod Turns
 pub mod Walking
 pub mod Bounds
+pub mod Sayings

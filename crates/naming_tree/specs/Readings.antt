@@ -1,5 +1,5 @@
 -- How an object is read whole, reply by reply.
-use Rattle.std.specs.Prelude.{ℕ, Bool, true, false, Option, Some, None, List, [], IfSome}
+use Rattle.std.specs.Prelude.{Bool, true, false, Option, Some, None, [], IfSome}
 use Rattle.uid_names.specs.Names.{ObjectName}
 use Rattle.uid_names.specs.declared.mode.Mode.TheVariants.{Read}
 use Rattle.dom_history.specs.declared.op.Op.{Op}

@@ -1,5 +1,5 @@
 -- A name that is removed from a directory, and what that asks.
-use Rattle.std.specs.Prelude.{ℕ, Option, Some, None, List, [], ◌∷◌}
+use Rattle.std.specs.Prelude.{ℕ, Option, Some, None, List, ◌∷◌}
 use Rattle.uid_names.specs.Names.{ObjectName}
 use Rattle.uid_names.specs.declared.mode.Mode.TheVariants.{Write}
 use Rattle.uid_names.specs.declared.mode.ObjKind.{ObjKind}
@@ -9,12 +9,13 @@ use Rattle.dom_history.specs.declared.op.Reply.{Reply}
 use Rattle.dom_history.specs.declared.op.Reply.TheVariants.{Fine, NoObject, Kept, WrongMode}
 use Rattle.dir_records.specs.declared.row.DirRow.{DirRow}
 use Rattle.naming_tree.specs.declared.session.Opened.{Opened}
-use Rattle.naming_tree.specs.declared.step.NameResult.TheVariants.{Removed, NoName, IsDir, BadDir, Store}
+use Rattle.naming_tree.specs.declared.step.NameResult.TheVariants.{Removed, NoName, IsDir, Store}
 use Rattle.dir_records.specs.Records.{Slot, free_bytes}
-use Rattle.dir_records.specs.Directories.{directory_of, placed_row}
+use Rattle.dir_records.specs.Directories.{placed_row}
 use Rattle.naming_tree.specs.Placing.{store_record}
 use Rattle.naming_tree.specs.Dialogues.{Dialogue, Ends, Asks}
-use Rattle.naming_tree.specs.Sessions.{fine, closing, ask, closers, shutting, entering}
+use Rattle.naming_tree.specs.Sessions.{fine, closing, ask, closers, shutting}
+use Rattle.naming_tree.specs.Changes.{changed}
 
 -- a free record is stored in the name's place, and the directory closed
 abbrev pub clearing : Opened → ℕ → Dialogue
@@ -42,10 +43,9 @@ abbrev pub on_name : Option (ℕ × DirRow) → Opened → Dialogue
 on_name None o = closing (closers o) NoName
 on_name (Some (place, row)) o = on_kind row.kind row.uid o place
 
-abbrev pub on_slots : Option (List Slot) → List ℕ → Opened → Dialogue
-on_slots None name o = closing (closers o) BadDir
-on_slots (Some slots) name o = on_name (placed_row name slots) o
+abbrev pub finding : List ℕ → List Slot → Opened → Dialogue
+finding name slots o = on_name (placed_row name slots) o
 
 -- a name is removed from a directory, with its object
 abbrev pub drop_at : ObjectName → List ℕ → Dialogue
-drop_at parent name = entering parent Write (λ o all. on_slots (directory_of all) name o)
+drop_at parent name = changed parent (finding name)

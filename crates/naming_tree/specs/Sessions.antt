@@ -1,6 +1,6 @@
 -- The parts of which the machines' operations are put together. `held` are the operations that close what is open,
 -- newest first: after a refusal only these are made, and what they are answered changes nothing.
-use Rattle.std.specs.Prelude.{ℕ, ◌-◌, Bool, true, false, cond, Option, Some, None, List, [], ◌∷◌, ◌++◌, map}
+use Rattle.std.specs.Prelude.{ℕ, ◌-◌, Bool, true, false, Option, Some, None, List, [], ◌∷◌, ◌++◌, map}
 use Rattle.std.specs.List.{range_with_len}
 use Rattle.uid_names.specs.Names.{ObjectName}
 use Rattle.uid_names.specs.declared.mode.Mode.{Mode}
@@ -10,9 +10,9 @@ use Rattle.dom_history.specs.declared.op.Op.TheVariants.{Lock, Unlock, Length, M
 use Rattle.dom_history.specs.declared.op.Reply.{Reply}
 use Rattle.dom_history.specs.declared.op.Reply.TheVariants.{Made, Fine, Bytes, Size, At}
 use Rattle.naming_tree.specs.declared.session.Opened.{Opened}
-use Rattle.naming_tree.specs.declared.step.NameResult.{NameResult}
 use Rattle.naming_tree.specs.declared.step.NameResult.TheVariants.{Store}
-use Rattle.naming_tree.specs.Dialogues.{Dialogue, Ends, Asks}
+use Rattle.naming_tree.specs.Dialogues.{Dialogue, go_on_or, ask_or}
+pub use Rattle.naming_tree.specs.Dialogues.{closing}
 use Rattle.naming_tree.specs.Entering.{pages, page_load}
 
 -- what an operation answers where it is done
@@ -36,18 +36,12 @@ abbrev pub made : Reply → Option ObjectName
 made (Made u) = Some u
 made _ = None
 
--- what is open is closed, and the result stays
-abbrev pub closing : List Op → NameResult → Dialogue
-closing [] result = Ends result
-closing (op ∷ held) result = Asks op (λ _. closing held result)
-
 -- an operation that is done goes on; one that is refused is the result, once what is open is closed
 abbrev pub go_on : {A : Type 0} → Option A → Reply → List Op → (A → Dialogue) → Dialogue
-go_on None reply held further = closing held (Store reply)
-go_on (Some answer) reply held further = further answer
+go_on answer reply held further = go_on_or Store answer reply held further
 
 abbrev pub ask : {A : Type 0} → (Reply → Option A) → List Op → Op → (A → Dialogue) → Dialogue
-ask answer held op further = Asks op (λ reply. go_on (answer reply) reply held further)
+ask answer held op further = ask_or Store answer held op further
 
 -- Open
 abbrev pub opening : ObjectName → Mode → (Opened → Dialogue) → Dialogue

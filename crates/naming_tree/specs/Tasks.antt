@@ -1,19 +1,17 @@
 -- What is done in the directory to which a walk led, reply by reply.
-use Rattle.std.specs.Prelude.{◌≡◌, Bool, true, false, Option, Some, None}
+use Rattle.std.specs.Prelude.{Bool, true, false, Option, Some, None}
 use Rattle.uid_names.specs.Names.{ObjectName}
 use Rattle.dom_history.specs.declared.op.Op.{Op}
 use Rattle.dom_history.specs.declared.op.Reply.{Reply}
 use Rattle.naming_tree.specs.declared.reading.Reading.{Reading}
 use Rattle.naming_tree.specs.declared.task.Task.{Task}
-use Rattle.naming_tree.specs.declared.task.Task.TheVariants.{List as ListRows, Add, Remove}
+use Rattle.naming_tree.specs.declared.task.Task.TheVariants.{List as ListRows, Change}
 use Rattle.naming_tree.specs.declared.step.NameResult.{NameResult}
 use Rattle.naming_tree.specs.declared.step.NameResult.TheVariants.{Nodes, NotDir, Store}
 use Rattle.dir_records.specs.Directories.{rows_in}
 use Rattle.naming_tree.specs.Readings.{reading_of, reading_op, reading_after, is_done, IsReading}
-use Rattle.naming_tree.specs.Adding.{adding_after, adding_asks, IsAdding}
-use Rattle.naming_tree.specs.Adding as adding
-use Rattle.naming_tree.specs.Removing.{removing_after, removing_asks}
-use Rattle.naming_tree.specs.Removing as removing
+use Rattle.naming_tree.specs.Changing.{changing_after, changing_asks, IsChanging}
+use Rattle.naming_tree.specs.Changing as changes
 use Rattle.naming_tree.specs.NamePaths.{listed}
 use Rattle.naming_tree.specs.Turns.{Turn, Goes, Comes}
 
@@ -25,8 +23,7 @@ turn_in whole (Comes result) = Comes result
 -- it begins in this directory
 abbrev pub task_begins : ObjectName → Task → Turn Task
 task_begins u (ListRows r) = Goes (ListRows (reading_of u))
-task_begins u (Add a) = turn_in Add (adding_after (record a { parent = u }) None)
-task_begins u (Remove r) = turn_in Remove (removing_after (record r { parent = u }) None)
+task_begins u (Change c) = turn_in Change (changing_after (record c { parent = u }) None)
 
 -- the directory to be listed was read, or is read on
 abbrev pub list_at : Bool → Option Reply → Reading → Turn Task
@@ -40,28 +37,24 @@ list_on r = list_at (is_done r) r.closing.refused r
 -- what a reply makes of it
 abbrev pub task_after : Task → Reply → Turn Task
 task_after (ListRows r) reply = list_on (reading_after r reply)
-task_after (Add a) reply = turn_in Add (adding_after a (Some reply))
-task_after (Remove r) reply = turn_in Remove (removing_after r (Some reply))
+task_after (Change c) reply = turn_in Change (changing_after c (Some reply))
 
 -- what it asks
 abbrev pub task_asks : Task → Option Op
 task_asks (ListRows r) = Some (reading_op r)
-task_asks (Add a) = adding_asks a
-task_asks (Remove r) = removing_asks r
+task_asks (Change c) = changing_asks c
 
 -- what it comes to at the root of the network
 abbrev pub at_root : Task → NameResult
 at_root (ListRows r) = Nodes
-at_root _ = NotDir
+at_root (Change c) = NotDir
 
 -- it has begun
 abbrev pub IsOn : Task → Type 0
 IsOn (ListRows r) = IsReading r
-IsOn (Add a) = adding.IsOn a
-IsOn (Remove r) = removing.IsOn r
+IsOn (Change c) = changes.IsOn c
 
 -- what each keeps
 abbrev pub IsTask : Task → Type 0
 IsTask (ListRows r) = Unit {0}
-IsTask (Add a) = IsAdding a
-IsTask (Remove r) = Unit {0}
+IsTask (Change c) = IsChanging c

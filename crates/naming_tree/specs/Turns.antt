@@ -3,15 +3,18 @@ use Rattle.std.specs.Prelude.{Bool, true, false, Option, Some, None, List, [], �
 use Rattle.dom_history.specs.declared.op.Op.{Op}
 use Rattle.dom_history.specs.declared.op.Reply.{Reply}
 use Rattle.dom_history.specs.Fitting.{Fits}
-use Rattle.dom_history.specs.Ranges.{IsOp}
 use Rattle.naming_tree.specs.declared.step.NameResult.{NameResult}
-use Rattle.naming_tree.specs.declared.step.NameStep.{NameStep}
-use Rattle.naming_tree.specs.declared.step.NameStep.TheVariants.{Do, Over}
+use Rattle.naming_tree.specs.declared.step.Step.TheVariants.{Do, Over}
+use Rattle.naming_tree.specs.Dialogues.{NameStep}
 
 -- it goes on in a state, or comes to a result
 pub data Turn (S : Type 0) : Type 0 where
   Goes : (state : S) → Turn S
   Comes : (result : NameResult) → Turn S
+
+-- what is said where this is asked
+abbrev pub does : Option Op → Option NameStep
+does asked = option_map Do asked
 
 module _ {S : Type 0} where
   -- the turn of a state and of the result, if there is one
@@ -26,7 +29,7 @@ module _ {S : Type 0} where
 
   -- what it says, by what a state asks
   abbrev pub step_of : (S → Option Op) → Turn S → Option NameStep
-  step_of asks (Goes state) = option_map Do (asks state)
+  step_of asks (Goes state) = does (asks state)
   step_of asks (Comes result) = Some (Over result)
 
 -- what may be told to one that asks this: a reply that fits, and nothing before it asked anything
@@ -70,11 +73,6 @@ unless false state = Some state
 abbrev pub IfStill : Bool → Type 0 → Type 0
 IfStill true P = Unit {0}
 IfStill false P = P
-
--- an operation in its ranges
-abbrev pub IsStep : NameStep → Type 0
-IsStep (Do op) = IsOp op
-IsStep (Over result) = Unit {0}
 
 -- where a machine that was made so stands once it was told these replies, the newest first; its first call told nothing
 abbrev pub machine_after : {S : Type 0} → (S → Option Reply → Turn S) → Option S → List Reply → Option S

@@ -3,7 +3,8 @@ ghost use Rattle.std.specs.Prelude.{◌≡◌, true, None, Some, IfOk, OnOk, IfN
 ghost use Rattle.std.specs.Option.{option_copied};
 ghost use Rattle.dom_history.specs.Ranges.{IsOp};
 ghost use Rattle.naming_tree.specs.declared.step.NameResult.TheVariants.{Found};
-ghost use Rattle.naming_tree.specs.Turns.{turn_of, step_of, state_of, still, FitsAsked, IfAsked, IsStep};
+ghost use Rattle.naming_tree.specs.Turns.{turn_of, step_of, state_of, still, FitsAsked, IfAsked};
+ghost use Rattle.naming_tree.specs.Dialogues.{IsStep};
 ghost use Rattle.naming_tree.specs.Tasks.{IsTask};
 ghost use Rattle.naming_tree.specs.Tasks as tasks;
 ghost use Rattle.naming_tree.specs.Walking as walks;
@@ -12,10 +13,9 @@ ghost use Rattle.naming_tree.specs.NamePaths.{added_alone as added_alone_at, rem
 ghost use Rattle.naming_tree.specs.Additions.{IsText};
 ghost use Rattle.uid_names.specs.Rooms.{IsRoom};
 
-use crate::adding::Adding;
 use crate::addition::Addition;
+use crate::changing::{Change, Changing};
 use crate::reading::Reading;
-use crate::removing::Removing;
 use crate::site::Site;
 use crate::step::{NameResult, NameStep, Walked};
 use crate::task::Task;
@@ -183,7 +183,7 @@ impl ByPath {
                     room,
                     text,
                 };
-                let task = Task::Add(Adding::new(alloc, working, what));
+                let task = Task::Change(Changing::new(alloc, working, Change::Add(what)));
                 ByPath::walked(alloc, site, Route { start, names }, working, task)
             }
             None => {
@@ -202,7 +202,7 @@ impl ByPath {
         let mut names = route.names;
         match names.pop() {
             Some(name) => {
-                let task = Task::Remove(Removing::new(alloc, working, name));
+                let task = Task::Change(Changing::new(alloc, working, Change::Remove(name)));
                 ByPath::walked(alloc, site, Route { start, names }, working, task)
             }
             None => {

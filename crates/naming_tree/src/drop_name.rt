@@ -1,7 +1,8 @@
 //! Names that are removed by their paths.
 ghost use Rattle.std.specs.Prelude.{◌≡◌, Some, None, IfOk, OnOk, OnErr, IsSome};
 ghost use Rattle.std.specs.Option.{option_copied};
-ghost use Rattle.naming_tree.specs.Turns.{FitsStood, stood_after, stood_says, IsStep};
+ghost use Rattle.naming_tree.specs.Turns.{FitsStood, stood_after, stood_says};
+ghost use Rattle.naming_tree.specs.Dialogues.{IsStep};
 
 use crate::by_path::ByPath;
 use crate::site::Site;

@@ -1,12 +1,12 @@
 //! Names: the machines that walk directories and paths, and change directories.
 #![tactic(auto)]
 
-mod add_at;
 mod add_name;
 mod adding;
 mod addition;
 mod by_path;
-mod drop_at;
+mod change_at;
+mod changing;
 mod drop_name;
 mod ending;
 pub mod laws;
@@ -21,12 +21,11 @@ mod task;
 mod walk;
 mod walking;
 
-pub use add_at::AddAt;
 pub use add_name::AddName;
 pub use addition::Addition;
-pub use drop_at::DropAt;
+pub use change_at::ChangeAt;
 pub use drop_name::DropName;
 pub use list_dir::ListDir;
 pub use site::Site;
-pub use step::{NameResult, NameStep, Walked, Within};
+pub use step::{NameResult, NameStep, Step, Walked, Within};
 pub use walk::Walk;

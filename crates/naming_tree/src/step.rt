@@ -65,7 +65,10 @@ pub enum NameResult {
 
 /// What a machine says: the next operation, or what it has come to.
 #[derive(Drop, Debug)]
-pub enum NameStep {
+pub enum Step<R> {
     Do(Op),
-    Over(NameResult),
+    Over(R),
 }
+
+/// What a machine over names says.
+pub type NameStep = Step<NameResult>;

@@ -8,21 +8,19 @@ ghost use Rattle.naming_tree.specs.declared.task.Task.TheVariants.{List as ListR
 ghost use Rattle.naming_tree.specs.NamePaths.{listed as listed_rows};
 ghost use Rattle.dir_records.specs.Directories.{rows_in};
 
-use crate::adding::Adding;
+use crate::changing::Changing;
 use crate::reading::Reading;
-use crate::removing::Removing;
 use crate::step::NameResult;
 use dir_records::{DirFault, by_name, read_dir};
 use dom_history::{Op, Reply};
 use std::alloc::Global;
 use uid_names::{NoMemory, Uid};
 
-/// What is done in a directory: it is listed, or a name is added to it or removed from it.
+/// What is done in a directory: it is listed, or changed.
 #[derive(Drop)]
 pub enum Task {
     List(Reading),
-    Add(Adding),
-    Remove(Removing),
+    Change(Changing),
 }
 
 /// The rows of a directory that was read, by their names.
@@ -67,13 +65,9 @@ impl Task {
     {
         match self {
             Task::List(reading) => *reading = Reading::new(alloc, dir),
-            Task::Add(adding) => {
-                adding.parent = dir;
-                adding.begin();
-            }
-            Task::Remove(removing) => {
-                removing.parent = dir;
-                removing.begin();
+            Task::Change(changing) => {
+                changing.parent = dir;
+                changing.begin();
             }
         }
     }
@@ -88,8 +82,7 @@ impl Task {
     {
         match self {
             Task::List(reading) => list_on(alloc, reading, reply),
-            Task::Add(adding) => adding.hear(alloc, reply),
-            Task::Remove(removing) => removing.hear(alloc, reply),
+            Task::Change(changing) => changing.hear(alloc, reply),
         }
     }
 
@@ -101,8 +94,7 @@ impl Task {
     {
         match self {
             Task::List(reading) => Ok(reading.op()),
-            Task::Add(adding) => adding.op(alloc),
-            Task::Remove(removing) => removing.op(alloc),
+            Task::Change(changing) => changing.op(alloc),
         }
     }
 
@@ -112,7 +104,7 @@ impl Task {
     {
         match self {
             Task::List(_) => NameResult::Nodes,
-            _ => NameResult::NotDir,
+            Task::Change(_) => NameResult::NotDir,
         }
     }
 }

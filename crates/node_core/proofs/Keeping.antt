@@ -14,6 +14,7 @@ use Rattle.dom_history.specs.declared.op.Want.{Want}
 use Rattle.dom_history.specs.declared.op.Want.TheVariants.{Do, Phase, Done as AllDone}
 use Rattle.dom_history.specs.Events.{AreEffects}
 use Rattle.dom_history.specs.Ranges.{IsNamedReply}
+use Rattle.ring_messages.specs.Bodies.{Ask}
 use Rattle.fault_handler.specs.Desks.{DeskState, at}
 use Rattle.node_runs.specs.Setups.{Given, IsGiven, ArePrograms, IsFrames}
 use Rattle.node_runs.specs.NodeStates.{OpenOp, NodeState, first_proc, is_ended}
@@ -36,15 +37,15 @@ use Rattle.node_core.specs.Outcomes.{Led}
 use Rattle.node_core.proofs.Seen.{seen-silent}
 
 -- what is open is wanted
-wants-of : (w : Want) (opened : Option Open) (page : List ℕ) (o : OpenOp) → doing_of w opened page ≡ Some o → w ≡ Do o.began.op
-wants-of (Do op) None page o is = absurd (cc)
-wants-of (Do op) (Some x) page o is = ap (λ (y : OpenOp). Do y.began.op) (same_Some (open_seen op x page) o is)
-wants-of Phase opened page o is = absurd (cc)
-wants-of AllDone opened page o is = absurd (cc)
+wants-of : (w : Want) (opened : Option Open) (ask : Ask) (o : OpenOp) → doing_of w opened ask ≡ Some o → w ≡ Do o.began.op
+wants-of (Do op) None ask o is = absurd (cc)
+wants-of (Do op) (Some x) ask o is = ap (λ (y : OpenOp). Do y.began.op) (same_Some (open_seen op x ask) o is)
+wants-of Phase opened ask o is = absurd (cc)
+wants-of AllDone opened ask o is = absurd (cc)
 
 wants-at : (qs : List Proc) (i : ℕ) (o : OpenOp) → (slice_index_or (map proc_seen qs) i first_proc).doing ≡ Some o → slice_index_or (map (λ (q : Proc). q.want) qs) i Phase ≡ Do o.began.op
 wants-at [] i o is = absurd (cc)
-wants-at (q ∷ qs) zero o is = wants-of q.want q.opened q.page.value o is
+wants-at (q ∷ qs) zero o is = wants-of q.want q.opened q.asked o is
 wants-at (q ∷ qs) (suc i) o is = wants-at qs i o is
 
 pub doing-wants : (qs : List Proc) (p : ℕ) (o : OpenOp) → (at (map proc_seen qs) p first_proc).doing ≡ Some o → want_at qs p ≡ Do o.began.op

@@ -1,3 +1,4 @@
+pub mod Requests
 pub mod FirstPrograms
 pub mod Rising
 pub mod Seen

@@ -4,6 +4,7 @@ use Rattle.uid_names.specs.Names.{IsProcNumber}
 use Rattle.dom_history.specs.declared.op.Op.{Op}
 use Rattle.dom_history.specs.declared.op.Want.{Want}
 use Rattle.dom_history.specs.declared.op.Want.TheVariants.{Do, Phase, Done}
+use Rattle.ring_messages.specs.Bodies.{Ask}
 use Rattle.fault_handler.specs.Desks.{at}
 use Rattle.node_runs.specs.NodeStates.{Asked, Await, OpenOp, first_proc, proc_of}
 use Rattle.node_runs.specs.Agreements.{Agrees, IsDoing, IsCalling, IsOpenCall}
@@ -31,23 +32,23 @@ module _ (qs : List Proc) (i p : ℕ) (q d : Proc) (four : length qs ≡ 4) (bou
   wants-here = ap (λ k. get_or (map (λ (x : Proc). x.want) qs) k Phase) (sym at_p) ∙ want-there qs i d inside ∙ ap (λ (x : Proc). x.want) (sym is)
 
 -- what is open is what is wanted
-opened-by : (w : Want) (o : Option Open) (page : List ℕ) (x : Open) → open_in w o ≡ Some x → (op : Op) × (w ≡ Do op) × (doing_of w o page ≡ Some (open_seen op x page))
-opened-by (Do op) None page x is = absurd (cc)
-opened-by (Do op) (Some y) page x is = (op, refl, let same : y ≡ x = cc in ap (λ z. Some (open_seen op z page)) same)
-opened-by Phase o page x is = absurd (cc)
-opened-by Done o page x is = absurd (cc)
+opened-by : (w : Want) (o : Option Open) (ask : Ask) (x : Open) → open_in w o ≡ Some x → (op : Op) × (w ≡ Do op) × (doing_of w o ask ≡ Some (open_seen op x ask))
+opened-by (Do op) None ask x is = absurd (cc)
+opened-by (Do op) (Some y) ask x is = (op, refl, let same : y ≡ x = cc in ap (λ z. Some (open_seen op z ask)) same)
+opened-by Phase o ask x is = absurd (cc)
+opened-by Done o ask x is = absurd (cc)
 
-pub opened-as : (q : Proc) (x : Open) → open_in q.want q.opened ≡ Some x → (op : Op) × (q.want ≡ Do op) × ((proc_seen q).doing ≡ Some (open_seen op x q.page.value))
-opened-as q x is = opened-by q.want q.opened q.page.value x is
+pub opened-as : (q : Proc) (x : Open) → open_in q.want q.opened ≡ Some x → (op : Op) × (q.want ≡ Do op) × ((proc_seen q).doing ≡ Some (open_seen op x q.asked))
+opened-as q x is = opened-by q.want q.opened q.asked x is
 
-closed-by : (w : Want) (o : Option Open) (page : List ℕ) → open_in w o ≡ None → doing_of w o page ≡ None
-closed-by (Do op) None page is = refl
-closed-by (Do op) (Some y) page is = absurd (cc)
-closed-by Phase o page is = refl
-closed-by Done o page is = refl
+closed-by : (w : Want) (o : Option Open) (ask : Ask) → open_in w o ≡ None → doing_of w o ask ≡ None
+closed-by (Do op) None ask is = refl
+closed-by (Do op) (Some y) ask is = absurd (cc)
+closed-by Phase o ask is = refl
+closed-by Done o ask is = refl
 
 pub closed-as : (q : Proc) → open_in q.want q.opened ≡ None → (proc_seen q).doing ≡ None
-closed-as q is = closed-by q.want q.opened q.page.value is
+closed-as q is = closed-by q.want q.opened q.asked is
 
 module _ {P G : Type 0} (spent : P → Bool) (wants : P → Want) (old : Machine P G) (before : IsBefore spent wants old) (p : ℕ) (proc : IsProcNumber p) (x : OpenOp) (doing : (proc_of (state_of old) p).doing ≡ Some x) where
   pub agrees-open : Agrees old.desk p (proc_of (state_of old) p).last (Some x)

@@ -6,6 +6,7 @@ use Rattle.dom_history.specs.declared.op.Op.{Op}
 use Rattle.dom_history.specs.declared.op.Want.{Want}
 use Rattle.dom_history.specs.declared.op.Want.TheVariants.{Do, Phase, Done}
 use Rattle.dom_history.specs.Ranges.{IsWant}
+use Rattle.ring_messages.specs.Bodies.{Ask}
 use Rattle.fault_handler.specs.Desks.{at, put_at}
 use Rattle.node_runs.specs.NodeStates.{ProcState, first_proc}
 use Rattle.node_runs.specs.Alikes.{AreAlikeProcs}
@@ -14,10 +15,10 @@ use Rattle.node_core.specs.declared.processes.Proc.{Proc}
 use Rattle.node_core.specs.Processes.{open_in, open_seen, doing_of, proc_seen, want_at}
 
 -- nothing is open
-pub doing-none : (w : Want) (page : List ℕ) → doing_of w None page ≡ None
-doing-none (Do op) page = refl
-doing-none Phase page = refl
-doing-none Done page = refl
+pub doing-none : (w : Want) (ask : Ask) → doing_of w None ask ≡ None
+doing-none (Do op) ask = refl
+doing-none Phase ask = refl
+doing-none Done ask = refl
 
 -- no list of what was heard is kept
 pub seen-silent : (qs : List Proc) (p : ℕ) → (at (map proc_seen qs) p first_proc).heard ≡ []
@@ -96,10 +97,10 @@ open-wanted (Do op) opened o is = (op, refl, is)
 open-wanted Phase opened o is = absurd (cc)
 open-wanted Done opened o is = absurd (cc)
 
-pub doing-open : (w : Want) (opened : Option Open) (page : List ℕ) (op : Op) (o : Open) → w ≡ Do op → opened ≡ Some o → doing_of w opened page ≡ Some (open_seen op o page)
-doing-open w opened page op o is opens = ap (λ x. doing_of x opened page) is ∙ ap (λ x. doing_of (Do op) x page) opens
+pub doing-open : (w : Want) (opened : Option Open) (ask : Ask) (op : Op) (o : Open) → w ≡ Do op → opened ≡ Some o → doing_of w opened ask ≡ Some (open_seen op o ask)
+doing-open w opened ask op o is opens = ap (λ x. doing_of x opened ask) is ∙ ap (λ x. doing_of (Do op) x ask) opens
 
-pub doing-closed : (w : Want) (opened : Option Open) (page : List ℕ) → open_in w opened ≡ None → doing_of w opened page ≡ None
-doing-closed (Do op) opened page is = ap (λ x. doing_of (Do op) x page) is
-doing-closed Phase opened page is = refl
-doing-closed Done opened page is = refl
+pub doing-closed : (w : Want) (opened : Option Open) (ask : Ask) → open_in w opened ≡ None → doing_of w opened ask ≡ None
+doing-closed (Do op) opened ask is = ap (λ x. doing_of (Do op) x ask) is
+doing-closed Phase opened ask is = refl
+doing-closed Done opened ask is = refl

@@ -37,20 +37,20 @@ module _ {P G : Type 0} (spent : P → Bool) (wants : P → Want) (becomes : P �
 
   -- an operation is open
   module _ (x : Open) (opened : open_in q.want q.opened ≡ Some x) where
-    pub doing-open : (proc_of (state_of old) p).doing ≡ Some (open_seen (op_there q x opened) x q.page.value)
+    pub doing-open : (proc_of (state_of old) p).doing ≡ Some (open_seen (op_there q x opened) x q.asked)
     doing-open = doing-here ∙ (opened-as q x opened).2
 
     pub program-there : IsSome (program_in old.programs.items p)
-    program-there = program-open spent wants old before p proc (open_seen (op_there q x opened) x q.page.value) doing-open
+    program-there = program-open spent wants old before p proc (open_seen (op_there q x opened) x q.asked) doing-open
 
     pub wanted-there : want_at old.procs p ≡ Do (op_there q x opened)
-    wanted-there = wanted-open spent wants old before p proc (open_seen (op_there q x opened) x q.page.value) doing-open
+    wanted-there = wanted-open spent wants old before p proc (open_seen (op_there q x opened) x q.asked) doing-open
 
     pub range-there : IsWanted (want_at old.procs p)
-    range-there = range-open spent wants old before p proc (open_seen (op_there q x opened) x q.page.value) doing-open
+    range-there = range-open spent wants old before p proc (open_seen (op_there q x opened) x q.asked) doing-open
 
     pub call-there : (call : Call) → x.awaits ≡ awaits.Answer call → (op : Op) → want_at old.procs p ≡ Do op → IsInCall old.desk p op
-    call-there call asks = call-open spent wants old before p proc (open_seen (op_there q x opened) x q.page.value) doing-open (call_seen call q.page.value) (ap (λ a. await_seen a q.page.value) asks)
+    call-there call asks = call-open spent wants old before p proc (open_seen (op_there q x opened) x q.asked) doing-open (call_seen call q.asked) (ap (λ a. await_seen a q.asked) asks)
 
   -- a reply to it
   module _ (m : Message) (caller : p ≡ m.proc) where
@@ -67,18 +67,18 @@ module _ {P G : Type 0} (spent : P → Bool) (wants : P → Want) (becomes : P �
       abbrev begun_there : BegunOp
       begun_there = record { op = op_there q x opened; begun = x.begun }
 
-      at-there : hears (state_of old) m (proc_of (state_of old) m.proc).doing ≡ hears_at (state_of old) m begun_there (await_seen x.awaits q.page.value)
-      at-there = doing-caller (Some (open_seen (op_there q x opened) x q.page.value)) (doing-open x opened)
+      at-there : hears (state_of old) m (proc_of (state_of old) m.proc).doing ≡ hears_at (state_of old) m begun_there (await_seen x.awaits q.asked)
+      at-there = doing-caller (Some (open_seen (op_there q x opened) x q.asked)) (doing-open x opened)
 
       -- it waits for a page
       pub page-led : (done : Done) (dropped : List (ObjectName × ℕ)) → done ≡ nothing dropped → dropped ≡ [] → (u : ObjectName) (k : ℕ) → x.awaits ≡ awaits.Page u k
           → (s : Stepped) → stepped_as_named (given_of old) (state_of old) (hears (state_of old) m (proc_of (state_of old) m.proc).doing) ≡ Some s → Led spent wants becomes old old done s
       page-led done dropped quietly none u k waits =
-          passed-led spent wants becomes old p m.body done dropped before.within quietly none _ (at-there ∙ ap (λ a. hears_at (state_of old) m begun_there (await_seen a q.page.value)) waits)
+          passed-led spent wants becomes old p m.body done dropped before.within quietly none _ (at-there ∙ ap (λ a. hears_at (state_of old) m begun_there (await_seen a q.asked)) waits)
 
       module _ (call : Call) (asks : x.awaits ≡ awaits.Answer call) where
         if-there : (b : Bool) → (m.number == call.asking.number) ≡ b → hears (state_of old) m (proc_of (state_of old) m.proc).doing ≡ hears_if b (state_of old) m begun_there
-        if-there b fits = at-there ∙ ap (λ a. hears_at (state_of old) m begun_there (await_seen a q.page.value)) asks ∙ ap (λ y. hears_if y (state_of old) m begun_there) fits
+        if-there b fits = at-there ∙ ap (λ a. hears_at (state_of old) m begun_there (await_seen a q.asked)) asks ∙ ap (λ y. hears_if y (state_of old) m begun_there) fits
 
         -- it is of another call
         pub other-led : (done : Done) (dropped : List (ObjectName × ℕ)) → done ≡ nothing dropped → dropped ≡ [] → (m.number == call.asking.number) ≡ false

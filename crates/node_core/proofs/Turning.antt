@@ -1,5 +1,5 @@
 -- What is known of an operation by what its desk says.
-use Rattle.std.proofs.Common.{◌≡◌, ℕ, Bool, Option, Some, None, IsSome, IfSome, refl, sym, ap, subst, ◌∙◌}
+use Rattle.std.proofs.Common.{◌≡◌, ℕ, Bool, Option, Some, None, IsSome, refl, sym, ap, subst, ◌∙◌}
 use Rattle.std.specs.Option.{option_map, ForSome}
 use Rattle.std.proofs.lemmas.Option.{same_Some}
 use Rattle.dom_history.specs.declared.op.Op.{Op}
@@ -12,7 +12,7 @@ use Rattle.uid_names.specs.declared.ids.Place.{Place}
 use Rattle.fault_handler.specs.declared.access.Access.{Access}
 use Rattle.fault_handler.specs.declared.tasks.Task.{Task}
 use Rattle.fault_handler.specs.Desks.{DeskState}
-use Rattle.fault_handler.specs.Outcomes.{Moved, Outcome, Gives, as_access, seen_access}
+use Rattle.fault_handler.specs.Outcomes.{Moved, Outcome, outcome_of, Gives, as_access, seen_access}
 use Rattle.fault_handler.specs.Victims.{Victim, named_victim}
 use Rattle.uid_names.specs.Openings.{Start}
 use Rattle.dom_history.specs.declared.op.Op.TheVariants as ops
@@ -54,10 +54,10 @@ fits-wanted Phase reply is fits = absurd is
 fits-wanted Done reply is fits = absurd is
 
 -- a step that is an outcome's tells it
-pub step-seen : (desk : DeskState) (m : Moved) (step : Step) → Gives as_step desk m step → seen_step step ≡ Some (record { turn = m.turn; dropped = m.dropped })
+pub step-seen : (desk : DeskState) (m : Moved) (step : Step) → Gives as_step desk m step → seen_step step ≡ Some (outcome_of m)
 step-seen desk m step gives = ap seen_step gives.1 ∙ seen-as_step m.turn m.dropped
 
-pub given-seen : (desk : DeskState) (m : Moved) (access : Access) → Gives as_access desk m access → seen_access access ≡ Some (record { turn = m.turn; dropped = m.dropped })
+pub given-seen : (desk : DeskState) (m : Moved) (access : Access) → Gives as_access desk m access → seen_access access ≡ Some (outcome_of m)
 given-seen desk m access gives = ap seen_access gives.1 ∙ access-seen m.turn m.dropped
 
 -- what a desk answers begins there
@@ -114,20 +114,21 @@ module _ {P G : Type 0} (spent : P → Bool) (wants : P → Want) (becomes : P �
       (moves-as old new done p begun desk m same node turns g op stage number wanted)
 
   -- a step of the desk is what it says
-  pub moves-stepped : (old new : Machine P G) (done : code.Done) (p : ℕ) (begun : Place) (desk : DeskState) (m : Moved) (step : Step) → Gives as_step desk m step → desk.node ≡ old.desk.node
-      → IfSome (seen_step step) (λ o. Turns spent wants becomes (record old { desk = desk }) new done p begun o.turn o.dropped) → Moves spent wants becomes old new done p begun (Accessed.Settled m)
-  moves-stepped old new done p begun desk m step gives node turns =
+  pub moves-stepped : (old new : Machine P G) (done : code.Done) (p : ℕ) (begun : Place) (desk : DeskState) (m : Moved) (step : Step) (came : Outcome) → Gives as_step desk m step → seen_step step ≡ Some came → desk.node ≡ old.desk.node
+      → Turns spent wants becomes (record old { desk = desk }) new done p begun came.turn came.dropped → Moves spent wants becomes old new done p begun (Accessed.Settled m)
+  moves-stepped old new done p begun desk m step came gives seen node turns =
       moves-settled old new done p begun desk m gives.0 node
-      (subst (λ (o : Option Outcome). IfSome o (λ x. Turns spent wants becomes (record old { desk = desk }) new done p begun x.turn x.dropped)) (step-seen desk m step gives) turns)
+      (subst (λ (x : Outcome). Turns spent wants becomes (record old { desk = desk }) new done p begun x.turn x.dropped) (same_Some came (outcome_of m) (sym seen ∙ step-seen desk m step gives)) turns)
 
   -- an access comes to what its desk makes of it, with room made as its cache names it
-  pub moves-accessed : (old new : Machine P G) (done : code.Done) (p : ℕ) (begun : Place) (desk : DeskState) (accessed : Accessed) (access : Access)
-      → Comes p (λ m. Gives as_access desk m access) accessed → desk.node ≡ old.desk.node
-      → IfSome (seen_access access) (λ o. Turns spent wants becomes (record old { desk = desk }) new done p begun o.turn o.dropped) → Moves spent wants becomes old new done p begun accessed
-  moves-accessed old new done p begun desk accessed access comes node turns = by_way accessed comes
+  pub moves-accessed : (old new : Machine P G) (done : code.Done) (p : ℕ) (begun : Place) (desk : DeskState) (accessed : Accessed) (access : Access) (came : Outcome)
+      → Comes p (λ m. Gives as_access desk m access) accessed → seen_access access ≡ Some came → desk.node ≡ old.desk.node
+      → Turns spent wants becomes (record old { desk = desk }) new done p begun came.turn came.dropped → Moves spent wants becomes old new done p begun accessed
+  moves-accessed old new done p begun desk accessed access came comes seen node turns = by_way accessed comes
     where
       turned_as : (m : Moved) → Gives as_access desk m access → Turns spent wants becomes (record old { desk = desk }) new done p begun m.turn m.dropped
-      turned_as m gives = subst (λ (o : Option Outcome). IfSome o (λ x. Turns spent wants becomes (record old { desk = desk }) new done p begun x.turn x.dropped)) (given-seen desk m access gives) turns
+      turned_as m gives =
+          subst (λ (x : Outcome). Turns spent wants becomes (record old { desk = desk }) new done p begun x.turn x.dropped) (same_Some came (outcome_of m) (sym seen ∙ given-seen desk m access gives)) turns
 
       by_victim : (d : DeskState) (task : Task) (o : Option Victim) → ForSome o (λ victim. Gives as_access desk (room_made d p task victim) access)
           → (g : Given) (op : Op) (stage : Stage) → g.number ≡ old.desk.node → want_at old.procs p ≡ Do op

@@ -1,4 +1,6 @@
 pub mod Asked
+pub mod DeskMoves
+pub mod DeskAccesses
 pub mod Processes
 pub mod Programs
 pub mod Marks

@@ -21,18 +21,17 @@ use Rattle.node_core.specs.declared.processes.Await.TheVariants as awaits
 use Rattle.node_core.specs.declared.processes.Again.{Again}
 use Rattle.node_core.specs.declared.processes.Open.{Open}
 use Rattle.node_core.specs.declared.processes.Proc.{Proc}
-use Rattle.node_core.specs.Asked.{ask_told}
 
--- a call, with the bytes of its page
-abbrev pub call_seen : Call → List ℕ → Asked
-call_seen c page = record { waiting = c.asking; home = c.home; ask = ask_told c.ask page }
+-- a call, with what it asks
+abbrev pub call_seen : Call → Ask → Asked
+call_seen c ask = record { waiting = c.asking; home = c.home; ask = ask }
 
-abbrev pub await_seen : kept.Await → List ℕ → Await
-await_seen (awaits.Answer c) page = Await.Answer (call_seen c page)
-await_seen (awaits.Page u k) page = Await.Page u k
+abbrev pub await_seen : kept.Await → Ask → Await
+await_seen (awaits.Answer c) ask = Await.Answer (call_seen c ask)
+await_seen (awaits.Page u k) ask = Await.Page u k
 
-abbrev pub open_seen : Op → Open → List ℕ → OpenOp
-open_seen op o page = record { began = record { op = op; begun = o.begun }; awaits = await_seen o.awaits page }
+abbrev pub open_seen : Op → Open → Ask → OpenOp
+open_seen op o ask = record { began = record { op = op; begun = o.begun }; awaits = await_seen o.awaits ask }
 
 -- what is open, where an operation is wanted
 abbrev pub open_in : Want → Option Open → Option Open
@@ -41,14 +40,14 @@ open_in Phase opened = None
 open_in Done opened = None
 
 -- the open operation is the one that is wanted
-abbrev pub doing_of : Want → Option Open → List ℕ → Option OpenOp
-doing_of (Do op) opened page = option_map (λ o. open_seen op o page) opened
-doing_of Phase opened page = None
-doing_of Done opened page = None
+abbrev pub doing_of : Want → Option Open → Ask → Option OpenOp
+doing_of (Do op) opened ask = option_map (λ o. open_seen op o ask) opened
+doing_of Phase opened ask = None
+doing_of Done opened ask = None
 
 -- a process. What it heard is not kept
 abbrev pub proc_seen : Proc → ProcState
-proc_seen q = record { heard = []; doing = doing_of q.want q.opened q.page.value; last = q.last; phase = q.phase }
+proc_seen q = record { heard = []; doing = doing_of q.want q.opened q.asked; last = q.last; phase = q.phase }
 
 -- an operation is wanted, in its ranges
 abbrev pub IsWanted : Want → Type 0
@@ -90,7 +89,7 @@ with_open q op begun awaits = record q { doing = Some (record { began = record {
 
 -- it awaits the answer to this call, which has one notice more
 abbrev pub with_notice : Proc → Op → Place → Call → ProcState
-with_notice q op begun c = with_open (proc_seen q) op begun (Await.Answer (noticed_call (call_seen c q.page.value)))
+with_notice q op begun c = with_open (proc_seen q) op begun (Await.Answer (noticed_call (call_seen c q.asked)))
 
 -- it makes its next call
 abbrev pub with_call : ProcState → Op → Place → ℕ → Ask → ProcState

@@ -8,8 +8,8 @@ ghost use Rattle.dom_history.specs.declared.op.Op.{Op};
 ghost use Rattle.dom_history.specs.declared.op.Op.TheVariants.{New, List as ListOp, Lock, Unlock, Delete};
 ghost use Rattle.dom_history.specs.declared.op.Want.TheVariants.{Do, Phase, Done as AllDone};
 ghost use Rattle.dom_history.specs.Ranges.{IsOp};
-ghost use Rattle.fault_handler.specs.Outcomes.{as_access, seen_access, Gives};
-ghost use Rattle.fault_handler.specs.Accesses.{Accessed, Comes, desk_op, access_of};
+ghost use Rattle.fault_handler.specs.Outcomes.{seen_access};
+ghost use Rattle.fault_handler.specs.Accesses.{desk_op};
 ghost use Rattle.fault_handler.specs.Conditions.{IsOf, IsIdle};
 ghost use Rattle.fault_handler.specs.Invariant.{IsDesk};
 ghost use Rattle.fault_handler.specs.Next.{FitsTurn, IsAsked};
@@ -22,8 +22,11 @@ ghost use Rattle.node_runs.specs.Operations.{begun as begun_as, new_by, list_by}
 ghost use Rattle.dom_history.specs.Objects.{is_node};
 ghost use Rattle.node_core.specs.Processes.{IsWanted, want_at};
 ghost use Rattle.node_core.specs.Programs.{program_in};
+ghost use Rattle.node_core.specs.DeskAccesses.{IsAccessOf};
 
+use crate::asked::Request;
 use crate::machine::Machine;
+use crate::moves::DeskMove;
 use crate::processes::{Proc, index_of};
 use crate::turns::{Done, quiet};
 use dom_history::{Dropped, Op, Program, Reply, Want};
@@ -40,8 +43,7 @@ fn access(alloc: Global, desk: &mut Desk, proc: ProcId, want: &Want) -> Result<A
     requires idle { IsIdle desk.old proc.number }
     requires wanted { IsWanted want.now }
     requires access { (op : Op) → want.now ≡ Do op → IsSome (desk_op op) }
-    ensures outcome { IfOk result (λ access. (op : Op) → want.now ≡ Do op → ForSome (desk_op op) (λ o.
-        Comes proc.number (λ m. Gives as_access desk.new m access) (access_of desk.old proc.number o))) }
+    ensures outcome { IfOk result (λ access. (op : Op) → want.now ≡ Do op → IsAccessOf desk.old desk.new proc.number op access) }
     ensures fits { IfOk result (λ access. (op : Op) → want.now ≡ Do op → ForSome (seen_access access) (λ o. FitsTurn op o.turn)) }
     ensures asks { IfOk result (λ access. ForSome (seen_access access) (λ o. IsAsked desk.new.nodes o.turn)) }
     ensures node { desk.new.node ≡ desk.old.node }
@@ -64,8 +66,7 @@ fn access_wanted(
     requires four { length procs.now ≡ NODE_PROCESSES }
     requires wanted { IsWanted (want_at procs.now proc.number) }
     requires access { (op : Op) → want_at procs.now proc.number ≡ Do op → IsSome (desk_op op) }
-    ensures outcome { IfOk result (λ access. (op : Op) → want_at procs.now proc.number ≡ Do op → ForSome (desk_op op) (λ o.
-        Comes proc.number (λ m. Gives as_access desk.new m access) (access_of desk.old proc.number o))) }
+    ensures outcome { IfOk result (λ access. (op : Op) → want_at procs.now proc.number ≡ Do op → IsAccessOf desk.old desk.new proc.number op access) }
     ensures fits { IfOk result (λ access. (op : Op) → want_at procs.now proc.number ≡ Do op → ForSome (seen_access access) (λ o. FitsTurn op o.turn)) }
     ensures asks { IfOk result (λ access. ForSome (seen_access access) (λ o. IsAsked desk.new.nodes o.turn)) }
     ensures node { desk.new.node ≡ desk.old.node }
@@ -227,9 +228,8 @@ impl<P: Program, G: Pages> Machine<P, G> {
         ensures { OnOk result (Begins P.spent P.wants P.becomes self.old self.new done.new proc.number begun) }
     {
         if self.may_make(home, room) {
-            let body = Body::Make { kind, room };
-            self.asks(proc, begun, home, body, Dropped::new(alloc), done);
-            return Ok(());
+            let request = Request::from_body(Body::Make { kind, room });
+            return self.asks(alloc, proc, begun, home, request, Dropped::new(alloc), done);
         }
         self.ends(alloc, proc, Reply::NoSpace, Dropped::new(alloc), done)
     }
@@ -251,9 +251,8 @@ impl<P: Program, G: Pages> Machine<P, G> {
         ensures { OnOk result (Begins P.spent P.wants P.becomes self.old self.new done.new proc.number begun) }
     {
         if self.is_node(home) {
-            let body = Body::List { after };
-            self.asks(proc, begun, home, body, Dropped::new(alloc), done);
-            return Ok(());
+            let request = Request::from_body(Body::List { after });
+            return self.asks(alloc, proc, begun, home, request, Dropped::new(alloc), done);
         }
         let reply = Reply::Locks {
             rows: LockRows::new(alloc),
@@ -281,7 +280,7 @@ impl<P: Program, G: Pages> Machine<P, G> {
         ensures { OnOk result (Begins P.spent P.wants P.becomes self.old self.new done.new proc.number begun) }
     {
         let step = begin_lock(alloc, &mut self.desk, proc, uid, mode)?;
-        self.stepped(alloc, proc, begun, step, done)
+        self.moves(alloc, proc, begun, DeskMove::of_step(step), done)
     }
 
     fn begins_unlock(
@@ -302,7 +301,7 @@ impl<P: Program, G: Pages> Machine<P, G> {
         ensures { OnOk result (Begins P.spent P.wants P.becomes self.old self.new done.new proc.number begun) }
     {
         let step = begin_unlock(alloc, &mut self.desk, proc, uid)?;
-        self.stepped(alloc, proc, begun, step, done)
+        self.moves(alloc, proc, begun, DeskMove::of_step(step), done)
     }
 
     fn begins_delete(
@@ -323,7 +322,7 @@ impl<P: Program, G: Pages> Machine<P, G> {
         ensures { OnOk result (Begins P.spent P.wants P.becomes self.old self.new done.new proc.number begun) }
     {
         let step = begin_delete(alloc, &mut self.desk, proc, uid)?;
-        self.stepped(alloc, proc, begun, step, done)
+        self.moves(alloc, proc, begun, DeskMove::of_step(step), done)
     }
 
     /// A load, a store, or what is asked of a length or a mapping.
@@ -346,6 +345,6 @@ impl<P: Program, G: Pages> Machine<P, G> {
     {
         let (desk, procs) = (&mut self.desk, &self.procs);
         let access = access_wanted(alloc, desk, proc, procs)?;
-        self.accessed(alloc, proc, begun, access, done)
+        self.moves(alloc, proc, begun, DeskMove::of_access(access), done)
     }
 }

@@ -6,6 +6,7 @@ mod begin;
 pub mod fault;
 mod machine;
 mod marks;
+mod moves;
 pub mod node;
 mod notice;
 mod phases;

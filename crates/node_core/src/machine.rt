@@ -1,5 +1,5 @@
 //! The state of a node, and which events are enabled there.
-ghost use Rattle.std.specs.Prelude.{◌≡◌, ◌≤◌, ◌<◌, ◌^◌, ◌&&◌, ◌==◌, not, nat_lt, true, false, [], ◌∷◌, ℕ, List, filter, option_to_list, is_some, is_none, IsSome, IfSome, IsNone, Some, None, IfOk, OnOk, map, length, option_copied};
+ghost use Rattle.std.specs.Prelude.{◌≡◌, ◌≤◌, ◌<◌, ◌^◌, ◌&&◌, ◌==◌, not, nat_lt, true, false, [], ◌∷◌, ℕ, filter, option_to_list, is_some, is_none, IsSome, IfSome, IsNone, Some, None, IfOk, OnOk, map, length, option_copied};
 ghost use Rattle.std.specs.Option.{ForSome};
 ghost use Rattle.std.specs.List.{list_all, list_any};
 ghost use Rattle.uid_names.specs.Beginnings.{CanHomeBegin, at_home};
@@ -10,6 +10,7 @@ ghost use Rattle.dom_history.specs.Programs.{FitsWant};
 ghost use Rattle.dom_history.specs.declared.op.Want.TheVariants.{Phase};
 ghost use Rattle.dom_history.specs.Ranges.{IsWant};
 ghost use Rattle.page_store.specs.Volumes.{no_pages};
+ghost use Rattle.ring_messages.specs.Bodies.{Ask};
 ghost use Rattle.page_frames.specs.declared.frame.TheConstants.{FEWEST_FRAMES, MOST_FRAMES};
 ghost use Rattle.fault_handler.specs.Desks.{IsNode};
 ghost use Rattle.fault_handler.specs.Invariant.{IsProc};
@@ -43,7 +44,7 @@ use uid_names::{MAX_NODES, NODE_PROCESSES, NoMemory, NodeId, Opening, Place, Pro
 /// Whether what an operation waits for is there.
 #[inline(always)]
 fn has_come(desk: &Desk, awaits: &Await) -> bool
-    ensures { (page : List ℕ) → result ≡ has_come desk.now (await_seen awaits.now page) }
+    ensures { (ask : Ask) → result ≡ has_come desk.now (await_seen awaits.now ask) }
 {
     match awaits {
         Await::Answer(_) => false,
@@ -54,7 +55,7 @@ fn has_come(desk: &Desk, awaits: &Await) -> bool
 /// Whether an operation waits for the answer to the call of this number.
 #[inline(always)]
 fn is_call(number: u64, awaits: &Await) -> bool
-    ensures { (page : List ℕ) → result ≡ is_call number (await_seen awaits.now page) }
+    ensures { (ask : Ask) → result ≡ is_call number (await_seen awaits.now ask) }
 {
     match awaits {
         Await::Answer(call) => call.asking.fits(number),
@@ -113,12 +114,7 @@ impl<P: Program, G: Pages> Machine<P, G> {
         let server = PageServer::new(alloc, home)?;
         let desk = Desk::new(alloc, setup.node, setup.nodes, setup.frames)?;
         let programs = rising(alloc, programs)?;
-        let procs = [
-            Proc::new(alloc)?,
-            Proc::new(alloc)?,
-            Proc::new(alloc)?,
-            Proc::new(alloc)?,
-        ];
+        let procs = [Proc::new(), Proc::new(), Proc::new(), Proc::new()];
         Ok(Machine {
             greatest: opening.greatest(),
             phases: setup.phases,

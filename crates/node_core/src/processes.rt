@@ -1,11 +1,10 @@
 //! What a node keeps of a process beside its program.
-ghost use Rattle.std.specs.Prelude.{◌≡◌, ◌+◌, ◌-◌, ◌<◌, ◌^◌, Some, None, IsSome, IfSome, IfNone, IfOk};
+ghost use Rattle.std.specs.Prelude.{◌≡◌, ◌+◌, ◌-◌, ◌<◌, ◌^◌, Some, None, IfSome, IfNone, IfOk, OnOk};
 ghost use Rattle.std.specs.Option.{option_map};
 ghost use Rattle.uid_names.specs.Names.{IsProcNumber};
 ghost use Rattle.uid_names.specs.declared.limits.TheConstants.{NODE_PROCESSES};
 ghost use Rattle.dom_history.specs.declared.op.Op.{Op};
 ghost use Rattle.dom_history.specs.declared.op.Want.TheVariants.{Do, Phase};
-ghost use Rattle.ring_messages.specs.Bodies.{ask_of};
 ghost use Rattle.node_runs.specs.NodeStates.{Asked, Await as Awaiting, BegunOp, first_proc};
 ghost use Rattle.node_runs.specs.Outcomes.{next_call};
 ghost use Rattle.call_once.specs.Notices.{noticed};
@@ -14,19 +13,18 @@ ghost use Rattle.call_once.specs.declared.asking.TheConstants.{MOST_NOTICES};
 ghost use Rattle.node_runs.specs.Doings.{noticed_call};
 ghost use Rattle.node_core.specs.Processes.{open_in, call_seen, proc_seen, with_open, with_notice, with_call, IsCalling, IsAgain, IsResent, IsGivenUp};
 
-use crate::asked::KeptAsk;
+use crate::asked::Request;
 use call_once::{Asking, Noticed};
 use dom_history::Want;
 use ring_messages::Body;
 use std::alloc::Global;
-use uid_names::{NoMemory, NodeId, PAGE_BYTES, Place, ProcId, Uid};
+use uid_names::{NoMemory, NodeId, Place, ProcId, Uid};
 
-/// A call that waits for its answer: its number and notices, the home that is asked, and what it is asked.
+/// A call that waits for its answer: its number and notices, and the home that is asked.
 #[derive(Clone, Copy, Debug, PartialEq, Eq)]
 pub(crate) struct Call {
     pub(crate) asking: Asking,
     pub(crate) home: NodeId,
-    pub(crate) ask: KeptAsk,
 }
 
 /// What an open operation awaits: the answer to a call, or that a page is no longer on its way.
@@ -44,14 +42,14 @@ pub(crate) struct Open {
 }
 
 /// A process: what its program wants, which is known before the process asks; its open operation; the number of its last
-/// call; the phase of what its program wants next; and the bytes of the page that its open call sends home.
+/// call; the phase of what its program wants next; and what its last call asks.
 #[derive(Drop)]
 pub(crate) struct Proc {
     pub(crate) want: Want,
     pub(crate) opened: Option<Open>,
     pub(crate) last: u64,
     pub(crate) phase: u32,
-    pub(crate) page: Box<[u8; PAGE_BYTES]>,
+    pub(crate) asked: Request,
 }
 
 /// A request that is sent again: to which home, the number of its call, and what it asks.
@@ -72,19 +70,18 @@ pub(crate) fn index_of(proc: ProcId) -> usize
 }
 
 impl Proc {
-    /// A process at the start, whose program was not asked yet.
-    pub(crate) fn new(alloc: Global) -> Result<Proc, NoMemory>
-        ensures want { IfOk result (λ q. q.want ≡ Phase) }
-        ensures state { IfOk result (λ q. proc_seen q ≡ first_proc) }
+    /// A process at the start, whose program was not asked yet. Takes no memory.
+    pub(crate) fn new() -> Proc
+        ensures want { result.want ≡ Phase }
+        ensures state { proc_seen result ≡ first_proc }
     {
-        let page = Box::new(alloc, [0; PAGE_BYTES])?;
-        Ok(Proc {
+        Proc {
             want: Want::Phase,
             opened: None,
             last: 0,
             phase: 1,
-            page,
-        })
+            asked: Request::none(),
+        }
     }
 
     /// The open operation. Takes no memory.
@@ -97,22 +94,27 @@ impl Proc {
         }
     }
 
-    /// The next call of the operation that began at this place: its number. Takes no memory.
+    /// The next call of the operation that began at this place: its number. Takes memory only for a page.
     #[inline(always)]
-    pub(crate) fn call(&mut self, begun: Place, home: NodeId, body: &Body) -> u64
-        requires asks { IsSome (ask_of body.now) }
+    pub(crate) fn call(
+        &mut self,
+        alloc: Global,
+        begun: Place,
+        home: NodeId,
+        request: &Request,
+    ) -> Result<u64, NoMemory>
         requires few { self.old.last < 2 ^ 40 }
-        ensures number { result ≡ self.old.last + 1 }
+        ensures number { IfOk result (λ number. number ≡ self.old.last + 1) }
         ensures want { self.new.want ≡ self.old.want }
-        ensures state { IfSome (ask_of body.now) (λ ask. (op : Op) → self.old.want ≡ Do op → proc_seen self.new ≡ with_call (proc_seen self.old) op begun home ask) }
+        ensures state { OnOk result ((op : Op) → self.old.want ≡ Do op → proc_seen self.new ≡ with_call (proc_seen self.old) op begun home request.now) }
     {
         let number = self.last + 1;
-        let ask = KeptAsk::keep(body, &mut *self.page);
+        self.asked = request.copy(alloc)?;
         let asking = Asking::new(number);
-        let awaits = Await::Answer(Call { asking, home, ask });
+        let awaits = Await::Answer(Call { asking, home });
         self.opened = Some(Open { begun, awaits });
         self.last = number;
-        number
+        Ok(number)
     }
 
     /// One notice more of its open call: its request, which is to be sent again, or None where it is given up. Wants
@@ -143,7 +145,7 @@ impl Proc {
         mut call: Call,
     ) -> Result<Option<Again>, NoMemory>
         requires { call.asking.notices < MOST_NOTICES }
-        ensures again { IfOk result (λ sent. IfSome sent (λ again. IsAgain (call_seen call self.old.page.value) again × (noticed (call.asking.notices + 1) ≡ Noticed.Resend))) }
+        ensures again { IfOk result (λ sent. IfSome sent (λ again. IsAgain (call_seen call self.old.asked) again × (noticed (call.asking.notices + 1) ≡ Noticed.Resend))) }
         ensures state { IfOk result (λ sent. IfSome sent (λ again. (op : Op) → self.old.want ≡ Do op → proc_seen self.new ≡ with_notice self.old op begun call)) }
         ensures none { IfOk result (λ sent. IfNone sent ((noticed (call.asking.notices + 1) ≡ Noticed.GiveUp) × (self.new ≡ self.old))) }
         ensures want { self.new.want ≡ self.old.want }
@@ -151,7 +153,7 @@ impl Proc {
         match call.asking.notice() {
             Noticed::Resend => {
                 let (home, number) = (call.home, call.asking.number());
-                let body = call.ask.body(alloc, &*self.page)?;
+                let body = self.asked.copy(alloc)?.into_body();
                 let awaits = Await::Answer(call);
                 self.opened = Some(Open { begun, awaits });
                 Ok(Some(Again { home, number, body }))

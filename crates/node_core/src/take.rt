@@ -15,6 +15,7 @@ ghost use Rattle.node_core.specs.Programs.{program_in};
 ghost use Rattle.node_core.specs.Calls.{IsInCall};
 
 use crate::machine::Machine;
+use crate::moves::DeskMove;
 use crate::processes::{Await, Open, index_of};
 use crate::turns::{Done, quiet};
 use dom_history::{Dropped, Op, Program, Reply, Want};
@@ -206,11 +207,11 @@ impl<P: Program, G: Pages> Machine<P, G> {
         match call {
             OpenCall::Access => {
                 let access = self.desk.page_came(alloc, proc, body)?;
-                self.accessed(alloc, proc, begun, access, done)
+                self.moves(alloc, proc, begun, DeskMove::of_access(access), done)
             }
             _ => {
                 let step = answer_came(alloc, &mut self.desk, proc, body)?;
-                self.stepped(alloc, proc, begun, step, done)
+                self.moves(alloc, proc, begun, DeskMove::of_step(step), done)
             }
         }
     }

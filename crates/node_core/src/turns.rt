@@ -1,27 +1,26 @@
 //! What the outcome of a desk's call makes of an operation and its node.
-ghost use Rattle.std.specs.Prelude.{◌≡◌, ◌-◌, ◌+◌, ◌<◌, ◌^◌, ℕ, [], Some, None, IsSome, IfSome, slice_set, OnOk};
-ghost use Rattle.std.specs.Option.{ForSome};
+ghost use Rattle.std.specs.Prelude.{◌≡◌, ◌-◌, ◌+◌, ◌<◌, ◌^◌, ℕ, [], Some, None, IsSome, slice_set, OnOk};
 ghost use Rattle.uid_names.specs.declared.ids.Place.{Place};
 ghost use Rattle.dom_history.specs.declared.op.Op.{Op};
 ghost use Rattle.dom_history.specs.declared.op.Want.TheVariants.{Do};
 ghost use Rattle.dom_history.specs.Programs.{FitsWant};
-ghost use Rattle.ring_messages.specs.Bodies.{ask_of};
+ghost use Rattle.ring_messages.specs.Bodies.{body_of_ask};
 ghost use Rattle.fault_handler.specs.Desks.{at, put_at};
-ghost use Rattle.fault_handler.specs.Outcomes.{Turn, seen_access};
+ghost use Rattle.fault_handler.specs.Outcomes.{Turn};
 ghost use Rattle.fault_handler.specs.Next.{FitsTurn, IsAsked};
-ghost use Rattle.lock_validate.specs.Steps.{seen_step, TellsTurn};
 ghost use Rattle.ring_messages.specs.Ranges.{IsBody};
+ghost use Rattle.node_core.specs.DeskMoves.{move_seen};
 ghost use Rattle.node_core.specs.Outcomes.{IsFresh};
 ghost use Rattle.node_core.specs.Processes.{IsWanted, want_at};
 ghost use Rattle.node_core.specs.Programs.{program_in};
 
+use crate::asked::Request;
 use crate::machine::Machine;
+use crate::moves::DeskMove;
 use crate::processes::index_of;
 use dom_history::{Dropped, Effects, EndWord, Program, Reply, Sent};
-use fault_handler::Access;
-use lock_validate::Step;
 use page_store::Pages;
-use ring_messages::{Body, Frame};
+use ring_messages::Frame;
 use std::alloc::Global;
 use uid_names::{MAX_NODES, NoMemory, NodeId, Place, ProcId, Uid};
 
@@ -74,14 +73,14 @@ impl<P: Program, G: Pages> Machine<P, G> {
     ghost use Rattle.node_core.specs.Machines.{state_of, IsAtEvent};
     ghost use Rattle.node_core.specs.Outcomes.{IsFresh, Sent as IsSent, Turns};
 
-    /// What comes of an operation that began at this place, where the desk says this to it.
+    /// What comes of an operation that began at this place, where its desk's call makes this of it.
     #[inline(always)]
-    pub(crate) fn accessed(
+    pub(crate) fn moves(
         &mut self,
         alloc: Global,
         proc: ProcId,
         begun: Place,
-        access: Access,
+        came: DeskMove,
         done: &mut Done,
     ) -> Result<(), NoMemory>
         requires fresh { IsFresh done.old }
@@ -89,52 +88,16 @@ impl<P: Program, G: Pages> Machine<P, G> {
         requires at { IsAtEvent P.spent P.wants self.old }
         requires program { IsSome (program_in self.old.programs.items proc.number) }
         requires wanted { IsWanted (want_at self.old.procs proc.number) }
-        requires there { IsSome (seen_access access) }
-        requires fits { (op : Op) → want_at self.old.procs proc.number ≡ Do op → ForSome (seen_access access) (λ o. FitsTurn op o.turn) }
-        requires asks { ForSome (seen_access access) (λ o. IsAsked self.old.desk.nodes o.turn) }
-        ensures { OnOk result (IfSome (seen_access access) (λ o. Turns P.spent P.wants P.becomes self.old self.new done.new proc.number begun o.turn o.dropped)) }
+        requires fits { (op : Op) → want_at self.old.procs proc.number ≡ Do op → FitsTurn op (move_seen came).turn }
+        requires asks { IsAsked self.old.desk.nodes (move_seen came).turn }
+        ensures { OnOk result (Turns P.spent P.wants P.becomes self.old self.new done.new proc.number begun (move_seen came).turn (move_seen came).dropped) }
     {
-        match access {
-            Access::Hit(reply, dropped) => self.ends(alloc, proc, reply, dropped, done),
-            Access::Refuse(reply, dropped) => self.ends(alloc, proc, reply, dropped, done),
-            Access::Need(home, body, dropped) => {
-                self.asks(proc, begun, home, body, dropped, done);
-                Ok(())
+        match came {
+            DeskMove::Ends(reply, dropped) => self.ends(alloc, proc, reply, dropped, done),
+            DeskMove::Asks(home, request, dropped) => {
+                self.asks(alloc, proc, begun, home, request, dropped, done)
             }
-            Access::Wait(uid, page, dropped) => {
-                self.waits(proc, begun, uid, page, dropped, done);
-                Ok(())
-            }
-        }
-    }
-
-    /// What comes of an operation that began at this place, where locking, unlocking or removal say this to it.
-    #[inline(always)]
-    pub(crate) fn stepped(
-        &mut self,
-        alloc: Global,
-        proc: ProcId,
-        begun: Place,
-        step: Step,
-        done: &mut Done,
-    ) -> Result<(), NoMemory>
-        requires fresh { IsFresh done.old }
-        requires own { proc.node ≡ self.old.desk.node }
-        requires at { IsAtEvent P.spent P.wants self.old }
-        requires program { IsSome (program_in self.old.programs.items proc.number) }
-        requires wanted { IsWanted (want_at self.old.procs proc.number) }
-        requires there { IsSome (seen_step step) }
-        requires fits { (op : Op) → want_at self.old.procs proc.number ≡ Do op → TellsTurn (FitsTurn op) step }
-        requires asks { TellsTurn (IsAsked self.old.desk.nodes) step }
-        ensures { OnOk result (IfSome (seen_step step) (λ o. Turns P.spent P.wants P.becomes self.old self.new done.new proc.number begun o.turn o.dropped)) }
-    {
-        match step {
-            Step::End(reply, dropped) => self.ends(alloc, proc, reply, dropped, done),
-            Step::Send(home, body, dropped) => {
-                self.asks(proc, begun, home, body, dropped, done);
-                Ok(())
-            }
-            Step::Wait(uid, page, dropped) => {
+            DeskMove::Waits(uid, page, dropped) => {
                 self.waits(proc, begun, uid, page, dropped, done);
                 Ok(())
             }
@@ -169,23 +132,25 @@ impl<P: Program, G: Pages> Machine<P, G> {
     #[inline(always)]
     pub(crate) fn asks(
         &mut self,
+        alloc: Global,
         proc: ProcId,
         begun: Place,
         home: NodeId,
-        body: Body,
+        request: Request,
         dropped: Dropped,
         done: &mut Done,
-    )
+    ) -> Result<(), NoMemory>
         requires fresh { IsFresh done.old }
         requires own { proc.node ≡ self.old.desk.node }
         requires at { IsAtEvent P.spent P.wants self.old }
-        requires asks { IsSome (ask_of body) }
-        requires range { IsBody home body }
-        ensures { IfSome (ask_of body) (λ ask. Turns P.spent P.wants P.becomes self.old self.new done.new proc.number begun (Turn.Asks home ask) dropped) }
+        requires range { IsBody home (body_of_ask request) }
+        ensures { OnOk result (Turns P.spent P.wants P.becomes self.old self.new done.new proc.number begun (Turn.Asks home request) dropped) }
     {
-        let number = self.procs[index_of(proc)].call(begun, home, &body);
-        let frame = Frame::new(self.node(), home, proc.number(), number, self.tick, body);
-        self.sends(frame, dropped, done)
+        let number = self.procs[index_of(proc)].call(alloc, begun, home, &request)?;
+        let (from, body) = (self.node(), request.into_body());
+        let frame = Frame::new(from, home, proc.number(), number, self.tick, body);
+        self.sends(frame, dropped, done);
+        Ok(())
     }
 
     /// A frame is sent: the next one on its link.

@@ -20,6 +20,7 @@ use Rattle.dom_history.specs.Events.{ArePagesRising, page_lt}
 use Rattle.dom_history.specs.Fitting.{Fits}
 use Rattle.dom_history.specs.Objects.{is_node}
 use Rattle.dom_history.specs.Ranges.{IsOp, IsNamedReply}
+use Rattle.dom_history.proofs.Fitting.{fits-locks}
 use Rattle.ring_messages.specs.Bodies.{Ask, Answer, answer_of, body_of_answer}
 use Rattle.ring_messages.specs.declared.body.Body.{Body}
 use Rattle.ring_messages.specs.Ranges.{IsBody}
@@ -100,14 +101,14 @@ calling d p (ops.Unmap u) ask is call = call
 desk-named : (op : Op) (reply : Reply) → IsDeskOp op → Fits op reply → IsNamedReply reply
 desk-named (ops.New home kind room) (replies.Made u) is fits = absurd is
 desk-named (ops.List home after) (replies.Made u) is fits = absurd is
-desk-named (ops.Lock v m) (replies.Made u) is fits = absurd fits
-desk-named (ops.Unlock v) (replies.Made u) is fits = absurd fits
-desk-named (ops.Delete v) (replies.Made u) is fits = absurd fits
-desk-named (ops.Load spot count) (replies.Made u) is fits = absurd fits
-desk-named (ops.Store spot bytes) (replies.Made u) is fits = absurd fits
-desk-named (ops.Length v) (replies.Made u) is fits = absurd fits
-desk-named (ops.Map v) (replies.Made u) is fits = absurd fits
-desk-named (ops.Unmap v) (replies.Made u) is fits = absurd fits
+desk-named (ops.Lock v m) (replies.Made u) is fits = absurd cc
+desk-named (ops.Unlock v) (replies.Made u) is fits = absurd cc
+desk-named (ops.Delete v) (replies.Made u) is fits = absurd cc
+desk-named (ops.Load spot count) (replies.Made u) is fits = absurd cc
+desk-named (ops.Store spot bytes) (replies.Made u) is fits = absurd cc
+desk-named (ops.Length v) (replies.Made u) is fits = absurd cc
+desk-named (ops.Map v) (replies.Made u) is fits = absurd cc
+desk-named (ops.Unmap v) (replies.Made u) is fits = absurd cc
 desk-named op reply is fits = tt
 
 turn-named : (op : Op) (turn : Turn) → IsDeskOp op → FitsTurn op turn → IsNamedTurn turn
@@ -158,7 +159,7 @@ new-moved d p opening home kind room true nodes may range is idle = record {
   fits = tt;
   named = tt;
 }
-new-moved d p opening home kind room false nodes may range is idle = ended-moved d p (ops.New home kind room) replies.NoSpace is idle tt tt
+new-moved d p opening home kind room false nodes may range is idle = ended-moved d p (ops.New home kind room) replies.NoSpace is idle refl tt
 
 list-moved : (d : DeskState) (p : ℕ) (opening : Start) (home : ℕ) (after : Option (ObjectName × ProcName)) (b : Bool) → d.nodes ≡ opening.nodes → is_node opening home ≡ b → IsDesk d → IsIdle d p
     → IsMoved d p (ops.List home after) (list_by d home after b)
@@ -169,7 +170,7 @@ list-moved d p opening home after true nodes may is idle = record {
   fits = tt;
   named = tt;
 }
-list-moved d p opening home after false nodes may is idle = ended-moved d p (ops.List home after) (replies.Locks [] false) is idle (omega arith) tt
+list-moved d p opening home after false nodes may is idle = ended-moved d p (ops.List home after) (replies.Locks [] false) is idle refl tt
 
 module _ (d : DeskState) (p : ℕ) (is : IsDesk d) (proc : IsProc p) where
   -- whatever made the desk move for the operation
@@ -208,14 +209,14 @@ module _ (d : DeskState) (p : ℕ) (is : IsDesk d) (proc : IsProc p) where
   -- an answer that says something came to a New or a List
   new-answered : (home : ℕ) (kind : ObjKind) (room : ℕ) (x : Answer) (said : Said) → IsIdle d p → IsNamedBody (body_of_answer x) → said_to_new x ≡ Some said → Holds p (IsMoved d p (ops.New home kind room)) (answered d p said)
   new-answered home kind room (Answer.Made u) said idle named says =
-      subst (λ s. Holds p (IsMoved d p (ops.New home kind room)) (answered d p s)) (same_Some (Said.Replies (replies.Made u)) said says) (ended-moved d p (ops.New home kind room) (replies.Made u) is idle tt named)
+      subst (λ s. Holds p (IsMoved d p (ops.New home kind room)) (answered d p s)) (same_Some (Said.Replies (replies.Made u)) said says) (ended-moved d p (ops.New home kind room) (replies.Made u) is idle refl named)
   new-answered home kind room Answer.NoSpace said idle named says =
-      subst (λ s. Holds p (IsMoved d p (ops.New home kind room)) (answered d p s)) (same_Some (Said.Replies replies.NoSpace) said says) (ended-moved d p (ops.New home kind room) replies.NoSpace is idle tt tt)
+      subst (λ s. Holds p (IsMoved d p (ops.New home kind room)) (answered d p s)) (same_Some (Said.Replies replies.NoSpace) said says) (ended-moved d p (ops.New home kind room) replies.NoSpace is idle refl tt)
   new-answered home kind room x said idle named says = absurd (cc)
 
   list-answered : (home : ℕ) (after : Option (ObjectName × ProcName)) (x : Answer) (said : Said) → IsIdle d p → IsBody d.node (body_of_answer x) → said_to_list x ≡ Some said → Holds p (IsMoved d p (ops.List home after)) (answered d p said)
   list-answered home after (Answer.Listed rows more) said idle range says =
-      subst (λ s. Holds p (IsMoved d p (ops.List home after)) (answered d p s)) (same_Some (Said.Replies (replies.Locks rows more)) said says) (ended-moved d p (ops.List home after) (replies.Locks rows more) is idle range.0 tt)
+      subst (λ s. Holds p (IsMoved d p (ops.List home after)) (answered d p s)) (same_Some (Said.Replies (replies.Locks rows more)) said says) (ended-moved d p (ops.List home after) (replies.Locks rows more) is idle (fits-locks rows more range.0) tt)
   list-answered home after x said idle range says = absurd (cc)
 
   -- which call it is that is none of a lock, an unlock or a removal
@@ -299,8 +300,8 @@ module _ (d : DeskState) (p : ℕ) (is : IsDesk d) (proc : IsProc p) where
 
   -- a call that is given up
   pub failed-moved : (op : Op) (ask : Ask) → IsCalling d p op ask → (m : Moved) × (failed d p op ≡ Some m) × IsMoved d p op m
-  failed-moved (ops.New home kind room) ask calls = (ended d replies.LinkFault, refl, ended-moved d p (ops.New home kind room) replies.LinkFault is calls.0 tt tt)
-  failed-moved (ops.List home after) ask calls = (ended d replies.LinkFault, refl, ended-moved d p (ops.List home after) replies.LinkFault is calls.0 tt tt)
+  failed-moved (ops.New home kind room) ask calls = (ended d replies.LinkFault, refl, ended-moved d p (ops.New home kind room) replies.LinkFault is calls.0 refl tt)
+  failed-moved (ops.List home after) ask calls = (ended d replies.LinkFault, refl, ended-moved d p (ops.List home after) replies.LinkFault is calls.0 refl tt)
   failed-moved (ops.Lock u m) ask calls = given-up (ops.Lock u m) ask tt calls
   failed-moved (ops.Unlock u) ask calls = given-up (ops.Unlock u) ask tt calls
   failed-moved (ops.Delete u) ask calls = given-up (ops.Delete u) ask tt calls

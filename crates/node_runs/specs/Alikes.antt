@@ -1,12 +1,14 @@
 -- Nodes that differ only in what their programs heard before, and in the order in which marks were taken: an event does
 -- the same at each of them.
 use Rattle.std.specs.Prelude.{◌≡◌, ℕ, true, Some, [], ◌++◌, length, map}
+use Rattle.dom_history.specs.declared.event.What.{What}
 use Rattle.dom_history.specs.declared.op.Want.TheVariants.{Do}
 use Rattle.dom_history.specs.Follows.{Heard}
 use Rattle.node_runs.specs.Setups.{Given}
 use Rattle.node_runs.specs.NodeStates.{OpenOp, ProcState, NodeState, proc_of, is_marked}
-use Rattle.node_runs.specs.Incomings.{has_program}
+use Rattle.node_runs.specs.Incomings.{Incoming, has_program, enabled}
 use Rattle.node_runs.specs.Outcomes.{Stepped}
+use Rattle.node_runs.specs.Steps.{named_step}
 
 pub record AreAlikeProcs (q r : ProcState) : Type 0 where
   pub doing : q.doing ≡ r.doing
@@ -48,6 +50,11 @@ pub record AreAlikeSteps (n m : NodeState) (s t : Stepped) : Type 0 where
   pub call : s.call ≡ t.call
   pub effects : s.effects ≡ t.effects
   pub note : s.note ≡ t.note
+
+-- the enabled event leaves this at the one node, and at the other what is alike
+abbrev pub DoesAlike : Given → Given → NodeState → NodeState → What → Incoming → Stepped → Type 0
+DoesAlike g h n m what incoming s =
+    enabled g n what incoming ≡ true → named_step g n what incoming ≡ Some s → (t : Stepped) × (named_step h m what incoming ≡ Some t) × AreAlikeSteps n m s t
 
 -- a node as if its programs had heard nothing
 abbrev pub forgetting : ProcState → ProcState

@@ -7,6 +7,7 @@ pub mod Outcomes
 pub mod Doings
 pub mod Rooms
 pub mod Steps
+pub mod RoomMade
 pub mod Dones
 pub mod Runs
 pub mod Deliveries

@@ -7,11 +7,11 @@ use Rattle.dom_history.specs.Objects.{is_node}
 use Rattle.page_server.specs.ServerStates.{IsSide, IsCountedTo}
 use Rattle.fault_handler.specs.Desks.{DeskState}
 use Rattle.fault_handler.specs.Invariant.{IsProc, IsDesk}
-use Rattle.node_runs.specs.Setups.{Given, Setup, IsSetup}
+use Rattle.node_runs.specs.Setups.{Given, IsGiven, Setup, IsSetup}
 use Rattle.node_runs.specs.NodeStates.{NodeState, first_node, proc_of, emitted_to}
 use Rattle.node_runs.specs.Incomings.{Incoming}
 use Rattle.node_runs.specs.Outcomes.{Stepped}
-use Rattle.node_runs.specs.Steps.{step_of}
+use Rattle.node_runs.specs.Steps.{step_of, Dropped, StepsTo}
 use Rattle.node_runs.specs.Runs.{Choice, World, world_after}
 use Rattle.node_runs.specs.Agreements.{Agrees}
 use Rattle.node_runs.specs.Following.{IsFollowed}
@@ -39,6 +39,11 @@ pub record IsCounted (n : NodeState) : Type 0 where
   pub emitted : (to : ℕ) → emitted_to n to ≤ n.tick
   pub last : (p : ℕ) → IsProc p → (proc_of n p).last ≤ n.tick
   pub side : IsCountedTo n.tick n.side
+
+-- it holds of each event that happens at such a node
+abbrev pub AtEachStep : (Given → Stepped → Type 0) → Type 0
+AtEachStep P =
+    (g : Given) (n : NodeState) (what : What) (incoming : Incoming) (dropped : Dropped) (s : Stepped) → IsGiven g → IsNodeOf g n → IsIncoming incoming → StepsTo g n what incoming dropped s → P g s
 
 -- a node that its start led to by steps, whatever it received
 pub data Reached (g : Given) : NodeState → Type 0 where

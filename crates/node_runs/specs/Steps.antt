@@ -1,5 +1,5 @@
 -- One event of a node that drops these pages, where it is enabled and may drop them.
-use Rattle.std.specs.Prelude.{ℕ, Bool, true, false, Option, Some, None, List}
+use Rattle.std.specs.Prelude.{◌≡◌, ℕ, Bool, true, false, Option, Some, None, List}
 use Rattle.std.specs.Option.{option_map}
 use Rattle.uid_names.specs.Names.{ObjectName}
 use Rattle.uid_names.specs.Steps.{◌>>=◌}
@@ -36,3 +36,15 @@ step_of g n what incoming dropped = step_if (enabled g n what incoming) g n what
 -- how an enabled event happens where room is made as the cache names it
 abbrev pub named_step : Given → NodeState → What → Incoming → Option Stepped
 named_step g n what incoming = event_of g (ticked n incoming) what incoming >>= stepped_as_named g (ticked n incoming)
+
+-- the pages that an event drops
+abbrev pub Dropped : Type 0
+Dropped = List (ObjectName × ℕ)
+
+-- the event happens with these pages dropped, and leaves this
+abbrev pub StepsTo : Given → NodeState → What → Incoming → Dropped → Stepped → Type 0
+StepsTo g n what incoming dropped s = step_of g n what incoming dropped ≡ Some s
+
+-- the event happens, where room is made as the cache names it, with the pages that are dropped then
+abbrev pub Happens : Given → NodeState → What → Incoming → Type 0
+Happens g n what incoming = (s : Stepped) × (named_step g n what incoming ≡ Some s) × StepsTo g n what incoming s.effects.dropped s

@@ -2,24 +2,20 @@
 //! proves it.
 ghost use Rattle.std.specs.Prelude.{◌≡◌, ◌+◌, ℕ, max, true, List, [], ◌∷◌, Some, None, IfSome};
 ghost use Rattle.ring_messages.specs.Frames.{IsInRange};
-ghost use Rattle.uid_names.specs.Names.{ObjectName};
 ghost use Rattle.dom_history.specs.declared.event.What.{What};
 ghost use Rattle.dom_history.specs.Events.{Happening, IsEvent, AreEffects};
 ghost use Rattle.dom_history.specs.Objects.{is_node};
-ghost use Rattle.fault_handler.specs.declared.tasks.Task.{Task};
-ghost use Rattle.fault_handler.specs.Desks.{DeskState};
-ghost use Rattle.fault_handler.specs.Victims.{Victim, MayMakeRoom};
-ghost use Rattle.fault_handler.specs.Accesses.{Accessed, room_made};
 ghost use Rattle.node_runs.specs.Setups.{Given, IsGiven, Setup, IsSetup, given};
-ghost use Rattle.node_runs.specs.NodeStates.{BegunOp, NodeState, first_node};
+ghost use Rattle.node_runs.specs.NodeStates.{NodeState, first_node};
 ghost use Rattle.node_runs.specs.Incomings.{Incoming, tick_of, enabled};
-ghost use Rattle.node_runs.specs.Outcomes.{Stepped, Stage, moved};
-ghost use Rattle.node_runs.specs.Steps.{step_of, named_step};
-ghost use Rattle.node_runs.specs.Alikes.{AreAlikeGiven, AreAlike, AreAlikeSteps};
-ghost use Rattle.node_runs.specs.Doings.{Doing, event_of, ticked};
+ghost use Rattle.node_runs.specs.Outcomes.{Stepped};
+ghost use Rattle.node_runs.specs.Steps.{Dropped, StepsTo, Happens};
+ghost use Rattle.node_runs.specs.RoomMade.{TakesEachVictim, TookSomeVictim};
+ghost use Rattle.node_runs.specs.Alikes.{AreAlikeGiven, AreAlike, DoesAlike};
+ghost use Rattle.node_runs.specs.Doings.{ticked};
 ghost use Rattle.node_runs.specs.Dones.{Did};
 ghost use Rattle.node_runs.specs.SentFrames.{IsIncoming, AreFrames};
-ghost use Rattle.node_runs.specs.NodesKeep.{IsNodeOf, IsCounted, Reached, IsTimely, InEveryRun};
+ghost use Rattle.node_runs.specs.NodesKeep.{IsNodeOf, AtEachStep, IsCounted, Reached, IsTimely, InEveryRun};
 ghost use Rattle.node_runs.specs.Runs.{IsRun, Choice, World, world_after, world_of, AreRising};
 ghost use Rattle.node_runs.specs.CallsKeep.{HasProcs, EachOf, AreCalls};
 ghost use Rattle.node_runs.specs.DecidedCalls.{AreDecisions};
@@ -34,30 +30,24 @@ ghost use Rattle.node_runs.specs.ThirdRun as three;
 /// room are such. No other event happens, and one that happens drops just the pages that it is said to drop.
 pub fn an_enabled_event_happens()
     ensures happens { (g : Given) (n : NodeState) (what : What) (incoming : Incoming) →
-        IsGiven g → IsNodeOf g n → IsIncoming incoming → enabled g n what incoming ≡ true →
-        (s : Stepped) × (named_step g n what incoming ≡ Some s) × (step_of g n what incoming s.effects.dropped ≡ Some s) }
-    ensures only { (g : Given) (n : NodeState) (what : What) (incoming : Incoming) (dropped : List (ObjectName × ℕ)) (s : Stepped) →
-        step_of g n what incoming dropped ≡ Some s → enabled g n what incoming ≡ true }
-    ensures drops { (g : Given) (n : NodeState) (what : What) (incoming : Incoming) (dropped : List (ObjectName × ℕ)) (s : Stepped) →
-        step_of g n what incoming dropped ≡ Some s → s.effects.dropped ≡ dropped }
+        IsGiven g → IsNodeOf g n → IsIncoming incoming → enabled g n what incoming ≡ true → Happens g n what incoming }
+    ensures only { (g : Given) (n : NodeState) (what : What) (incoming : Incoming) (dropped : Dropped) (s : Stepped) →
+        StepsTo g n what incoming dropped s → enabled g n what incoming ≡ true }
+    ensures drops { (g : Given) (n : NodeState) (what : What) (incoming : Incoming) (dropped : Dropped) (s : Stepped) →
+        StepsTo g n what incoming dropped s → s.effects.dropped ≡ dropped }
 {}
 
 /// Which page makes room is free: where an access needs room, it is made in each way in which it may be, with the pages
 /// that are dropped then, and in no other.
 pub fn which_page_makes_room_is_free()
-    ensures each { (g : Given) (n : NodeState) (what : What) (incoming : Incoming) (p : ℕ) (o : BegunOp) (stage : Stage) (d : DeskState) (task : Task) (victim : Victim) →
-        enabled g n what incoming ≡ true → event_of g (ticked n incoming) what incoming ≡ Some (Doing.Moves p o stage (Accessed.NeedsRoom d task)) →
-        MayMakeRoom d victim →
-        step_of g n what incoming (room_made d p task victim).dropped ≡ Some (moved g (ticked n incoming) p o stage (room_made d p task victim)) }
-    ensures only { (g : Given) (n : NodeState) (what : What) (incoming : Incoming) (dropped : List (ObjectName × ℕ)) (s : Stepped) (p : ℕ) (o : BegunOp) (stage : Stage) (d : DeskState) (task : Task) →
-        event_of g (ticked n incoming) what incoming ≡ Some (Doing.Moves p o stage (Accessed.NeedsRoom d task)) → step_of g n what incoming dropped ≡ Some s →
-        (victim : Victim) × MayMakeRoom d victim × (s ≡ moved g (ticked n incoming) p o stage (room_made d p task victim)) }
+    ensures each { (g : Given) (n : NodeState) (what : What) (incoming : Incoming) → TakesEachVictim g n what incoming }
+    ensures only { (g : Given) (n : NodeState) (what : What) (incoming : Incoming) (dropped : Dropped) (s : Stepped) → TookSomeVictim g n what incoming dropped s }
 {}
 
 /// Each step did one of the twelve things that an event can do.
 pub fn each_step_did_one_thing()
-    ensures { (g : Given) (n : NodeState) (what : What) (incoming : Incoming) (dropped : List (ObjectName × ℕ)) (s : Stepped) →
-        step_of g n what incoming dropped ≡ Some s → Did g (ticked n incoming) what incoming s }
+    ensures { (g : Given) (n : NodeState) (what : What) (incoming : Incoming) (dropped : Dropped) (s : Stepped) →
+        StepsTo g n what incoming dropped s → Did g (ticked n incoming) what incoming s }
 {}
 
 /// Nodes that differ only in what their programs heard before and in the order in which marks were taken do the same at
@@ -66,21 +56,20 @@ pub fn an_event_asks_nothing_of_the_past()
     ensures enabled { (g h : Given) (n m : NodeState) (what : What) (incoming : Incoming) →
         AreAlikeGiven g h n m → AreAlike n m → enabled g n what incoming ≡ enabled h m what incoming }
     ensures step { (g h : Given) (n m : NodeState) (what : What) (incoming : Incoming) (s : Stepped) →
-        AreAlikeGiven g h n m → AreAlike n m → enabled g n what incoming ≡ true → named_step g n what incoming ≡ Some s →
-        (t : Stepped) × (named_step h m what incoming ≡ Some t) × AreAlikeSteps n m s t }
+        AreAlikeGiven g h n m → AreAlike n m → DoesAlike g h n m what incoming s }
 {}
 
 /// Each step's tick is one more than the greater of its node's tick and that of what it receives.
 pub fn ticks_rise()
-    ensures { (g : Given) (n : NodeState) (what : What) (incoming : Incoming) (dropped : List (ObjectName × ℕ)) (s : Stepped) →
-        step_of g n what incoming dropped ≡ Some s → s.node.tick ≡ max n.tick (tick_of incoming) + 1 }
+    ensures { (g : Given) (n : NodeState) (what : What) (incoming : Incoming) (dropped : Dropped) (s : Stepped) →
+        StepsTo g n what incoming dropped s → s.node.tick ≡ max n.tick (tick_of incoming) + 1 }
 {}
 
 /// No number is above the tick, so that none of them wraps while ticks are below a limit: each event sends one
 /// frame, makes one call, and gives one grant, one counter and one stamp of an object at most.
 pub fn numbers_are_within_the_tick()
-    ensures step { (g : Given) (n : NodeState) (what : What) (incoming : Incoming) (dropped : List (ObjectName × ℕ)) (s : Stepped) →
-        IsCounted n → step_of g n what incoming dropped ≡ Some s → IsCounted s.node }
+    ensures step { (g : Given) (n : NodeState) (what : What) (incoming : Incoming) (dropped : Dropped) (s : Stepped) →
+        IsCounted n → StepsTo g n what incoming dropped s → IsCounted s.node }
     ensures first { (s : Setup) → IsSetup s → (n : ℕ) → IsCounted (first_node (given s n)) }
 {}
 
@@ -107,12 +96,9 @@ pub fn what_a_setup_gives()
 /// one. An open operation is what its program wants, and each program was told what fits, and of no object but real ones.
 /// What a node sends is a frame in its range, and what the journal has of its events is what each event's effects keep.
 pub fn each_reached_node_agrees_with_its_desk()
-    ensures step { (g : Given) (n : NodeState) (what : What) (incoming : Incoming) (dropped : List (ObjectName × ℕ)) (s : Stepped) →
-        IsGiven g → IsNodeOf g n → IsIncoming incoming → step_of g n what incoming dropped ≡ Some s → IsNodeOf g s.node }
-    ensures sends { (g : Given) (n : NodeState) (what : What) (incoming : Incoming) (dropped : List (ObjectName × ℕ)) (s : Stepped) →
-        IsGiven g → IsNodeOf g n → IsIncoming incoming → step_of g n what incoming dropped ≡ Some s → IfSome s.frame IsInRange }
-    ensures effects { (g : Given) (n : NodeState) (what : What) (incoming : Incoming) (dropped : List (ObjectName × ℕ)) (s : Stepped) →
-        IsGiven g → IsNodeOf g n → IsIncoming incoming → step_of g n what incoming dropped ≡ Some s → AreEffects s.effects }
+    ensures step { AtEachStep (λ g s. IsNodeOf g s.node) }
+    ensures sends { AtEachStep (λ g s. IfSome s.frame IsInRange) }
+    ensures effects { AtEachStep (λ g s. AreEffects s.effects) }
     ensures reached { (g : Given) → IsGiven g → (n : NodeState) → Reached g n → IsNodeOf g n }
 {}
 

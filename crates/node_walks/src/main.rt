@@ -3,8 +3,8 @@
 //! standard output, and the exit status is 1 where one came out otherwise than it says.
 //!
 //! A file of cases is written by hand, and needs no proof: put it into `data/`, its name into `stdin`, and what is to be written
-//! into `stdout`. A case begins with a line `== NAME`. Behind it stand its script, a journal of it up to the end of its last
-//! phase, and what its processes answer, each behind a line of its own:
+//! into `stdout`. How a case is written, the crate case_files says. The journal goes up to the end of the script's last phase, and the
+//! report is what the processes answer:
 //!
 //! ```text
 //! == one object
@@ -21,18 +21,16 @@
 //! a.1 1 ok 0000000000200001
 //! ```
 //!
-//! A line `spoiled` before the script says that the case is wrong on purpose, and is to come out otherwise. Empty lines do not
-//! count, nor does a line before the script that begins with `#`. The nodes of a script are `a` and `b`.
+//! A head has no line but `spoiled`. The nodes of a script are `a` and `b`.
 #![tactic(auto)]
 
-mod case;
 mod nodes;
 mod play;
 
-use anyhow::Result;
-use case::Case;
+use anyhow::{Result, bail};
+use case_files::{FileCase, read_cases};
 use play::{Found, play_case};
-use std::{fs, mem};
+use std::fs;
 
 /// How many cases were tried, how many events their journals have, and how many cases came out otherwise than they are to.
 #[derive(Clone, Copy)]
@@ -48,23 +46,26 @@ fn is_as_said(found: Found) -> bool {
 }
 
 /// Tells of a case.
-fn tell(rt: &HostRuntime, case: &Case, found: Found) -> Result<()> {
-    let wrong = if is_as_said(found) == case.is_spoiled() {
+fn tell(rt: &HostRuntime, case: &FileCase, found: Found) -> Result<()> {
+    let wrong = if is_as_said(found) == case.spoiled {
         "WRONG, "
     } else {
         ""
     };
     match found {
-        Found::AsSaid => println!(rt; "  {}: {wrong}as it says", case.name())?,
-        Found::Event(tick) => println!(rt; "  {}: {wrong}otherwise at tick {tick}", case.name())?,
-        Found::End => println!(rt; "  {}: {wrong}another end", case.name())?,
-        Found::Answers => println!(rt; "  {}: {wrong}other answers", case.name())?,
+        Found::AsSaid => println!(rt; "  {}: {wrong}as it says", case.name)?,
+        Found::Event(tick) => println!(rt; "  {}: {wrong}otherwise at tick {tick}", case.name)?,
+        Found::End => println!(rt; "  {}: {wrong}another end", case.name)?,
+        Found::Answers => println!(rt; "  {}: {wrong}other answers", case.name)?,
     }
     Ok(())
 }
 
 /// Tries a case, and tells of it.
-fn try_one(rt: &HostRuntime, case: &Case, tally: Tally) -> Result<Tally> {
+fn try_one(rt: &HostRuntime, case: &FileCase, tally: Tally) -> Result<Tally> {
+    if let Some(line) = case.head.first() {
+        bail!("no case has a line {line} before its script");
+    }
     let (found, events) = play_case(rt.alloc(), case)?;
     tell(rt, case, found)?;
     Ok(Tally {
@@ -72,33 +73,17 @@ fn try_one(rt: &HostRuntime, case: &Case, tally: Tally) -> Result<Tally> {
         events: tally.events.saturating_add(events),
         wrong: tally
             .wrong
-            .saturating_add(u64::from(is_as_said(found) == case.is_spoiled())),
+            .saturating_add(u64::from(is_as_said(found) == case.spoiled)),
     })
 }
 
 /// Tries each case of a file.
 fn try_file(rt: &HostRuntime, path: &str, mut tally: Tally) -> Result<Tally> {
     let text = fs::read_to_string(rt, path)?;
-    let mut case = None;
-    for line in text.as_str().lines() {
-        match line.strip_prefix("== ") {
-            Some(name) => {
-                let before = mem::replace(&mut case, Some(Case::new(rt.alloc(), name)?));
-                if let Some(before) = before {
-                    tally = try_one(rt, &before, tally)?;
-                }
-            }
-            None => {
-                if let Some(open) = &mut case {
-                    open.take_line(line)?;
-                }
-            }
-        }
+    for case in read_cases(rt.alloc(), text.as_str())? {
+        tally = try_one(rt, &case, tally)?;
     }
-    match case {
-        Some(last) => try_one(rt, &last, tally),
-        None => Ok(tally),
-    }
+    Ok(tally)
 }
 
 fn main(rt: HostRuntime) -> Result<()> {

@@ -13,10 +13,15 @@ use std::alloc::Global;
 use uid_names::{NodeId, ProcId};
 
 /// A node whose processes are shells.
-pub(crate) type ShellNode = Node<Shell, ListPages>;
+pub(crate) type ShellNode<'a> = Node<Shell<'a>, ListPages>;
 
 /// Adds the program of a process, if it has commands.
-fn add(alloc: Global, script: &Script, proc: ProcId, programs: &mut Vec<(u8, Shell)>) -> Result<()>
+fn add<'a>(
+    alloc: Global,
+    script: &'a Script,
+    proc: ProcId,
+    programs: &mut Vec<(u8, Shell<'a>)>,
+) -> Result<()>
     requires number { IsProcNumber proc.number }
     requires before { AreBeginners proc.number programs.old.items }
     ensures { OnOk result (AreBeginners (proc.number + 1) programs.new.items) }
@@ -28,7 +33,7 @@ fn add(alloc: Global, script: &Script, proc: ProcId, programs: &mut Vec<(u8, She
 }
 
 /// The programs of a node.
-fn programs(alloc: Global, script: &Script, node: NodeId) -> Result<Vec<(u8, Shell)>>
+fn programs(alloc: Global, script: &Script, node: NodeId) -> Result<Vec<(u8, Shell<'_>)>>
     ensures { IfOk result (λ programs. AreBeginners 5 programs.items) }
 {
     let mut programs = Vec::new(alloc);
@@ -42,7 +47,7 @@ fn programs(alloc: Global, script: &Script, node: NodeId) -> Result<Vec<(u8, She
 }
 
 /// A node at the start.
-fn node(alloc: Global, script: &Script, number: u8, frames: u16) -> Result<ShellNode>
+fn node(alloc: Global, script: &Script, number: u8, frames: u16) -> Result<ShellNode<'_>>
     requires content { IsContent script.now }
     requires number { number ≤ script.now.opening.nodes }
     requires few { 5 ≤ frames }
@@ -63,7 +68,7 @@ fn node(alloc: Global, script: &Script, number: u8, frames: u16) -> Result<Shell
 }
 
 /// All nodes of a script, by number.
-pub(crate) fn nodes(alloc: Global, script: &Script) -> Result<Vec<ShellNode>> {
+pub(crate) fn nodes(alloc: Global, script: &Script) -> Result<Vec<ShellNode<'_>>> {
     let mut nodes = Vec::new(alloc);
     for (i, row) in script.nodes().iter().enumerate() {
         nodes.push(node(alloc, script, i as u8 + 1, row.frames)?)?;

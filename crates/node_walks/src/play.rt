@@ -1,7 +1,7 @@
 //! Plays a journal at the nodes of its script, event by event.
-use crate::case::Case;
 use crate::nodes::{ShellNode, nodes};
 use anyhow::Result;
+use case_files::FileCase;
 use dom_history::{Event, EventList, NodeNames, What};
 use journal_text::read_journal;
 use node_core::{Emitted, Incoming};
@@ -35,15 +35,15 @@ struct SentFrame {
 
 /// Nodes, all frames that they sent, and the marks: their node, phase and tick.
 #[derive(Drop)]
-struct Play {
+struct Play<'a> {
     alloc: Global,
-    nodes: Vec<ShellNode>,
+    nodes: Vec<ShellNode<'a>>,
     frames: Vec<SentFrame>,
     marks: Vec<(NodeId, u32, u64)>,
 }
 
-impl Play {
-    fn new(alloc: Global, nodes: Vec<ShellNode>) -> Play {
+impl<'a> Play<'a> {
+    fn new(alloc: Global, nodes: Vec<ShellNode<'a>>) -> Play<'a> {
         Play {
             alloc,
             nodes,
@@ -148,7 +148,7 @@ fn sent(alloc: Global, index: u64, frame: &Frame) -> Result<SentFrame, NoMemory>
 /// An event at a node; what it emits, if it was enabled and did what was written of it.
 fn happen(
     alloc: Global,
-    node: &mut ShellNode,
+    node: &mut ShellNode<'_>,
     event: &Event,
     incoming: &Incoming,
 ) -> Result<Option<Emitted>, NoMemory> {
@@ -181,7 +181,12 @@ fn names(alloc: Global) -> Result<NodeNames, NoMemory> {
 }
 
 /// Adds the answers of a node's processes to a report.
-fn tell(alloc: Global, name: &str, node: ShellNode, report: &mut ByteList) -> Result<(), NoMemory> {
+fn tell(
+    alloc: Global,
+    name: &str,
+    node: ShellNode<'_>,
+    report: &mut ByteList,
+) -> Result<(), NoMemory> {
     let (_, programs) = node.into_parts();
     for (proc, shell) in programs.iter() {
         for (i, answer) in shell.answers().iter().enumerate() {
@@ -195,7 +200,7 @@ fn tell(alloc: Global, name: &str, node: ShellNode, report: &mut ByteList) -> Re
 }
 
 /// The nodes of a script at the start.
-fn begun(alloc: Global, script: &Script) -> Result<Play> {
+fn begun(alloc: Global, script: &Script) -> Result<Play<'_>> {
     Ok(Play::new(alloc, nodes(alloc, script)?))
 }
 
@@ -206,7 +211,7 @@ fn events(alloc: Global, journal: &[u8]) -> Result<EventList> {
 }
 
 /// Does events; the tick of the first that was not enabled, or did something else.
-fn first_wrong(play: &mut Play, events: &[Event]) -> Result<Option<u64>> {
+fn first_wrong(play: &mut Play<'_>, events: &[Event]) -> Result<Option<u64>> {
     for event in events {
         if !play.step(event)? {
             return Ok(Some(event.place().tick));
@@ -216,7 +221,7 @@ fn first_wrong(play: &mut Play, events: &[Event]) -> Result<Option<u64>> {
 }
 
 /// What is found behind the last event.
-fn found_at_end(play: Play, phases: u32, report: &[u8]) -> Result<Found, NoMemory> {
+fn found_at_end(play: Play<'_>, phases: u32, report: &[u8]) -> Result<Found, NoMemory> {
     if !play.has_ended(phases) {
         return Ok(Found::End);
     }
@@ -229,10 +234,14 @@ fn found_at_end(play: Play, phases: u32, report: &[u8]) -> Result<Found, NoMemor
 }
 
 /// Plays a case; what was found of it, and how many events its journal has.
-pub(crate) fn play_case(alloc: Global, case: &Case) -> Result<(Found, u64)> {
+pub(crate) fn play_case(alloc: Global, case: &FileCase) -> Result<(Found, u64)> {
     let script = read_script(alloc, case.script.bytes())?;
     let mut play = begun(alloc, &script)?;
-    let events = events(alloc, case.journal.bytes())?;
+    let journal = match &case.journal {
+        Some(journal) => journal.bytes(),
+        None => b"",
+    };
+    let events = events(alloc, journal)?;
     let count = events.items().len() as u64;
     if let Some(tick) = first_wrong(&mut play, events.items())? {
         return Ok((Found::Event(tick), count));

@@ -22,6 +22,10 @@ home_code =
     code_by (ℕ × (List ObjectRow × (ℕ × Volume))) (coded× coded_ℕ (coded× (coded_list object_row.the_row.coded) (coded× coded_ℕ volume_code)))
     (λ home. (home.node, (home.objects, (home.greatest, home.pages)))) (λ p. record { node = p.0; objects = p.1.0; greatest = p.1.1.0; pages = p.1.1.1 }) (λ _. refl)
 
+-- the attributes of the object with this counter, where it is there
+abbrev pub attr_in : HomeState → ℕ → Option Attr
+attr_in home counter = attr_at home.objects counter
+
 -- the attributes of an object, where it is there; an object of another home is not
 abbrev pub attr_of : HomeState → ObjectName → Option Attr
 attr_of home uid = if uid.home == home.node then attr_at home.objects uid.counter else None

@@ -4,8 +4,8 @@ ghost use Rattle.std.specs.Option.{option_map};
 ghost use Rattle.uid_names.specs.Names.{ObjectName};
 ghost use Rattle.uid_names.specs.declared.mode.ObjKind.{ObjKind};
 ghost use Rattle.object_store.specs.declared.attributes.Attr.{Attr};
-ghost use Rattle.object_store.specs.Objects.{attr_at, changed_if, fresh, stamped, resized};
-ghost use Rattle.object_store.specs.HomeStates.{HomeState, attr_of, after_make, after_remove, after_page, after_length};
+ghost use Rattle.object_store.specs.Objects.{changed_if, fresh, stamped, resized};
+ghost use Rattle.object_store.specs.HomeStates.{HomeState, attr_in, attr_of, after_make, after_remove, after_page, after_length};
 ghost use Rattle.object_store.specs.Kept.{IsAttr, IsHome};
 
 use crate::homes::Home;
@@ -15,16 +15,16 @@ use uid_names::laws::may_cross_threads;
 /// A change of a home changes the attributes of the object that it names, and of no other.
 pub fn changes_are_local()
     ensures make { (home : HomeState) (kind : ObjKind) (room q : ℕ) → IsHome home →
-        attr_at (after_make home kind room).objects q
-        ≡ (if q == home.greatest + 1 then Some (fresh kind room) else attr_at home.objects q) }
+        attr_in (after_make home kind room) q
+        ≡ (if q == home.greatest + 1 then Some (fresh kind room) else attr_in home q) }
     ensures remove { (home : HomeState) (counter q : ℕ) →
-        attr_at (after_remove home counter).objects q ≡ (if q == counter then None else attr_at home.objects q) }
+        attr_in (after_remove home counter) q ≡ (if q == counter then None else attr_in home q) }
     ensures page { (home : HomeState) (counter page q : ℕ) (bytes : List ℕ) →
-        attr_at (after_page home counter page bytes).objects q
-        ≡ option_map (changed_if (q == counter) stamped) (attr_at home.objects q) }
+        attr_in (after_page home counter page bytes) q
+        ≡ option_map (changed_if (q == counter) stamped) (attr_in home q) }
     ensures length { (home : HomeState) (counter length q : ℕ) →
-        attr_at (after_length home counter length).objects q
-        ≡ option_map (changed_if (q == counter) (resized length)) (attr_at home.objects q) }
+        attr_in (after_length home counter length) q
+        ≡ option_map (changed_if (q == counter) (resized length)) (attr_in home q) }
 {}
 
 /// The attributes of an object that is there are in their ranges.

@@ -3,7 +3,5 @@
 
 pub mod cache;
 mod slots;
-#[cfg(test)]
-mod tests;
 
 pub use cache::{Cache, PageList};

@@ -4,3 +4,6 @@ pub mod Serving
 pub mod ServerStates
 pub mod Outcomes
 pub mod Wants
+pub mod NewNumbers
+pub mod Taken
+pub mod Afterwards

@@ -1,24 +1,21 @@
 //! Laws of what a home does at a request. Each stands on a function without a body, so that the check
 //! proves it.
-ghost use Rattle.std.specs.Prelude.{◌≡◌, ℕ, ◌+◌, ◌*◌, ◌<◌, ◌≤◌, IsTrue, true, false, List, Option, Some, None};
-ghost use Rattle.std.specs.Option.{option_map};
+ghost use Rattle.std.specs.Prelude.{◌≡◌, ℕ, ◌<◌, ◌≤◌, IsTrue, false, None};
 ghost use Rattle.uid_names.specs.Names.{ProcName, ObjectName, same_proc};
-ghost use Rattle.uid_names.specs.declared.mode.ObjKind.{ObjKind};
-ghost use Rattle.object_store.specs.declared.attributes.Attr.{Attr};
-ghost use Rattle.uid_names.specs.declared.limits.TheConstants.{PAGE_BYTES};
-ghost use Rattle.object_store.specs.HomeStates.{HomeState, attr_of};
+ghost use Rattle.object_store.specs.HomeStates.{HomeState};
 ghost use Rattle.object_store.specs.Kept.{IsHome};
-ghost use Rattle.lock_manager.specs.Grants.{grant_of};
 ghost use Rattle.lock_manager.specs.Tables.{Table, IsTable};
-ghost use Rattle.call_once.specs.declared.served.Looked.TheVariants.{Fresh};
-ghost use Rattle.call_once.specs.Calls.{call_of, last_of, looked};
+ghost use Rattle.call_once.specs.Calls.{call_of, last_of};
 ghost use Rattle.ring_messages.specs.Bodies.{Ask, Answer, body_of_ask};
 ghost use Rattle.ring_messages.specs.Ranges.{IsBody};
 ghost use Rattle.page_server.specs.Answers.{IsCarried};
-ghost use Rattle.page_server.specs.Decisions.{decide, is_granted};
-ghost use Rattle.page_server.specs.Outcomes.{is_refusal, is_remove, write_in};
+ghost use Rattle.page_server.specs.Afterwards.{ChangesServed, HoldsAsBefore, IsNewNumber, IsTold, KeepsStamp};
+ghost use Rattle.page_server.specs.Decisions.{decide};
+ghost use Rattle.page_server.specs.NewNumbers.{GrantsNewOnes, MakesNewOnes};
+ghost use Rattle.page_server.specs.Outcomes.{is_refusal, is_remove};
 ghost use Rattle.page_server.specs.Serving.{HomeSide, first_side, serve_of};
 ghost use Rattle.page_server.specs.ServerStates.{IsSide};
+ghost use Rattle.page_server.specs.Taken.{TakesLengths, TakesPages, TookOnStamp};
 
 use crate::server::PageServer;
 use page_store::Pages;
@@ -26,16 +23,14 @@ use uid_names::laws::may_cross_threads;
 
 /// A number is decided once: asked again, it gets the same answer and leaves the home side as it was.
 pub fn a_number_is_decided_once()
-    ensures { (side : HomeSide) (p : ProcName) (number : ℕ) (ask again : Ask) →
-        looked number (last_of p side.served) ≡ Fresh →
+    ensures { (side : HomeSide) (p : ProcName) (number : ℕ) (ask again : Ask) → IsNewNumber side p number →
         serve_of (serve_of side p number ask).side p number again ≡ serve_of side p number ask }
 {}
 
 /// A refused request changes nothing but the last number and answer of its process.
 pub fn a_refusal_changes_nothing()
     ensures refused { (side : HomeSide) (p : ProcName) (number : ℕ) (ask : Ask) (answer : Answer) →
-        (serve_of side p number ask).answer ≡ Some answer → IsTrue (is_refusal answer) →
-        (serve_of side p number ask).side ≡ record side { served = (serve_of side p number ask).side.served } }
+        IsTold side p number ask answer → IsTrue (is_refusal answer) → ChangesServed side p number ask }
     ensures others { (side : HomeSide) (p q : ProcName) (number : ℕ) (ask : Ask) → same_proc p q ≡ false →
         call_of q (serve_of side p number ask).side.served ≡ call_of q side.served }
 {}
@@ -43,28 +38,22 @@ pub fn a_refusal_changes_nothing()
 /// No request but Remove changes what another process holds.
 pub fn a_process_holds_what_it_held()
     ensures { (side : HomeSide) (p q : ProcName) (number : ℕ) (ask : Ask) (u : ObjectName) →
-        is_remove ask ≡ false → same_proc q p ≡ false →
-        grant_of q u (serve_of side p number ask).side.locks.grants ≡ grant_of q u side.locks.grants }
+        is_remove ask ≡ false → same_proc q p ≡ false → HoldsAsBefore q u side (serve_of side p number ask).side }
 {}
 
 /// The stamp of an object never falls.
 pub fn stamps_never_fall()
-    ensures { (side : HomeSide) (p : ProcName) (number : ℕ) (ask : Ask) (u : ObjectName) (before after : Attr) →
-        attr_of side.home u ≡ Some before → attr_of (serve_of side p number ask).side.home u ≡ Some after →
-        before.stamp ≤ after.stamp }
+    ensures { (side : HomeSide) (p : ProcName) (number : ℕ) (ask : Ask) (u : ObjectName) →
+        KeepsStamp u side.home (serve_of side p number ask).side.home }
 {}
 
 /// A counter and a grant are never given twice: each is above all that were given, and at most the
 /// greatest from then on, which never falls.
 pub fn numbers_are_given_once()
-    ensures made { (home : HomeState) (locks : Table) (p : ProcName) (ask : Ask) (u : ObjectName) →
-        (decide home locks p ask).answer ≡ Answer.Made u →
-        (home.greatest < u.counter) × (u.counter ≤ (decide home locks p ask).home.greatest) }
+    ensures made { (home : HomeState) (locks : Table) (p : ProcName) (ask : Ask) → MakesNewOnes home (decide home locks p ask) }
     ensures counters { (home : HomeState) (locks : Table) (p : ProcName) (ask : Ask) →
         home.greatest ≤ (decide home locks p ask).home.greatest }
-    ensures granted { (home : HomeState) (locks : Table) (p : ProcName) (ask : Ask) (grant stamp : ℕ) (kind : ObjKind) (room length : ℕ) →
-        (decide home locks p ask).answer ≡ Answer.Granted grant stamp kind room length →
-        (locks.last < grant) × (grant ≤ (decide home locks p ask).locks.last) }
+    ensures granted { (home : HomeState) (locks : Table) (p : ProcName) (ask : Ask) → GrantsNewOnes locks (decide home locks p ask) }
     ensures grants { (home : HomeState) (locks : Table) (p : ProcName) (ask : Ask) →
         locks.last ≤ (decide home locks p ask).locks.last }
 {}
@@ -82,7 +71,7 @@ pub fn answers_can_be_carried()
     ensures decided { (home : HomeState) (locks : Table) (p : ProcName) (ask : Ask) →
         IsHome home → IsTable locks → IsCarried (decide home locks p ask).answer }
     ensures told { (side : HomeSide) (p : ProcName) (number : ℕ) (ask : Ask) (answer : Answer) →
-        IsSide side → (serve_of side p number ask).answer ≡ Some answer → IsCarried answer }
+        IsSide side → IsTold side p number ask answer → IsCarried answer }
 {}
 
 /// Whatever is asked, a home side stays one.
@@ -101,16 +90,9 @@ pub fn an_old_number_changes_nothing()
 /// A write to what is there, under a grant of its node, is taken exactly on its base, and raises the stamp
 /// by one.
 pub fn a_write_is_taken_on_its_base()
-    ensures page { (home : HomeState) (locks : Table) (p : ProcName) (u : ObjectName) (page grant base : ℕ) (bytes : List ℕ) (before : Attr) →
-        attr_of home u ≡ Some before → page < before.room → is_granted locks grant u p.node ≡ true → base ≡ before.stamp →
-        (decide home locks p (Ask.PageOut u page grant base bytes)).answer ≡ Answer.Stored (before.stamp + 1) }
-    ensures length { (home : HomeState) (locks : Table) (p : ProcName) (u : ObjectName) (length grant base : ℕ) (before : Attr) →
-        attr_of home u ≡ Some before → length ≤ PAGE_BYTES * before.room → is_granted locks grant u p.node ≡ true → base ≡ before.stamp →
-        (decide home locks p (Ask.AttrOut u length grant base)).answer ≡ Answer.Stored (before.stamp + 1) }
-    ensures taken { (home : HomeState) (locks : Table) (p : ProcName) (ask : Ask) (u : ObjectName) (base stamp : ℕ) (before : Attr) →
-        write_in ask ≡ Some (u, base) → attr_of home u ≡ Some before → (decide home locks p ask).answer ≡ Answer.Stored stamp →
-        (base ≡ before.stamp) × (stamp ≡ before.stamp + 1)
-        × (option_map (λ (after : Attr). after.stamp) (attr_of (decide home locks p ask).home u) ≡ Some stamp) }
+    ensures page { (home : HomeState) (locks : Table) (p : ProcName) → TakesPages home locks p }
+    ensures length { (home : HomeState) (locks : Table) (p : ProcName) → TakesLengths home locks p }
+    ensures taken { (home : HomeState) (locks : Table) (p : ProcName) (ask : Ask) → TookOnStamp home ask (decide home locks p ask) }
 {}
 
 /// Threads may hand each other page servers, where they may the pages.

@@ -22,9 +22,7 @@ use ring_messages::{Body, PageBytes};
 use std::alloc::Global;
 use uid_names::{MAX_ROOM, Mode, NoMemory, ObjKind, PAGE_BYTES, ProcId, Uid};
 
-/// A page, where it is there.
-// Not inlined, since `decide` would then blank the room of a page at every request.
-#[inline(never)]
+/// A page, where it is there. It is read to where its answer carries it.
 pub(crate) fn page_in<P: Pages>(
     alloc: Global,
     home: &Home<P>,
@@ -34,13 +32,17 @@ pub(crate) fn page_in<P: Pages>(
     ensures answer { IfOk result (λ answer. answer ≡ page_in home.now uid page) }
     ensures memory { OnErr result (IsTrue (is_page (page_in home.now uid page))) }
 {
-    let mut bytes = [0; PAGE_BYTES];
-    match home.read_page(uid, page, &mut bytes) {
+    if !has_page(home, uid, page) {
+        return Ok(HomeAnswer::new(Body::NoObject));
+    }
+    let mut bytes = Box::new(alloc, [0; PAGE_BYTES])?;
+    match home.read_page(uid, page, &mut *bytes) {
         Ok(stamp) => {
-            let bytes = PageBytes::new(alloc, &bytes)?;
+            let bytes = PageBytes::from_box(bytes);
             Ok(HomeAnswer::new(Body::Page { stamp, bytes }))
         }
-        Err(NoObject) => Ok(HomeAnswer::new(Body::NoObject)),
+        // The page is there.
+        Err(NoObject) => unreachable!(),
     }
 }
 

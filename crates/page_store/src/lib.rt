@@ -7,8 +7,6 @@ pub mod laws;
 pub mod list_pages;
 pub mod pages;
 mod places;
-#[cfg(test)]
-mod tests;
 
 pub use block_pages::BlockPages;
 pub use list_pages::ListPages;

@@ -1,11 +1,11 @@
 //! The plain store's reply to each operation, by what it keeps.
-ghost use Rattle.std.specs.Prelude.{◌≡◌, ◌+◌, ◌≤◌, None, List, IfOk};
+ghost use Rattle.std.specs.Prelude.{◌≡◌, ◌+◌, ◌≤◌, None, List, IsTrue, IfOk};
 ghost use Rattle.uid_names.specs.Openings.{Start};
 ghost use Rattle.dom_history.specs.declared.deed.Deed.{Deed};
 ghost use Rattle.uid_names.specs.Rows.{rows_after};
 ghost use Rattle.dom_history.specs.StoreEffects.{store_effects};
-ghost use Rattle.dom_history.specs.Fitting.{Fits, FitsNew, FitsLock, FitsUnlock, FitsDelete, FitsLoad, FitsStore, FitsLength, FitsMap, FitsUnmap, FitsList};
-ghost use Rattle.plain_store.specs.Kept.{HoldDeeds};
+ghost use Rattle.dom_history.specs.Fitting.{Fits, is_new_reply, is_lock_reply, is_unlock_reply, is_delete_reply, is_load_reply, is_store_reply, is_length_reply, is_map_reply, is_unmap_reply, is_list_reply};
+ghost use Rattle.plain_store.specs.Kept.{HoldDeeds, IsReplyBy};
 ghost use Rattle.plain_store.specs.KeptLengths.{AreShort};
 ghost use Rattle.plain_store.specs.KeptObjects.{HaveSmallCounters};
 ghost use Rattle.dom_history.specs.Locks.{rows};
@@ -25,7 +25,7 @@ use uid_names::{
 fn new_reply(opening: &Opening, kept: &Kept, p: ProcId, home: NodeId, room: u32) -> Reply
     requires { HaveSmallCounters kept.now.objects }
     ensures value { (deeds : List Deed) → HoldDeeds kept.now opening.now deeds → result ≡ new_reply_of (before_of opening.now deeds p) home room }
-    ensures fits { FitsNew result }
+    ensures fits { IsTrue (is_new_reply result) }
     ensures faultless { IsFaultless result }
 {
     if opening.nodes() < home.number() || opening.greatest() < room {
@@ -39,8 +39,8 @@ fn new_reply(opening: &Opening, kept: &Kept, p: ProcId, home: NodeId, room: u32)
 }
 
 fn lock_reply(kept: &Kept, p: ProcId, uid: Uid, mode: Mode) -> Reply
-    ensures value { (opening : Start) → (deeds : List Deed) → HoldDeeds kept.now opening deeds → result ≡ lock_reply_of (before_of opening deeds p) p uid mode }
-    ensures fits { FitsLock result }
+    ensures value { IsReplyBy kept.now p (λ b. lock_reply_of b p uid mode) result }
+    ensures fits { IsTrue (is_lock_reply result) }
     ensures faultless { IsFaultless result }
 {
     if kept.locks.mode_of(p, uid).is_some() {
@@ -59,8 +59,8 @@ fn lock_reply(kept: &Kept, p: ProcId, uid: Uid, mode: Mode) -> Reply
 }
 
 fn unlock_reply(kept: &Kept, p: ProcId, uid: Uid) -> Reply
-    ensures value { (opening : Start) → (deeds : List Deed) → HoldDeeds kept.now opening deeds → result ≡ unlock_reply_of (before_of opening deeds p) uid }
-    ensures fits { FitsUnlock result }
+    ensures value { IsReplyBy kept.now p (λ b. unlock_reply_of b uid) result }
+    ensures fits { IsTrue (is_unlock_reply result) }
     ensures faultless { IsFaultless result }
 {
     match kept.locks.mode_of(p, uid) {
@@ -70,8 +70,8 @@ fn unlock_reply(kept: &Kept, p: ProcId, uid: Uid) -> Reply
 }
 
 fn delete_reply(kept: &Kept, p: ProcId, uid: Uid) -> Reply
-    ensures value { (opening : Start) → (deeds : List Deed) → HoldDeeds kept.now opening deeds → result ≡ delete_reply_of (before_of opening deeds p) uid }
-    ensures fits { FitsDelete result }
+    ensures value { IsReplyBy kept.now p (λ b. delete_reply_of b uid) result }
+    ensures fits { IsTrue (is_delete_reply result) }
     ensures faultless { IsFaultless result }
 {
     match kept.locks.mode_of(p, uid) {
@@ -89,8 +89,8 @@ fn load_reply(
     count: u32,
 ) -> Result<Reply, NoMemory>
     requires { offset_in_page spot + count ≤ PAGE_BYTES }
-    ensures value { IfOk result (λ reply. (opening : Start) → (deeds : List Deed) → HoldDeeds kept.now opening deeds → reply ≡ load_reply_of (before_of opening deeds p) (target opening (store_effects deeds) p spot) count) }
-    ensures fits { IfOk result (FitsLoad spot count) }
+    ensures value { IfOk result (IsReplyBy kept.now p (λ b. load_reply_of b (target b.opening b.past p spot) count)) }
+    ensures fits { IfOk result (λ reply. IsTrue (is_load_reply spot count reply)) }
     ensures faultless { IfOk result IsFaultless }
 {
     match kept.maps.target_of(p, spot) {
@@ -109,8 +109,8 @@ fn load_reply(
 }
 
 fn store_reply(kept: &Kept, p: ProcId, spot: Spot, bytes: &[u8]) -> Reply
-    ensures value { (opening : Start) → (deeds : List Deed) → HoldDeeds kept.now opening deeds → result ≡ store_reply_of (before_of opening deeds p) (target opening (store_effects deeds) p spot) bytes.now }
-    ensures fits { FitsStore spot result }
+    ensures value { IsReplyBy kept.now p (λ b. store_reply_of b (target b.opening b.past p spot) bytes.now) result }
+    ensures fits { IsTrue (is_store_reply spot result) }
     ensures faultless { IsFaultless result }
 {
     match kept.maps.target_of(p, spot) {
@@ -132,8 +132,8 @@ fn store_reply(kept: &Kept, p: ProcId, spot: Spot, bytes: &[u8]) -> Reply
 
 fn length_reply(kept: &Kept, p: ProcId, uid: Uid) -> Reply
     requires { AreShort kept.now.lengths }
-    ensures value { (opening : Start) → (deeds : List Deed) → HoldDeeds kept.now opening deeds → result ≡ length_reply_of (before_of opening deeds p) uid }
-    ensures fits { FitsLength result }
+    ensures value { IsReplyBy kept.now p (λ b. length_reply_of b uid) result }
+    ensures fits { IsTrue (is_length_reply result) }
     ensures faultless { IsFaultless result }
 {
     match kept.locks.mode_of(p, uid) {
@@ -144,8 +144,8 @@ fn length_reply(kept: &Kept, p: ProcId, uid: Uid) -> Reply
 
 /// The reply to the mapping of an object that a process holds and has not mapped.
 fn map_anew_reply(kept: &Kept, p: ProcId, uid: Uid) -> Reply
-    ensures value { (opening : Start) → (deeds : List Deed) → HoldDeeds kept.now opening deeds → result ≡ map_anew_reply_of (before_of opening deeds p) p uid None }
-    ensures fits { FitsMap result }
+    ensures value { IsReplyBy kept.now p (λ b. map_anew_reply_of b p uid None) result }
+    ensures fits { IsTrue (is_map_reply result) }
     ensures faultless { IsFaultless result }
 {
     if kept.maps.count_of(p) >= PROCESS_MAPPINGS {
@@ -162,8 +162,8 @@ fn map_anew_reply(kept: &Kept, p: ProcId, uid: Uid) -> Reply
 
 /// The reply to the mapping of an object that a process holds.
 fn map_held_reply(kept: &Kept, p: ProcId, uid: Uid) -> Reply
-    ensures value { (opening : Start) → (deeds : List Deed) → HoldDeeds kept.now opening deeds → result ≡ map_anew_reply_of (before_of opening deeds p) p uid (mapping_of (before_of opening deeds p) p uid) }
-    ensures fits { FitsMap result }
+    ensures value { IsReplyBy kept.now p (λ b. map_anew_reply_of b p uid (mapping_of b p uid)) result }
+    ensures fits { IsTrue (is_map_reply result) }
     ensures faultless { IsFaultless result }
 {
     match kept.maps.address_of(p, uid) {
@@ -176,8 +176,8 @@ fn map_held_reply(kept: &Kept, p: ProcId, uid: Uid) -> Reply
 }
 
 fn map_reply(kept: &Kept, p: ProcId, uid: Uid) -> Reply
-    ensures value { (opening : Start) → (deeds : List Deed) → HoldDeeds kept.now opening deeds → result ≡ map_reply_of (before_of opening deeds p) p uid }
-    ensures fits { FitsMap result }
+    ensures value { IsReplyBy kept.now p (λ b. map_reply_of b p uid) result }
+    ensures fits { IsTrue (is_map_reply result) }
     ensures faultless { IsFaultless result }
 {
     match kept.locks.mode_of(p, uid) {
@@ -187,8 +187,8 @@ fn map_reply(kept: &Kept, p: ProcId, uid: Uid) -> Reply
 }
 
 fn unmap_reply(kept: &Kept, p: ProcId, uid: Uid) -> Reply
-    ensures value { (opening : Start) → (deeds : List Deed) → HoldDeeds kept.now opening deeds → result ≡ unmap_reply_of (before_of opening deeds p) p uid }
-    ensures fits { FitsUnmap result }
+    ensures value { IsReplyBy kept.now p (λ b. unmap_reply_of b p uid) result }
+    ensures fits { IsTrue (is_unmap_reply result) }
     ensures faultless { IsFaultless result }
 {
     match kept.maps.address_of(p, uid) {
@@ -204,7 +204,7 @@ fn list_reply(
     after: Option<(Uid, ProcId)>,
 ) -> Result<Reply, NoMemory>
     ensures value { IfOk result (λ reply. (opening : Start) → (deeds : List Deed) → HoldDeeds kept.now opening deeds → reply ≡ list_reply_of (rows_after after (rows home (store_effects deeds)))) }
-    ensures fits { IfOk result FitsList }
+    ensures fits { IfOk result (λ reply. IsTrue (is_list_reply reply)) }
     ensures faultless { IfOk result IsFaultless }
 {
     let (rows, more) = kept.locks.list(alloc, home, after)?;

@@ -1,13 +1,14 @@
 //! What the plain store keeps beside its deeds, so that no reply needs a pass over them.
-ghost use Rattle.std.specs.Prelude.{◌≡◌, ◌+◌, ◌%◌, ◌≤◌, ℕ, List, [], ◌∷◌, ◌++◌, length, IfOk, IfSome, OnOk, OnErr};
+ghost use Rattle.std.specs.Prelude.{◌≡◌, ◌+◌, ◌%◌, ◌≤◌, ℕ, List, [], ◌∷◌, length, IfOk, IfSome, OnOk, OnErr};
 ghost use Rattle.uid_names.specs.Names.{ObjectName};
 ghost use Rattle.uid_names.specs.Openings.{Start, IsStart};
 ghost use Rattle.dom_history.specs.declared.deed.Deed.{Deed};
-ghost use Rattle.dom_history.specs.StoreEffects.{StoreEffect, store_effect};
+ghost use Rattle.dom_history.specs.StoreEffects.{StoreEffect};
 ghost use Rattle.dom_history.specs.Bytes.{byte_after, end_after};
 ghost use Rattle.dom_history.specs.Fitting.{Fits};
 ghost use Rattle.plain_store.specs.KeptLengths.{length_in, HoldLengths, HasLengthRoom};
-ghost use Rattle.plain_store.specs.KeptMaps.{HoldMaps, target_given};
+ghost use Rattle.plain_store.specs.Kept.{TakeBytes, TakeLengths};
+ghost use Rattle.plain_store.specs.KeptMaps.{target_given};
 ghost use Rattle.plain_store.specs.KeptPages.{byte_in, HoldBytes};
 ghost use Rattle.dom_history.specs.Objects.{IsOfMade};
 ghost use Rattle.dom_history.specs.Ranges.{IsOp};
@@ -55,8 +56,8 @@ fn write(
 ) -> Result<(), NoMemory>
     requires room { HasLengthRoom lengths.old }
     requires range { IsOp deed.now.op }
-    ensures bytes { OnOk result ((opening : Start) → (past : List StoreEffect) → HoldMaps maps.now opening past → HoldBytes pages.old opening past → HoldBytes pages.new opening (store_effect deed.now.proc deed.now.op deed.now.reply ++ past)) }
-    ensures ends { OnOk result ((opening : Start) → (past : List StoreEffect) → HoldMaps maps.now opening past → HoldLengths lengths.old opening past → HoldLengths lengths.new opening (store_effect deed.now.proc deed.now.op deed.now.reply ++ past)) }
+    ensures bytes { OnOk result (TakeBytes maps.now deed.now pages.old pages.new) }
+    ensures ends { OnOk result (TakeLengths maps.now deed.now lengths.old lengths.new) }
     ensures bytes_stay { OnErr result ((opening : Start) → (past : List StoreEffect) → HoldBytes pages.old opening past → HoldBytes pages.new opening past) }
     ensures lengths_stay { OnErr result ((opening : Start) → (past : List StoreEffect) → HoldLengths lengths.old opening past → HoldLengths lengths.new opening past) }
 {

@@ -1,16 +1,16 @@
 //! The mappings of the plain store.
-ghost use Rattle.std.specs.Prelude.{◌≡◌, ◌+◌, ◌*◌, ◌%◌, ◌<◌, ◌≤◌, ◌&&◌, ◌++◌, not, List, [], None, IfSome, OnOk, filter, find, length};
+ghost use Rattle.std.specs.Prelude.{◌≡◌, ◌+◌, ◌*◌, ◌%◌, ◌<◌, ◌≤◌, ◌&&◌, not, List, [], None, IsTrue, IfSome, OnOk, filter, find, length};
 ghost use Rattle.std.specs.List.{list_all};
 ghost use Rattle.std.specs.Option.{option_map};
 ghost use Rattle.uid_names.specs.Names.{same_proc, same_uid};
 ghost use Rattle.uid_names.specs.Openings.{Start};
 ghost use Rattle.uid_names.specs.Segments.{segments, lies_in, is_apart, is_free_run, lowest_run};
-ghost use Rattle.dom_history.specs.StoreEffects.{StoreEffect, store_effect};
-ghost use Rattle.dom_history.specs.Fitting.{Fits, IsAddress};
+ghost use Rattle.dom_history.specs.StoreEffects.{StoreEffect};
+ghost use Rattle.dom_history.specs.Fitting.{Fits, is_address};
 ghost use Rattle.dom_history.specs.Objects.{IsOfMade};
 ghost use Rattle.dom_history.specs.Mappings.{mappings, target, lowest_run as lowest_run_of};
 ghost use Rattle.dom_history.specs.Ranges.{offset_in_page};
-ghost use Rattle.plain_store.specs.KeptObjects.{HoldObjects};
+ghost use Rattle.plain_store.specs.KeptObjects.{HoldObjects, with_deed};
 ghost use Rattle.plain_store.specs.KeptMaps.{stretch_in, mappings_of, stretches_of, target_given, ChangesMaps};
 
 use crate::objects::ObjectTable;
@@ -210,7 +210,7 @@ impl MapTable {
     pub fn target_of(&self, p: ProcId, spot: Spot) -> Option<(Uid, u32)>
         ensures named { (opening : Start) → (past : List StoreEffect) → HoldMaps self.now opening past → target_given result ≡ target opening past p spot }
         ensures page { IfSome result (λ t. t.1 % PAGE_BYTES ≡ offset_in_page spot) }
-        ensures unmapped { result ≡ None → IsAddress spot }
+        ensures unmapped { result ≡ None → IsTrue (is_address spot) }
     {
         match spot {
             Spot::Of(uid, offset) => Some((uid, offset)),
@@ -250,7 +250,7 @@ impl MapTable {
         requires room { HasRoom self.old }
         requires fits { Fits deed.now.op deed.now.reply }
         requires made { IsOfMade objects.now.made.items deed.now.op deed.now.reply }
-        ensures { (opening : Start) → (past : List StoreEffect) → HoldObjects objects.now opening past → HoldMaps self.old opening past → HoldMaps self.new opening (store_effect deed.now.proc deed.now.op deed.now.reply ++ past) }
+        ensures { (opening : Start) → (past : List StoreEffect) → HoldObjects objects.now opening past → HoldMaps self.old opening past → HoldMaps self.new opening (with_deed deed.now past) }
     {
         match change_of(deed, objects) {
             MapChange::Mapping(mapped) => match self.items.insert(0, mapped) {

@@ -5,6 +5,7 @@ ghost use Rattle.uid_names.specs.Names.{ProcName, ObjectName, same_uid};
 ghost use Rattle.uid_names.specs.Openings.{Start, IsStart};
 ghost use Rattle.uid_names.specs.Beginnings.{at_home};
 ghost use Rattle.dom_history.specs.StoreEffects.{StoreEffect, store_effect};
+ghost use Rattle.plain_store.specs.KeptObjects.{AreDeleted, with_deed};
 ghost use Rattle.dom_history.specs.Objects.{is_named, is_deleted, is_present, made, room_of, room_taken, greatest_counter};
 
 use dom_history::{Deed, Op, Reply};
@@ -107,7 +108,7 @@ fn object_in(objects: &[Object], uid: Uid) -> Option<Object>
 /// Puts the object that a deed made last, for which there is room.
 fn add_made(objects: &mut Vec<Object>, deed: &Deed)
     requires { vec_len objects.old < vec_capacity objects.old }
-    ensures { (opening : Start) → (past : List StoreEffect) → objects.old.items ≡ made opening past → objects.new.items ≡ made opening (store_effect deed.now.proc deed.now.op deed.now.reply ++ past) }
+    ensures { (opening : Start) → (past : List StoreEffect) → objects.old.items ≡ made opening past → objects.new.items ≡ made opening (with_deed deed.now past) }
 {
     if let Some(object) = made_by(&deed.op, &deed.reply) {
         if objects.push(object).is_err() {
@@ -119,7 +120,7 @@ fn add_made(objects: &mut Vec<Object>, deed: &Deed)
 /// Puts in the name of the object that a deed deleted, for which there is room.
 fn add_deleted(names: &mut HashSet<Uid>, deed: &Deed)
     requires { 0 < spare names.old }
-    ensures { (past : List StoreEffect) → ((u : ObjectName) → contains same_uid names.old u ≡ is_deleted u past) → (u : ObjectName) → contains same_uid names.new u ≡ is_deleted u (store_effect deed.now.proc deed.now.op deed.now.reply ++ past) }
+    ensures { (past : List StoreEffect) → AreDeleted names.old past → AreDeleted names.new (with_deed deed.now past) }
 {
     if let Some(uid) = deleted_by(&deed.op, &deed.reply) {
         if names.insert(uid).is_err() {
@@ -207,7 +208,7 @@ impl ObjectTable {
     /// Takes in what a deed does, for which there is room.
     pub fn change(&mut self, deed: &Deed)
         requires { HaveRoom self.old }
-        ensures { (opening : Start) → (past : List StoreEffect) → HoldObjects self.old opening past → HoldObjects self.new opening (store_effect deed.now.proc deed.now.op deed.now.reply ++ past) }
+        ensures { (opening : Start) → (past : List StoreEffect) → HoldObjects self.old opening past → HoldObjects self.new opening (with_deed deed.now past) }
     {
         add_made(&mut self.made, deed);
         add_deleted(&mut self.deleted, deed);

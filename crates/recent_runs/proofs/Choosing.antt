@@ -11,9 +11,9 @@ use Rattle.page_cache.specs.Caches.{Resident, is_page, page_at}
 use Rattle.page_cache.specs.Changes.{without_page}
 use Rattle.page_cache.specs.Victims.{oldest, name_of}
 use Rattle.page_cache.proofs.PageLemmas.{reverse-cons}
-use Rattle.recent_runs.specs.Uses.{same_page, is_older}
-use Rattle.recent_runs.specs.Recent.{AreOlder, AreByUse}
-use Rattle.recent_runs.proofs.Orders.{same_page-self, same_page-is, one-older}
+use Rattle.recent_runs.specs.Uses.{PageName, same_page, is_used_before}
+use Rattle.recent_runs.specs.CacheOrders.{AreUsedBefore, AreByUse}
+use Rattle.recent_runs.proofs.Orders.{same_page-self, same_page-is, one-before}
 use Rattle.recent_runs.proofs.PageNames.{names}
 
 -- the last one that passes
@@ -34,34 +34,44 @@ abbrev pub AreAlike : (Resident → Bool) → (Resident → Bool) → List Resid
 AreAlike test now [] = Unit {0}
 AreAlike test now (q ∷ pages) = (now q ≡ test q) × AreAlike test now pages
 
-module _ (used : List (ObjectName × ℕ)) (test now : Resident → Bool) where
-  -- whether it stays, or was used later than x
-  abbrev pub stays : ObjectName × ℕ → Resident → Bool
-  stays x q = not (now q) || is_older used x (name_of q)
+module _ (used : List PageName) (test now : Resident → Bool) where
+  -- whether it is none that passes now, or was used later than x
+  abbrev pub stays : PageName → Resident → Bool
+  stays x q = not (now q) || is_used_before used x (name_of q)
 
-  none-left : (x : ObjectName × ℕ) (keep : Resident → Bool) (pages : List Resident) → AreAlike test now pages → last test pages ≡ None → Each (stays x) (filter keep pages)
+  -- so of each that passes now
+  pub stays-passing : (x : PageName) (pages : List Resident) → list_all (stays x) pages ≡ list_all (λ q. is_used_before used x (name_of q)) (filter now pages)
+  stays-passing x [] = refl
+  stays-passing x (q ∷ pages) = by (now q) (stays-passing x pages)
+    where
+      by : (b : Bool) → list_all (stays x) pages ≡ list_all (λ q. is_used_before used x (name_of q)) (filter now pages)
+          → ((not b || is_used_before used x (name_of q)) && list_all (stays x) pages) ≡ list_all (λ q. is_used_before used x (name_of q)) (cond b (q ∷ filter now pages) (filter now pages))
+      by true rest = ap (λ c. is_used_before used x (name_of q) && c) rest
+      by false rest = rest
+
+  none-left : (x : PageName) (keep : Resident → Bool) (pages : List Resident) → AreAlike test now pages → last test pages ≡ None → Each (stays x) (filter keep pages)
   none-left x keep [] alike none = refl
   none-left x keep (q ∷ pages) alike none = by (last test pages) refl none (λ is. none-left x keep pages alike.1 is)
     where
       failed : (b : Bool) → test q ≡ b → cond b (Some q) None ≡ None → (rest : Each (stays x) (filter keep pages)) → (k : Bool) → Each (stays x) (cond k (q ∷ filter keep pages) (filter keep pages))
       failed true is none rest k = absurd (cc)
       failed false is none rest false = rest
-      failed false is none rest true = ap (λ b. (not b || is_older used x (name_of q)) && list_all (stays x) (filter keep pages)) (alike.0 ∙ is) ∙ rest
+      failed false is none rest true = ap (λ b. (not b || is_used_before used x (name_of q)) && list_all (stays x) (filter keep pages)) (alike.0 ∙ is) ∙ rest
 
       by : (o : Option Resident) → last test pages ≡ o → option_or o (cond (test q) (Some q) None) ≡ None → (last test pages ≡ None → Each (stays x) (filter keep pages)) → Each (stays x) (cond (keep q) (q ∷ filter keep pages) (filter keep pages))
       by (Some r) is e rest = absurd (cc)
       by None is e rest = failed (test q) refl e (rest is) (keep q)
 
   -- the last one that passes is older than each before it
-  last-older : (x : ObjectName × ℕ) (r : Resident) (pages : List Resident) → last test pages ≡ Some r → AreOlder used x (names pages) → is_older used (name_of r) x ≡ true
+  last-older : (x : PageName) (r : Resident) (pages : List Resident) → last test pages ≡ Some r → AreUsedBefore used x (names pages) → is_used_before used (name_of r) x ≡ true
   last-older x r [] is are = absurd (cc)
   last-older x r (q ∷ pages) is are = by (last test pages) refl is (λ e. last-older x r pages e are.1)
     where
-      this : (b : Bool) → cond b (Some q) None ≡ Some r → is_older used (name_of r) x ≡ true
-      this true e = subst (λ (y : Resident). is_older used (name_of y) x ≡ true) (same_Some q r e) are.0
+      this : (b : Bool) → cond b (Some q) None ≡ Some r → is_used_before used (name_of r) x ≡ true
+      this true e = subst (λ (y : Resident). is_used_before used (name_of y) x ≡ true) (same_Some q r e) are.0
       this false e = absurd (cc)
 
-      by : (o : Option Resident) → last test pages ≡ o → option_or o (cond (test q) (Some q) None) ≡ Some r → (last test pages ≡ Some r → is_older used (name_of r) x ≡ true) → is_older used (name_of r) x ≡ true
+      by : (o : Option Resident) → last test pages ≡ o → option_or o (cond (test q) (Some q) None) ≡ Some r → (last test pages ≡ Some r → is_used_before used (name_of r) x ≡ true) → is_used_before used (name_of r) x ≡ true
       by (Some y) found e rest = rest (found ∙ e)
       by None found e rest = this (test q) e
 
@@ -73,7 +83,7 @@ module _ (used : List (ObjectName × ℕ)) (test now : Resident → Bool) where
       keep : Resident → Bool
       keep y = not (is_page r.uid r.page y)
 
-      here : (b : Bool) → is_older used (name_of r) (name_of q) ≡ true → Each (stays (name_of r)) (filter keep pages) → Each (stays (name_of r)) (cond b (q ∷ filter keep pages) (filter keep pages))
+      here : (b : Bool) → is_used_before used (name_of r) (name_of q) ≡ true → Each (stays (name_of r)) (filter keep pages) → Each (stays (name_of r)) (cond b (q ∷ filter keep pages) (filter keep pages))
       here true older rest = ap (λ b. (not (now q) || b) && list_all (stays (name_of r)) (filter keep pages)) older ∙ any (now q) ∙ rest
         where
           any : (c : Bool) → ((not c || true) && list_all (stays (name_of r)) (filter keep pages)) ≡ list_all (stays (name_of r)) (filter keep pages)
@@ -104,19 +114,19 @@ module _ (used : List (ObjectName × ℕ)) (test now : Resident → Bool) where
         by false each = each
 
     -- the last one that passes, of another name, was used later where each is
-    last-later : (r : Resident) (pages : List Resident) → last test pages ≡ Some r → is_page u k r ≡ false → AreAlike test now pages → Each (stays (u, k)) (filter others pages) → is_older used (u, k) (name_of r) ≡ true
+    last-later : (r : Resident) (pages : List Resident) → last test pages ≡ Some r → is_page u k r ≡ false → AreAlike test now pages → Each (stays (u, k)) (filter others pages) → is_used_before used (u, k) (name_of r) ≡ true
     last-later r [] is differs alike each = absurd (cc)
     last-later r (q ∷ pages) is differs alike each = by (last test pages) refl is (λ e. last-later r pages e differs alike.1 (tail q pages each))
       where
-        this : (b : Bool) → test q ≡ b → cond b (Some q) None ≡ Some r → is_older used (u, k) (name_of r) ≡ true
+        this : (b : Bool) → test q ≡ b → cond b (Some q) None ≡ Some r → is_used_before used (u, k) (name_of r) ≡ true
         this true passes e =
             let same : q ≡ r = same_Some q r e in
             let apart : is_page u k q ≡ false = subst (λ (y : Resident). is_page u k y ≡ false) (sym same) differs in
             let first : stays (u, k) q ≡ true = left-true (stays (u, k) q) _ (subst (λ b. Each (stays (u, k)) (cond (not b) (q ∷ filter others pages) (filter others pages))) apart each) in
-            subst (λ (y : Resident). is_older used (u, k) (name_of y) ≡ true) same (subst (λ b. (not b || is_older used (u, k) (name_of q)) ≡ true) (alike.0 ∙ passes) first)
+            subst (λ (y : Resident). is_used_before used (u, k) (name_of y) ≡ true) same (subst (λ b. (not b || is_used_before used (u, k) (name_of q)) ≡ true) (alike.0 ∙ passes) first)
         this false passes e = absurd (cc)
 
-        by : (o : Option Resident) → last test pages ≡ o → option_or o (cond (test q) (Some q) None) ≡ Some r → (last test pages ≡ Some r → is_older used (u, k) (name_of r) ≡ true) → is_older used (u, k) (name_of r) ≡ true
+        by : (o : Option Resident) → last test pages ≡ o → option_or o (cond (test q) (Some q) None) ≡ Some r → (last test pages ≡ Some r → is_used_before used (u, k) (name_of r) ≡ true) → is_used_before used (u, k) (name_of r) ≡ true
         by (Some y) found e rest = rest (found ∙ e)
         by None found e rest = this (test q) refl e
 
@@ -137,8 +147,8 @@ module _ (used : List (ObjectName × ℕ)) (test now : Resident → Bool) where
             (λ is. behind (r, found, same_page-is (name_of r) (u, k) is))
             (λ differs.
             let later = last-later r pages found differs alike.1 (tail q pages each) in
-            let older : is_older used (name_of r) (u, k) ≡ true = subst (λ x. is_older used (name_of r) x ≡ true) (same_page-is (name_of q) (u, k) name) (last-older (name_of q) r pages found are.0) in
-            behind (r, found, one-older used (name_of r) (u, k) older later))
+            let older : is_used_before used (name_of r) (u, k) ≡ true = subst (λ x. is_used_before used (name_of r) x ≡ true) (same_page-is (name_of q) (u, k) name) (last-older (name_of q) r pages found are.0) in
+            behind (r, found, one-before used (name_of r) (u, k) older later))
 
         by : (b : Bool) → is_page u k q ≡ b → cond b (Some q) (find (is_page u k) pages) ≡ Some r0 → (page_at pages u k ≡ Some r0 → Names pages) → Names (q ∷ pages)
         by true name e rest = first name (same_Some q r0 e) (last test pages) refl

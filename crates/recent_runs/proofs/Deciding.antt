@@ -1,18 +1,21 @@
 -- An event is recent exactly where room is made at it as its node's cache names it.
-use Rattle.std.proofs.Common.{◌≡◌, ℕ, Bool, true, false, cond, List, [], ◌∷◌, length, Option, Some, None, inl, inr, refl, sym, ap, subst, ◌∙◌}
+use Rattle.std.proofs.Common.{◌≡◌, ℕ, Bool, true, false, cond, List, [], ◌∷◌, length, Option, Some, None, IfSome, inl, inr, refl, sym, ap, subst, ◌∙◌}
 use Rattle.std.specs.Prelude.{not, ◌&&◌, ◌||◌, find}
-use Rattle.std.specs.List.{list_all}
+use Rattle.std.specs.List.{AllByRecursion}
 use Rattle.std.specs.Option.{option_map, option_or}
 use Rattle.std.proofs.lemmas.Bool.{cases_eq, not-true}
+use Rattle.std.proofs.lemmas.List.Sums.{AllPass-from_list_all, list_all-from_AllPass}
 use Rattle.std.proofs.lemmas.Option.{same_Some}
 use Rattle.uid_names.specs.Names.{ObjectName}
 use Rattle.uid_names.specs.Steps.{◌>>=◌}
 use Rattle.uid_names.proofs.ListLemmas.{by_cases}
-use Rattle.uid_names.proofs.Passed.{left-true, right-true}
+use Rattle.uid_names.proofs.Passed.{left-true}
 use Rattle.uid_names.proofs.Somes.{map-some}
 use Rattle.dom_history.specs.declared.event.What.{What}
+use Rattle.dom_history.specs.declared.event.Effects.{Effects}
 use Rattle.dom_history.specs.declared.event.Sent.{Sent}
 use Rattle.page_cache.specs.Caches.{Resident, is_page, page_at}
+use Rattle.page_cache.specs.Changes.{without_page}
 use Rattle.page_cache.specs.Victims.{oldest, name_of}
 use Rattle.fault_handler.specs.declared.tasks.Task.{Task}
 use Rattle.fault_handler.specs.declared.transits.Transit.{Transit}
@@ -25,21 +28,22 @@ use Rattle.fault_handler.specs.Victims.{Victim, is_idle_clean, is_idle_dirty, is
 use Rattle.fault_handler.specs.Accesses.{Accessed, room_made}
 use Rattle.fault_handler.proofs.Fours.{first, second, third, fourth, at-put_same, at-put_other}
 use Rattle.node_runs.specs.Setups.{Given, IsGiven}
-use Rattle.node_runs.specs.NodeStates.{BegunOp, NodeState, is_ended}
-use Rattle.node_runs.specs.Incomings.{Incoming, may_happen}
+use Rattle.node_runs.specs.NodeStates.{BegunOp, NodeState}
+use Rattle.node_runs.specs.Incomings.{Incoming}
 use Rattle.node_runs.specs.Outcomes.{Stage, Stepped, moved}
 use Rattle.node_runs.specs.Doings.{Doing, ticked}
 use Rattle.node_runs.specs.Steps.{step_of, stepped_as_named, named_step}
 use Rattle.node_runs.specs.SentFrames.{IsIncoming}
 use Rattle.node_runs.specs.NodesKeep.{IsNodeOf}
 use Rattle.node_runs.proofs.Stepping.{Leaves, step_of-is}
-use Rattle.node_runs.proofs.Nodes.{node-with}
-use Rattle.recent_runs.specs.Uses.{same_page}
-use Rattle.recent_runs.specs.Recent.{is_used_before, is_recent_drop, AreByUse, StandByUse}
+use Rattle.recent_runs.specs.Uses.{PageName, same_page, is_used_before}
+use Rattle.recent_runs.specs.CacheOrders.{AreByUse, StandByUse}
+use Rattle.recent_runs.specs.Recent.{candidates, IsUsedLongestAgo, DropsTheOldest}
 use Rattle.recent_runs.proofs.Orders.{same_page-self, same_page-is}
 use Rattle.recent_runs.proofs.PageNames.{names}
-use Rattle.recent_runs.proofs.Choosing.{last, oldest-last, AreAlike, named-recent, recent-named}
-use Rattle.recent_runs.proofs.Rooming.{AsksNone, NotBoth, NeedsIt, HasWay, event_of-happens}
+use Rattle.recent_runs.proofs.Choosing.{last, oldest-last, AreAlike, stays-passing, named-recent, recent-named}
+use Rattle.recent_runs.proofs.Rooming.{AsksNone, NotBoth, NeedsIt}
+use Rattle.recent_runs.proofs.Ways.{HasWay, step-happens}
 
 -- what is found passes
 last-passes : (test : Resident → Bool) (r : Resident) (pages : List Resident) → last test pages ≡ Some r → test r ≡ true
@@ -90,14 +94,17 @@ module _ (moving : List (Option Transit)) (p : ℕ) (proc : IsProc p) (four : le
       by true is e rest = absurd (cc)
       by false is e rest = (ap (λ b. not q.flags.dirty && not b) (transit-same q.uid q.page (flip q is)), rest e)
 
-module _ (used : List (ObjectName × ℕ)) where
+module _ (used : List PageName) where
   abbrev pub IsRecentStep : Stepped → Type 0
-  IsRecentStep st = is_recent_drop used st.node.desk st.effects.dropped st.effects.sent ≡ true
+  IsRecentStep st = DropsTheOldest used st.node.desk st.effects
 
   -- where room is made
   module _ (old : DeskState) (p : ℕ) (d : DeskState) (task : Task) (needs : NeedsIt old p d task) (are : StandByUse used old) (g : Given) (n : NodeState) (o : BegunOp) (stage : Stage) where
     abbrev Made : Victim → Stepped
     Made v = moved g n p o stage (room_made d p task v)
+
+    abbrev is_later : PageName → Resident → Bool
+    is_later x r = is_used_before used x (name_of r)
 
     abbrev clean : Resident → Bool
     clean = is_idle_clean d.moving
@@ -135,34 +142,39 @@ module _ (used : List (ObjectName × ℕ)) where
         by : (o : Option Resident) → page_at d.cache.pages u k ≡ o → is_idle_one d.moving o ≡ true → named_victim d ≡ Some (Victim.Drops u k)
         by None there passes = absurd (cc)
         by (Some r0) there passes =
-            let found = recent-named used clean now u k r0 d.cache.pages there passes like stand (left-true (is_used_before used (Made (Victim.Drops u k)).node.desk (u, k)) true recent) in
-            named-clean found.0 (oldest-last clean d.cache.pages ∙ found.1) ∙ ap (λ (x : ObjectName × ℕ). Some (Victim.Drops x.0 x.1)) found.2
+            let each = stays-passing used clean now (u, k) (without_page d.cache.pages u k) ∙ list_all-from_AllPass (is_later (u, k)) (candidates (Made (Victim.Drops u k)).node.desk) recent.0 in
+            let found = recent-named used clean now u k r0 d.cache.pages there passes like stand each in
+            named-clean found.0 (oldest-last clean d.cache.pages ∙ found.1) ∙ ap (λ (x : PageName). Some (Victim.Drops x.0 x.1)) found.2
 
     victim-recent : (v : Victim) → named_victim d ≡ Some v → IsRecentStep (Made v)
     victim-recent v is = by (oldest clean d.cache.pages) refl
       where
         dirty : (o : Option Resident) → oldest (is_idle_dirty d.moving) d.cache.pages ≡ o → oldest clean d.cache.pages ≡ None → IsRecentStep (Made v)
         dirty None e none = absurd (let f = ap (λ o. option_map (λ (r : Resident). victim_by r r.flags.dirty) (option_or o (oldest (is_idle_dirty d.moving) d.cache.pages))) none in let h = ap (λ o. option_map (λ (r : Resident). victim_by r r.flags.dirty) o) e in cc)
-        dirty (Some r) e none = subst (λ (x : Victim). IsRecentStep (Made x)) (same_Some (Victim.SendsHome r) v (sym (named-dirty r none e) ∙ is)) refl
+        dirty (Some r) e none = subst (λ (x : Victim). IsRecentStep (Made x)) (same_Some (Victim.SendsHome r) v (sym (named-dirty r none e) ∙ is)) tt
 
         by : (o : Option Resident) → oldest clean d.cache.pages ≡ o → IsRecentStep (Made v)
         by None e = dirty (oldest (is_idle_dirty d.moving) d.cache.pages) refl e
         by (Some r) e =
+            let each = named-recent used clean now r d.cache.pages (sym (oldest-last clean d.cache.pages) ∙ e) like stand in
             subst (λ (x : Victim). IsRecentStep (Made x)) (same_Some (Victim.Drops r.uid r.page) v (sym (named-clean r e) ∙ is))
-            (ap (λ b. b && true) (named-recent used clean now r d.cache.pages (sym (oldest-last clean d.cache.pages) ∙ e) like stand))
+            (AllPass-from_list_all (is_later (name_of r)) (candidates (Made (Victim.Drops r.uid r.page)).node.desk) (sym (stays-passing used clean now (name_of r) (without_page d.cache.pages r.uid r.page)) ∙ each), tt)
 
   -- where nothing is dropped, or nothing is sent
-  none-recent : (d : DeskState) (dropped : List (ObjectName × ℕ)) (sent : Option Sent) → dropped ≡ [] → is_recent_drop used d dropped sent ≡ true
-  none-recent d dropped None none = refl
-  none-recent d dropped (Some sent) none = ap (λ xs. list_all (is_used_before used d) xs) none
+  none-recent : (d : DeskState) (effects : Effects) → effects.dropped ≡ [] → DropsTheOldest used d effects
+  none-recent d effects none = by effects.sent
+    where
+      by : (sent : Option Sent) → IfSome sent (λ sent. AllByRecursion (IsUsedLongestAgo used d) effects.dropped)
+      by None = tt
+      by (Some sent) = subst (AllByRecursion (IsUsedLongestAgo used d)) (sym none) tt
 
   settled-recent : (g : Given) (n : NodeState) (p : ℕ) (o : BegunOp) (stage : Stage) (m : Moved) → NotBoth m → IsRecentStep (moved g n p o stage m)
-  settled-recent g n p o stage m (inl none) = none-recent (moved g n p o stage m).node.desk (moved g n p o stage m).effects.dropped (moved g n p o stage m).effects.sent none
+  settled-recent g n p o stage m (inl none) = none-recent (moved g n p o stage m).node.desk (moved g n p o stage m).effects none
   settled-recent g n p o stage m (inr no_ask) = by m.turn no_ask
     where
       by : (turn : Turn) → AsksNone turn → IsRecentStep (moved g n p o stage (record m { turn = turn }))
-      by (Turn.Ends reply) is = refl
-      by (Turn.Waits u k) is = refl
+      by (Turn.Ends reply) is = tt
+      by (Turn.Waits u k) is = tt
       by (Turn.Asks home ask) is = absurd is
 
   -- it is recent, and it is named
@@ -170,7 +182,7 @@ module _ (used : List (ObjectName × ℕ)) where
   Decides g n event st = (IsRecentStep st → stepped_as_named g n event ≡ Some st) × (stepped_as_named g n event ≡ Some st → IsRecentStep st)
 
   doing-decides : (g : Given) (n : NodeState) (event : Doing) (st : Stepped) → StandByUse used n.desk → HasWay n.desk event → Leaves g n event st → Decides g n event st
-  doing-decides g n (Doing.Does s) st are none is = (λ recent. ap (λ (x : Stepped). Some x) (sym is), λ named. none-recent st.node.desk st.effects.dropped st.effects.sent (ap (λ (x : Stepped). x.effects.dropped) is ∙ none))
+  doing-decides g n (Doing.Does s) st are none is = (λ recent. ap (λ (x : Stepped). Some x) (sym is), λ named. none-recent st.node.desk st.effects (ap (λ (x : Stepped). x.effects.dropped) is ∙ none))
   doing-decides g n (Doing.Moves p o stage (Accessed.Settled m)) st are way (to, may, is) =
       let same : st ≡ moved g n p o stage m = is ∙ ap (moved g n p o stage) may in
       (λ recent. ap (λ (x : Stepped). Some x) (sym same), λ named. subst IsRecentStep (sym same) (settled-recent g n p o stage m way))
@@ -185,13 +197,10 @@ module _ (used : List (ObjectName × ℕ)) where
             subst IsRecentStep (sym (one.2 ∙ ap (moved g n p o stage) two.2)) (victim-recent n.desk p d task needs are g n o stage two.0 two.1),
       )
 
-  pub step-decides : (g : Given) (n : NodeState) (what : What) (incoming : Incoming) (dropped : List (ObjectName × ℕ)) (st : Stepped) → IsGiven g → IsNodeOf g n → IsIncoming incoming → StandByUse used n.desk → step_of g n what incoming dropped ≡ Some st
+  pub step-decides : (g : Given) (n : NodeState) (what : What) (incoming : Incoming) (dropped : List PageName) (st : Stepped) → IsGiven g → IsNodeOf g n → IsIncoming incoming → StandByUse used n.desk → step_of g n what incoming dropped ≡ Some st
       → (IsRecentStep st → named_step g n what incoming ≡ Some st) × (named_step g n what incoming ≡ Some st → IsRecentStep st)
   step-decides g n what incoming dropped st given node frame are e =
       let is = step_of-is g n what incoming dropped st e in
-      let later = node-with g n (ticked n incoming) node refl refl node.side node.home in
-      let found = event_of-happens g given (ticked n incoming) later what incoming frame (right-true (not (is_ended g n)) (may_happen g n what incoming) is.enabled) in
-      let same : found.0 ≡ is.event = same_Some found.0 is.event (sym found.1 ∙ is.comes) in
-      let decides = doing-decides g (ticked n incoming) is.event st are (subst (HasWay n.desk) same found.2) is.leaves in
+      let decides = doing-decides g (ticked n incoming) is.event st are (step-happens g n what incoming dropped st given node frame is e) is.leaves in
       let named : named_step g n what incoming ≡ stepped_as_named g (ticked n incoming) is.event = ap (λ x. x >>= stepped_as_named g (ticked n incoming)) is.comes in
       (λ recent. named ∙ decides.0 recent, λ h. decides.1 (sym named ∙ h))

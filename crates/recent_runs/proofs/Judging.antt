@@ -1,10 +1,8 @@
 -- Where an event drops a page and sends a frame, that is to make room.
-use Rattle.std.proofs.Common.{◌≡◌, ℕ, List, [], ◌∷◌, Some, inl, inr, refl, sym, ap, subst, ◌∙◌}
+use Rattle.std.proofs.Common.{◌≡◌, ℕ, List, [], ◌∷◌, Some, inl, inr, sym, ap, subst, ◌∙◌}
 use Rattle.std.proofs.lemmas.Option.{same_Some}
-use Rattle.uid_names.specs.Names.{ObjectName}
 use Rattle.uid_names.specs.FrameKinds.{kind_number}
 use Rattle.uid_names.specs.declared.frame_kind.FrameKind.TheVariants as kinds
-use Rattle.uid_names.proofs.Passed.{right-true}
 use Rattle.dom_history.specs.declared.event.Effects.{Effects}
 use Rattle.dom_history.specs.declared.event.Sent.{Sent}
 use Rattle.dom_history.specs.declared.event.What.{What}
@@ -16,7 +14,7 @@ use Rattle.fault_handler.specs.Victims.{Victim}
 use Rattle.fault_handler.specs.Accesses.{Accessed, room_made}
 use Rattle.node_runs.specs.Setups.{Setup, IsSetup, Given, IsGiven, given}
 use Rattle.node_runs.specs.NodeStates.{BegunOp, NodeState}
-use Rattle.node_runs.specs.Incomings.{Incoming, may_happen}
+use Rattle.node_runs.specs.Incomings.{Incoming}
 use Rattle.node_runs.specs.Outcomes.{Stage, Stepped, moved}
 use Rattle.node_runs.specs.Doings.{Doing, ticked}
 use Rattle.node_runs.specs.Steps.{step_of}
@@ -25,12 +23,13 @@ use Rattle.node_runs.specs.NodesKeep.{IsNodeOf, IsTimely}
 use Rattle.node_runs.specs.Runs.{World, world_of}
 use Rattle.node_runs.proofs.SettingUp.{setup-gives}
 use Rattle.node_runs.proofs.Stepping.{Leaves, step_of-is}
-use Rattle.node_runs.proofs.Nodes.{node-with}
-use Rattle.recent_runs.proofs.Rooming.{AsksNone, NotBoth, HasWay, event_of-happens}
+use Rattle.recent_runs.specs.Uses.{PageName}
+use Rattle.recent_runs.proofs.Rooming.{AsksNone, NotBoth}
+use Rattle.recent_runs.proofs.Ways.{HasWay, step-happens}
 use Rattle.recent_runs.proofs.Standing.{before}
 use Rattle.recent_runs.proofs.Running.{effects-are}
 
-module _ (x : ObjectName × ℕ) (more : List (ObjectName × ℕ)) (sent : Sent) where
+module _ (x : PageName) (more : List PageName) (sent : Sent) where
   -- one page is dropped, and a page is asked for
   abbrev pub Judged : Effects → Type 0
   Judged effects = effects.dropped ≡ x ∷ more → effects.sent ≡ Some sent → (more ≡ []) × (sent.kind ≡ kind_number kinds.PageIn)
@@ -55,12 +54,10 @@ module _ (x : ObjectName × ℕ) (more : List (ObjectName × ℕ)) (sent : Sent)
   doing-judged g n (Doing.Moves p o stage (Accessed.NeedsRoom d task)) st needs (to, (v, may, made), is) =
       subst (λ (y : Stepped). Judged y.effects) (sym (is ∙ ap (moved g n p o stage) made)) (room-judged g n p o stage d task v)
 
-  step-judged : (g : Given) (n : NodeState) (what : What) (incoming : Incoming) (dropped : List (ObjectName × ℕ)) (st : Stepped) → IsGiven g → IsNodeOf g n → IsIncoming incoming → step_of g n what incoming dropped ≡ Some st → Judged st.effects
+  step-judged : (g : Given) (n : NodeState) (what : What) (incoming : Incoming) (dropped : List PageName) (st : Stepped) → IsGiven g → IsNodeOf g n → IsIncoming incoming → step_of g n what incoming dropped ≡ Some st → Judged st.effects
   step-judged g n what incoming dropped st given node frame e =
       let is = step_of-is g n what incoming dropped st e in
-      let later = node-with g n (ticked n incoming) node refl refl node.side node.home in
-      let found = event_of-happens g given (ticked n incoming) later what incoming frame (right-true _ (may_happen g n what incoming) is.enabled) in
-      doing-judged g (ticked n incoming) is.event st (subst (HasWay n.desk) (same_Some found.0 is.event (sym found.1 ∙ is.comes)) found.2) is.leaves
+      doing-judged g (ticked n incoming) is.event st (step-happens g n what incoming dropped st given node frame is e) is.leaves
 
   -- so of each event of a run
   pub event-judged : (s : Setup) → IsSetup s → (e : Happening) (older : List Happening) (w : World) → world_of s (e ∷ older) ≡ Some w → w.done ≡ e ∷ older → IsTimely w → Judged e.effects

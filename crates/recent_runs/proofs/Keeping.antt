@@ -1,7 +1,7 @@
 -- What an event of a node makes of the order of its cache's pages: the page that it uses comes to the front, and the others stay in their order.
 use Rattle.std.proofs.Common.{◌≡◌, ℕ, Bool, List, [], Option, Some, None, refl, sym, subst}
 use Rattle.std.specs.Prelude.{not}
-use Rattle.uid_names.specs.Names.{ObjectName, same_uid}
+use Rattle.uid_names.specs.Names.{same_uid}
 use Rattle.page_cache.specs.Caches.{Resident}
 use Rattle.page_cache.specs.Changes.{without_page}
 use Rattle.fault_handler.specs.declared.transits.Transit.{Transit}
@@ -12,6 +12,7 @@ use Rattle.fault_handler.specs.Changes.{settled_by}
 use Rattle.desk_laws.specs.Causes.{Cause}
 use Rattle.desk_laws.specs.Loading.{IsTaskIn}
 use Rattle.desk_laws.specs.DeskMoves.{Change, DeskMoves}
+use Rattle.recent_runs.specs.Uses.{PageName}
 use Rattle.recent_runs.proofs.Orders.{apart}
 use Rattle.recent_runs.proofs.PageNames.{names, Kept, kept-same, kept-fewer, sent-names, settled-names, without-names, objectless-names}
 
@@ -24,7 +25,7 @@ settled_by-names None taken pages = refl
 settled_by-names (Some t) taken pages = settled-names t.uid t.page taken pages
 
 module _ (c : Cause) (none : UsesNone c) (turn : Turn) (p : ℕ) where
-  change-kept : (d e : DeskState) (dropped : List (ObjectName × ℕ)) → Change c turn p d e dropped → Kept None d.cache.pages e.cache.pages
+  change-kept : (d e : DeskState) (dropped : List PageName) → Change c turn p d e dropped → Kept None d.cache.pages e.cache.pages
   change-kept d e dropped (Change.uses task count r does load there ends) = absurd (none p d task does.given)
   change-kept d e dropped (Change.stores task bytes r does store there ends) = absurd (none p d task does.given)
   change-kept d e dropped (Change.arrives task stamp bytes reply is fetches seen long ends) = absurd (none p d task (subst (λ x. IsTaskIn d p x task) (sym is) refl))
@@ -37,7 +38,7 @@ module _ (c : Cause) (none : UsesNone c) (turn : Turn) (p : ℕ) where
   change-kept d e dropped (Change.drops_all u a is outdated may unkept) = kept-fewer d.cache.pages e.cache.pages (λ n. not (same_uid n.0 u)) (objectless-names d.cache.pages u)
   change-kept d e dropped change = λ used are. are
 
-  pub moves-kept : (d e : DeskState) (dropped : List (ObjectName × ℕ)) → DeskMoves c turn p d e dropped → Kept None d.cache.pages e.cache.pages
+  pub moves-kept : (d e : DeskState) (dropped : List PageName) → DeskMoves c turn p d e dropped → Kept None d.cache.pages e.cache.pages
   moves-kept d e dropped DeskMoves.none used are = are
   moves-kept d e dropped (DeskMoves.next {e = m} before change) used are = change-kept m e [] change used (moves-kept d m dropped before used are)
   moves-kept d e dropped (DeskMoves.dropping {e = m} before change) used are = change-kept m e dropped change used (moves-kept d m [] before used are)

@@ -6,8 +6,10 @@ pub mod Stepping
 pub mod Standing
 pub mod Choosing
 pub mod Rooming
+pub mod Ways
 pub mod Deciding
 pub mod Running
 pub mod Owning
 pub mod Turned
 pub mod Judging
+pub mod Tested

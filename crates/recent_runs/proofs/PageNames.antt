@@ -7,24 +7,24 @@ use Rattle.page_cache.specs.Caches.{Resident, is_page, page_at}
 use Rattle.page_cache.specs.Changes.{changed_if, with_front, without_page, without_object, used}
 use Rattle.page_cache.specs.Victims.{name_of}
 use Rattle.fault_handler.specs.ShownPages.{changed_page, written, stored, as_sent, settled}
-use Rattle.recent_runs.specs.Uses.{with_use}
-use Rattle.recent_runs.specs.Recent.{AreByUse}
+use Rattle.recent_runs.specs.Uses.{PageName, with_use}
+use Rattle.recent_runs.specs.CacheOrders.{AreByUse}
 use Rattle.recent_runs.proofs.Orders.{same_page-self, same_page-is, apart, fewer, to-front}
 
-abbrev pub names : List Resident → List (ObjectName × ℕ)
+abbrev pub names : List Resident → List PageName
 names pages = map name_of pages
 
 -- pages that stand by their last uses do so after a change in which this page was used, or none
-abbrev pub Kept : Option (ObjectName × ℕ) → List Resident → List Resident → Type 0
-Kept page old new = (used : List (ObjectName × ℕ)) → AreByUse used (names old) → AreByUse (with_use page used) (names new)
+abbrev pub Kept : Option PageName → List Resident → List Resident → Type 0
+Kept page old new = (used : List PageName) → AreByUse used (names old) → AreByUse (with_use page used) (names new)
 
 pub kept-same : (old new : List Resident) → names new ≡ names old → Kept None old new
 kept-same old new same used are = subst (AreByUse used) (sym same) are
 
-pub kept-fewer : (old new : List Resident) (test : ObjectName × ℕ → Bool) → names new ≡ filter test (names old) → Kept None old new
+pub kept-fewer : (old new : List Resident) (test : PageName → Bool) → names new ≡ filter test (names old) → Kept None old new
 kept-fewer old new test same used are = subst (AreByUse used) (sym same) (fewer used test (names old) are)
 
-pub kept-used : (old new : List Resident) (z : ObjectName × ℕ) → names new ≡ z ∷ filter (apart z) (names old) → Kept (Some z) old new
+pub kept-used : (old new : List Resident) (z : PageName) → names new ≡ z ∷ filter (apart z) (names old) → Kept (Some z) old new
 kept-used old new z same used are = subst (AreByUse (z ∷ used)) (sym same) (to-front used z (names old) are)
 
 -- a page that is changed in its place keeps its name
@@ -43,13 +43,13 @@ pub settled-names : (u : ObjectName) (k : ℕ) (taken : Bool) (pages : List Resi
 settled-names u k taken = changed-names u k (settled taken) (λ r. refl)
 
 -- pages that go
-names-filter : (test : ObjectName × ℕ → Bool) (pages : List Resident) → names (filter (λ r. test (name_of r)) pages) ≡ filter test (names pages)
+names-filter : (test : PageName → Bool) (pages : List Resident) → names (filter (λ r. test (name_of r)) pages) ≡ filter test (names pages)
 names-filter test [] = refl
 names-filter test (r ∷ pages) = by (test (name_of r)) (names-filter test pages)
   where
     by : (b : Bool) → names (filter (λ q. test (name_of q)) pages) ≡ filter test (names pages)
         → names (cond b (r ∷ filter (λ q. test (name_of q)) pages) (filter (λ q. test (name_of q)) pages)) ≡ cond b (name_of r ∷ filter test (names pages)) (filter test (names pages))
-    by true rest = ap (λ (ns : List (ObjectName × ℕ)). name_of r ∷ ns) rest
+    by true rest = ap (λ (ns : List PageName). name_of r ∷ ns) rest
     by false rest = rest
 
 pub without-names : (pages : List Resident) (u : ObjectName) (k : ℕ) → names (without_page pages u k) ≡ filter (apart (u, k)) (names pages)
@@ -77,5 +77,5 @@ pub stored-names : (pages : List Resident) (u : ObjectName) (k offset : ℕ) (by
 stored-names pages u k offset bytes r found = changed-names u k (written offset bytes) (λ q. refl) (used pages u k) ∙ used-names pages u k r found
 
 -- one that came is among those behind it no more once it was used
-pub once-more : (z : ObjectName × ℕ) (ns : List (ObjectName × ℕ)) → filter (apart z) (z ∷ ns) ≡ filter (apart z) ns
+pub once-more : (z : PageName) (ns : List PageName) → filter (apart z) (z ∷ ns) ≡ filter (apart z) ns
 once-more z ns = ap (λ b. cond (not b) (z ∷ filter (apart z) ns) (filter (apart z) ns)) (same_page-self z)

@@ -1,6 +1,7 @@
 -- What a load or store makes of the order of its cache's pages.
 use Rattle.std.proofs.Common.{◌≡◌, ℕ, Bool, true, false, List, ◌∷◌, Option, Some, None, refl, sym, ap, subst, ◌∙◌}
 use Rattle.std.specs.Prelude.{nat_lt, filter, length, ◌*◌, ◌+◌}
+use Rattle.std.specs.Option.{option_map}
 use Rattle.desk_laws.proofs.Facts.{page_at-fresh}
 use Rattle.uid_names.specs.Names.{ObjectName}
 use Rattle.uid_names.specs.declared.limits.TheConstants.{PAGE_BYTES}
@@ -26,23 +27,24 @@ use Rattle.fault_handler.specs.Accesses.{DeskOp, Accessed, performed, page_by, m
 use Rattle.fault_handler.specs.PageReplies.{PageAnswer, page_by_stamp, page_came_of, room_taken}
 use Rattle.node_runs.specs.Rooms.{MayMove}
 use Rattle.run_desks.proofs.OpenTasks.{open_task_of}
-use Rattle.recent_runs.specs.Uses.{is_bytes, is_fine, used_if, used_by}
+use Rattle.recent_runs.specs.Uses.{PageName, page_around, used_by_load, used_by_store, used_by}
 use Rattle.recent_runs.proofs.Orders.{apart}
 use Rattle.recent_runs.proofs.PageNames.{names, Kept, kept-same, kept-fewer, kept-used, sent-names, settled-names, without-names, used-names, stored-names, once-more}
 
-abbrev pub done_by : Work → Reply → Bool
-done_by (Load count) reply = is_bytes reply
-done_by (Store bytes) reply = is_fine reply
+-- the page that a load or store uses that is answered so
+abbrev pub used_by_work : Work → Reply → Option PageName → Option PageName
+used_by_work (Load count) reply page = used_by_load reply page
+used_by_work (Store bytes) reply page = used_by_store reply page
 
--- the page that a load or store uses that comes to this turn
-abbrev pub done_use : Task → Work → Turn → Option (ObjectName × ℕ)
-done_use task work (Turn.Ends reply) = used_if (done_by work reply) (Some (task.uid, task.offset))
+-- and that comes to this turn
+abbrev pub done_use : Task → Work → Turn → Option PageName
+done_use task work (Turn.Ends reply) = used_by_work work reply (Some (task.uid, page_of task))
 done_use task work turn = None
 
 abbrev pub DoneKept : DeskState → Task → Moved → Type 0
 DoneKept d task m = Kept (done_use task task.work m.turn) d.cache.pages m.desk.cache.pages
 
-pub kept-then : (page : Option (ObjectName × ℕ)) (a b c : List Resident) → Kept None a b → Kept page b c → Kept page a c
+pub kept-then : (page : Option PageName) (a b c : List Resident) → Kept None a b → Kept page b c → Kept page a c
 kept-then page a b c one two used are = two used (one used are)
 
 -- it is done at its page, which comes to the front
@@ -87,7 +89,7 @@ module _ (d : DeskState) (p : ℕ) (to : Moved) where
   came-kept task stamp bytes false may = subst (DoneKept d task) (sym may)
       (performed-kept d (with_arrival (with_raised d task.uid stamp) p task.uid (page_of task) bytes) task task.work (fresh_page task.uid (page_of task) bytes)
       (performed-names (with_arrival (with_raised d task.uid stamp) p task.uid (page_of task) bytes) task task.work (fresh_page task.uid (page_of task) bytes) (page_at-fresh task.uid (page_of task) bytes d.cache.pages)
-      ∙ ap (λ (ns : List (ObjectName × ℕ)). (task.uid, page_of task) ∷ ns) (once-more (task.uid, page_of task) (names d.cache.pages))))
+      ∙ ap (λ (ns : List PageName). (task.uid, page_of task) ∷ ns) (once-more (task.uid, page_of task) (names d.cache.pages))))
 
   pub answer-kept : (a : PageAnswer) → MayMove p (page_came_of d p a) to → DoneKept d (open_task_of a) to
   answer-kept (PageAnswer.Came task stamp bytes) may = came-kept task stamp bytes (nat_lt stamp (base_of d.seen task.uid)) may
@@ -97,17 +99,17 @@ module _ (d : DeskState) (p : ℕ) (to : Moved) where
   answer-kept (PageAnswer.NotTaken task r stamp) may = subst (DoneKept d task) (sym may) (kept-same d.cache.pages _ (sent-names r.uid r.page d.cache.pages))
 
 -- what an operation uses that comes to this turn
-abbrev pub op_use : DeskState → ℕ → Op → Turn → Option (ObjectName × ℕ)
+abbrev pub op_use : DeskState → ℕ → Op → Turn → Option PageName
 op_use d p op (Turn.Ends reply) = used_by d p op reply
 op_use d p op turn = None
 
 pub load-use : (d : DeskState) (p : ℕ) (spot : Spot) (count : ℕ) (task : Task) → target_of d p spot ≡ Some (task.uid, task.offset) → task.work ≡ Load count → (turn : Turn) → done_use task task.work turn ≡ op_use d p (ops.Load spot count) turn
-load-use d p spot count task at work (Turn.Ends reply) = λ i. used_if (done_by (work i) reply) (sym at i)
+load-use d p spot count task at work (Turn.Ends reply) = λ i. used_by_work (work i) reply (option_map page_around (sym at i))
 load-use d p spot count task at work (Turn.Asks home ask) = refl
 load-use d p spot count task at work (Turn.Waits u k) = refl
 
 pub store-use : (d : DeskState) (p : ℕ) (spot : Spot) (bytes : List ℕ) (task : Task) → target_of d p spot ≡ Some (task.uid, task.offset) → task.work ≡ Store bytes → (turn : Turn) → done_use task task.work turn ≡ op_use d p (ops.Store spot bytes) turn
-store-use d p spot bytes task at work (Turn.Ends reply) = λ i. used_if (done_by (work i) reply) (sym at i)
+store-use d p spot bytes task at work (Turn.Ends reply) = λ i. used_by_work (work i) reply (option_map page_around (sym at i))
 store-use d p spot bytes task at work (Turn.Asks home ask) = refl
 store-use d p spot bytes task at work (Turn.Waits u k) = refl
 

@@ -1,10 +1,6 @@
 -- A run is recent exactly where room is made at each of its events as its node's cache names it.
-use Rattle.std.proofs.Common.{◌≡◌, ℕ, true, List, [], ◌∷◌, Some, IfSome, refl, sym, ap, subst, ◌∙◌}
-use Rattle.std.specs.Prelude.{◌&&◌}
+use Rattle.std.proofs.Common.{◌≡◌, List, [], ◌∷◌, Some, IfSome, refl, sym, ap, subst, ◌∙◌}
 use Rattle.std.proofs.lemmas.Option.{same_Some}
-use Rattle.uid_names.specs.Names.{ObjectName}
-use Rattle.uid_names.proofs.Passed.{left-true, right-true}
-use Rattle.dom_history.specs.declared.event.Effects.{Effects}
 use Rattle.dom_history.specs.Events.{Happening}
 use Rattle.fault_handler.specs.Desks.{DeskState}
 use Rattle.node_runs.specs.Setups.{Setup, IsSetup, given}
@@ -15,8 +11,8 @@ use Rattle.node_runs.specs.Steps.{step_of, named_step}
 use Rattle.node_runs.specs.Runs.{World, incoming_of, world_of}
 use Rattle.node_runs.proofs.Calls.{put-same}
 use Rattle.node_runs.proofs.SettingUp.{setup-gives}
-use Rattle.recent_runs.specs.Uses.{uses}
-use Rattle.recent_runs.specs.Recent.{is_recent_drop, is_recent_event, is_recent, IsRecent}
+use Rattle.recent_runs.specs.Uses.{PageName, uses}
+use Rattle.recent_runs.specs.Recent.{DropsTheOldest, IsRecentEvent, IsRecent}
 use Rattle.recent_runs.specs.Named.{IsNamed, AreNamed}
 use Rattle.recent_runs.proofs.Standing.{Before, before, stands}
 use Rattle.recent_runs.proofs.Deciding.{IsRecentStep, step-decides}
@@ -49,14 +45,22 @@ module _ (s : Setup) (setup : IsSetup s) where
     desk-is : (w.nodes x.place.node).desk ≡ b.is.step.node.desk
     desk-is = ap (λ (v : World). (v.nodes x.place.node).desk) b.is.world ∙ ap (λ (y : NodeState). y.desk) (put-same b.old.nodes x.place.node x.place.node b.is.step.node refl)
 
-    abbrev used : List (ObjectName × ℕ)
+    abbrev used : List PageName
     used = uses s x.place.node older
 
-    event-is : is_recent_event used (world_of s (x ∷ older)) x ≡ is_recent_drop used b.is.step.node.desk b.is.step.effects.dropped b.is.step.effects.sent
-    event-is =
-        ap (λ o. is_recent_event used o x) run
-        ∙ ap (λ (d : DeskState). is_recent_drop used d x.effects.dropped x.effects.sent) desk-is
-        ∙ ap (λ (e : Effects). is_recent_drop used b.is.step.node.desk e.dropped e.sent) (sym effects-are)
+    -- the event is recent where its step is, and the other way round
+    of-event : IsRecentEvent s older x → IsRecentStep used b.is.step
+    of-event recent =
+        let here = subst (λ (v : World). DropsTheOldest used (v.nodes x.place.node).desk x.effects) (same_Some recent.world w (sym recent.leads ∙ run)) recent.oldest in
+        subst (λ (d : DeskState). DropsTheOldest used d b.is.step.effects) desk-is (subst (DropsTheOldest used (w.nodes x.place.node).desk) (sym effects-are) here)
+
+    of-step : IsRecentStep used b.is.step → IsRecentEvent s older x
+    of-step recent =
+        record {
+          world = w;
+          leads = run;
+          oldest = subst (DropsTheOldest used (w.nodes x.place.node).desk) effects-are (subst (λ (d : DeskState). DropsTheOldest used d b.is.step.effects) (sym desk-is) recent);
+        }
 
     step-is : (IsRecentStep used b.is.step → named_step (given s x.place.node) (b.old.nodes x.place.node) x.what b.is.incoming ≡ Some b.is.step)
         × (named_step (given s x.place.node) (b.old.nodes x.place.node) x.what b.is.incoming ≡ Some b.is.step → IsRecentStep used b.is.step)
@@ -64,21 +68,21 @@ module _ (s : Setup) (setup : IsSetup s) where
         step-decides used (given s x.place.node) (b.old.nodes x.place.node) x.what b.is.incoming x.effects.dropped b.is.step (setup-gives s setup x.place.node b.is.node) b.node b.frame
         (stands s setup older b.old b.run b.timely x.place.node b.is.node) b.is.steps
 
-    event-named : is_recent_event used (world_of s (x ∷ older)) x ≡ true → IsNamed s b.old x
-    event-named recent = named-to s b.old x b.is.incoming b.is.comes (step-is.0 (sym event-is ∙ recent) ∙ sym b.is.steps)
+    event-named : IsRecentEvent s older x → IsNamed s b.old x
+    event-named recent = named-to s b.old x b.is.incoming b.is.comes (step-is.0 (of-event recent) ∙ sym b.is.steps)
 
-    event-recent : IsNamed s b.old x → is_recent_event used (world_of s (x ∷ older)) x ≡ true
-    event-recent is = event-is ∙ step-is.1 (named-from s b.old x b.is.incoming b.is.comes is ∙ b.is.steps)
+    event-recent : IsNamed s b.old x → IsRecentEvent s older x
+    event-recent is = of-step (step-is.1 (named-from s b.old x b.is.incoming b.is.comes is ∙ b.is.steps))
 
   -- an event of a run
   pub last-named : (x : Happening) (older : List Happening) (old w : World) → world_of s older ≡ Some old → world_of s (x ∷ older) ≡ Some w → w.done ≡ x ∷ older → IsTimely w
-      → is_recent_event (uses s x.place.node older) (world_of s (x ∷ older)) x ≡ true → IsNamed s old x
+      → IsRecentEvent s older x → IsNamed s old x
   last-named x older old w was run done timely recent =
       let b = before s setup x older w run timely in
       subst (λ v. IsNamed s v x) (same_Some b.old old (sym b.run ∙ was)) (event-named x older w run done timely b recent)
 
   pub last-recent : (x : Happening) (older : List Happening) (old w : World) → world_of s older ≡ Some old → world_of s (x ∷ older) ≡ Some w → w.done ≡ x ∷ older → IsTimely w
-      → IsNamed s old x → is_recent_event (uses s x.place.node older) (world_of s (x ∷ older)) x ≡ true
+      → IsNamed s old x → IsRecentEvent s older x
   last-recent x older old w was run done timely is =
       let b = before s setup x older w run timely in
       event-recent x older w run done timely b (subst (λ v. IsNamed s v x) (same_Some old b.old (sym was ∙ b.run)) is)
@@ -87,13 +91,14 @@ module _ (s : Setup) (setup : IsSetup s) where
   recent-are [] w run done timely recent = tt
   recent-are (x ∷ older) w run done timely recent =
       let b = before s setup x older w run timely in (
-        subst (λ o. IfSome o (λ v. IsNamed s v x)) (sym b.run) (event-named x older w run done timely b (left-true _ _ recent)),
-        recent-are older b.old b.run (older-done x older w run done timely b) b.timely (right-true (is_recent_event (uses s x.place.node older) (world_of s (x ∷ older)) x) _ recent),
+        subst (λ o. IfSome o (λ v. IsNamed s v x)) (sym b.run) (event-named x older w run done timely b recent.0),
+        recent-are older b.old b.run (older-done x older w run done timely b) b.timely recent.1,
       )
 
   pub named-are : (es : List Happening) (w : World) → world_of s es ≡ Some w → w.done ≡ es → IsTimely w → AreNamed s es → IsRecent s es
-  named-are [] w run done timely are = refl
+  named-are [] w run done timely are = tt
   named-are (x ∷ older) w run done timely are =
-      let b = before s setup x older w run timely in
-      ap (λ c. c && is_recent s older) (event-recent x older w run done timely b (subst (λ o. IfSome o (λ v. IsNamed s v x)) b.run are.0))
-      ∙ named-are older b.old b.run (older-done x older w run done timely b) b.timely are.1
+      let b = before s setup x older w run timely in (
+        event-recent x older w run done timely b (subst (λ o. IfSome o (λ v. IsNamed s v x)) b.run are.0),
+        named-are older b.old b.run (older-done x older w run done timely b) b.timely are.1,
+      )

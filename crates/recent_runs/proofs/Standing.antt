@@ -22,7 +22,7 @@ use Rattle.node_runs.proofs.SettingUp.{setup-gives}
 use Rattle.run_desks.specs.OpenTasks.{AreTasksPlaced}
 use Rattle.run_desks.proofs.TaskPlaces.{runs-placed}
 use Rattle.recent_runs.specs.Uses.{used_in, used_between, used_here, with_use, uses}
-use Rattle.recent_runs.specs.Recent.{StandByUse}
+use Rattle.recent_runs.specs.CacheOrders.{StandByUse}
 use Rattle.recent_runs.proofs.Stepping.{StepKept, step-kept}
 
 -- the event before which a world stood
@@ -57,10 +57,10 @@ module _ (s : Setup) (setup : IsSetup s) where
 
   module _ (x : Happening) (older : List Happening) (w : World) (run : world_of s (x ∷ older) ≡ Some w) (b : Before s x older w) where
     -- what the event used
-    pub used-is : used_between (world_of s older) (world_of s (x ∷ older)) x.place.node ≡ used_in (b.old.nodes x.place.node).desk b.is.step.note
+    pub used-is : used_between x.place.node (world_of s older) (world_of s (x ∷ older)) ≡ used_in (b.old.nodes x.place.node).desk b.is.step.note
     used-is =
-        ap (λ o. used_between o (world_of s (x ∷ older)) x.place.node) b.run ∙ ap (λ o. used_between (Some b.old) o x.place.node) run
-        ∙ ap (λ (v : World). used_between (Some b.old) (Some v) x.place.node) b.is.world
+        ap (λ o. used_between x.place.node o (world_of s (x ∷ older))) b.run ∙ ap (λ o. used_between x.place.node (Some b.old) o) run
+        ∙ ap (λ (v : World). used_between x.place.node (Some b.old) (Some v)) b.is.world
 
     pub node-kept : StepKept (b.old.nodes x.place.node) b.is.step
     node-kept = step-kept (given s x.place.node) (b.old.nodes x.place.node) x.what b.is.incoming x.effects.dropped b.is.step (setup-gives s setup x.place.node b.is.node) b.node b.frame b.placed b.is.steps
@@ -75,10 +75,10 @@ module _ (s : Setup) (setup : IsSetup s) where
         (node-kept (uses s x.place.node older) (was x.place.node b.is.node)))))
         (λ h.
         subst (λ (d : DeskState). StandByUse (uses s n (x ∷ older)) d) (sym (ap (λ (v : World). (v.nodes n).desk) b.is.world ∙ ap (λ (y : NodeState). y.desk) (put-other b.old.nodes x.place.node n b.is.step.node (λ e. absurd (let f = h in let k : (x.place.node == x.place.node) ≡ true = grind (arith, nat_tests) in let m = ap (λ a. x.place.node == a) e in cc)))))
-        (subst (λ us. StandByUse us (b.old.nodes n).desk) (sym (ap (λ c. with_use (used_here c (used_between (world_of s older) (world_of s (x ∷ older)) n)) (uses s n older)) h)) (was n node)))
+        (subst (λ us. StandByUse us (b.old.nodes n).desk) (sym (ap (λ c. with_use (used_here c (used_between n (world_of s older) (world_of s (x ∷ older)))) (uses s n older)) h)) (was n node)))
       where
-        here : uses s x.place.node (x ∷ older) ≡ with_use (used_between (world_of s older) (world_of s (x ∷ older)) x.place.node) (uses s x.place.node older)
-        here = ap (λ c. with_use (used_here c (used_between (world_of s older) (world_of s (x ∷ older)) x.place.node)) (uses s x.place.node older)) (let k : (x.place.node == x.place.node) ≡ true = grind (arith, nat_tests) in k)
+        here : uses s x.place.node (x ∷ older) ≡ with_use (used_between x.place.node (world_of s older) (world_of s (x ∷ older))) (uses s x.place.node older)
+        here = ap (λ c. with_use (used_here c (used_between x.place.node (world_of s older) (world_of s (x ∷ older)))) (uses s x.place.node older)) (let k : (x.place.node == x.place.node) ≡ true = grind (arith, nat_tests) in k)
 
   pub stands : (es : List Happening) (w : World) → world_of s es ≡ Some w → IsTimely w → (n : ℕ) → is_node s.opening n ≡ true → StandByUse (uses s n es) (w.nodes n).desk
   stands [] w run timely n node = subst (λ (v : World). StandByUse [] (v.nodes n).desk) (same_Some (first_world s) w run) tt

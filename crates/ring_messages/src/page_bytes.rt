@@ -28,6 +28,13 @@ impl PageBytes {
         Ok(PageBytes { kept })
     }
 
+    /// The bytes that lie there. Takes no memory.
+    pub fn from_box(bytes: Box<[u8; PAGE_BYTES]>) -> PageBytes
+        ensures { result ≡ bytes.value }
+    {
+        PageBytes { kept: bytes }
+    }
+
     /// A copy.
     pub fn copy(&self, alloc: Global) -> Result<PageBytes, NoMemory>
         ensures { IfOk result (λ copy. copy ≡ self.now) }

@@ -3,7 +3,6 @@ use Rattle.std.proofs.Common.{◌≡◌, ℕ, zero, suc, ◌+◌, ◌≤◌, ◌
 use Rattle.std.specs.Prelude.{◌&&◌, nat_le}
 use Rattle.std.proofs.lemmas.Bool.Decides.{nat_tests}
 use Rattle.uid_names.proofs.ListLemmas.{by_cases}
-use Rattle.uid_names.proofs.Orders.{same_proc_is, same_proc-itself}
 use Rattle.uid_names.specs.Names.{ProcName}
 use Rattle.uid_names.proofs.Passed.{left-true, right-true}
 use Rattle.dom_history.specs.declared.op.Entry.{Entry}
@@ -11,8 +10,8 @@ use Rattle.dom_history.specs.declared.op.Want.{Want}
 use Rattle.dom_history.specs.declared.op.Want.TheVariants.{Do, Phase, Done}
 use Rattle.dom_history.specs.Events.{Happening}
 use Rattle.dom_history.specs.Objects.{is_node}
-use Rattle.dom_history.specs.Histories.{SomeOf, entries}
-use Rattle.dom_history.specs.Follows.{Heard, Reaches, starts, answered, passed, entries_of, IsDoneAt, IsEnded}
+use Rattle.dom_history.specs.Histories.{SomeOf}
+use Rattle.dom_history.specs.Follows.{Heard, Reaches, starts, answered, passed, IsDoneAt, IsEnded}
 use Rattle.fault_handler.specs.Desks.{procs}
 use Rattle.fault_handler.specs.Invariant.{IsProc}
 use Rattle.fault_handler.proofs.Fours.{first, second, third, fourth}
@@ -21,36 +20,36 @@ use Rattle.node_runs.specs.NodeStates.{OpenOp, proc_of}
 use Rattle.node_runs.specs.Incomings.{has_program}
 use Rattle.node_runs.specs.NodesKeep.{IsTimely}
 use Rattle.node_runs.specs.Runs.{SentMark, World, Choice, choice_of, world_of, world_after, HasEnded}
-use Rattle.node_runs.specs.RunHistories.{all_told, doing_of, pending_in, pending_at, pending_to, history_in, history_if, history_of}
+use Rattle.node_runs.specs.RunHistories.{doing_of, pending_in, pending_at, pending_to, history_in, history_if, history_of}
 use Rattle.node_runs.specs.CallsKeep.{EachOf}
 use Rattle.node_runs.proofs.SettingUp.{setup-procs}
 use Rattle.run_calls.specs.DecidedReplies.{proc_at}
 use Rattle.run_calls.proofs.HearingRuns.{heard-are}
-use Rattle.run_calls.proofs.HistoryEntries.{history-entries}
+use Rattle.run_calls.proofs.HistoryEntries.{IsReached, reached-in}
 use Rattle.run_calls.proofs.Following.{history-follows}
 use Rattle.run_calls.specs.Phases.{IsMarkBelow, IsOpenInPhase, AreInPhase}
-use Rattle.run_calls.specs.Paced.{is_driven, ArePaced}
+use Rattle.run_calls.specs.Paced.{is_driven, IsPacedTo, ArePaced}
 use Rattle.run_calls.proofs.InPhases.{in_phases-are}
 
 -- a program comes to no phase behind the last one
-within-phases : (ask : Heard → Want) (last : ℕ) → 1 ≤ last → ((told : List Entry) (heard : Heard) (phase : ℕ) → Reaches ask told heard phase → ask heard ≡ Phase → phase < last) → {told : List Entry} {heard : Heard} {phase : ℕ} → Reaches ask told heard phase → phase ≤ last
+within-phases : (ask : Heard → Want) (last : ℕ) → 1 ≤ last → IsPacedTo ask last → {told : List Entry} {heard : Heard} {phase : ℕ} → Reaches ask told heard phase → phase ≤ last
 within-phases ask last low paced starts = low
 within-phases ask last low paced (answered e is asks same) = within-phases ask last low paced is
 within-phases ask last low paced (passed is asks) = let f = paced _ _ _ is asks in omega (arith, f)
 
 -- a program that is done at the start hears nothing
-pub hears-nothing : (ask : Heard → Want) → ask [] ≡ Done → {told : List Entry} {heard : Heard} {phase : ℕ} → Reaches ask told heard phase → heard ≡ []
+hears-nothing : (ask : Heard → Want) → ask [] ≡ Done → {told : List Entry} {heard : Heard} {phase : ℕ} → Reaches ask told heard phase → heard ≡ []
 hears-nothing ask done starts = refl
 hears-nothing ask done (answered {past} {heard} {phase} e is asks same) = absurd (let f : Done ≡ Do e.op = sym done ∙ ap ask (sym (hears-nothing ask done is)) ∙ asks in cc)
 hears-nothing ask done (passed {past} {heard} {phase} is asks) = absurd (let f : Done ≡ Phase = sym done ∙ ap ask (sym (hears-nothing ask done is)) ∙ asks in cc)
 
-pub past-mark : (tick node phase low : ℕ) (marks : List SentMark) → SomeOf (IsMarkBelow tick node phase) marks → EachOf (λ (m : SentMark). m.node ≡ node → m.phase < low) marks → phase < low
+past-mark : (tick node phase low : ℕ) (marks : List SentMark) → SomeOf (IsMarkBelow tick node phase) marks → EachOf (λ (m : SentMark). m.node ≡ node → m.phase < low) marks → phase < low
 past-mark tick node phase low [] some each = absurd some
 past-mark tick node phase low (m ∷ marks) (inl is) each = let e = each.0 is.0 in let f = is.1 in omega (arith, e, f)
 past-mark tick node phase low (m ∷ marks) (inr some) each = past-mark tick node phase low marks some each.1
 
 -- of one process
-pub each-of : (node p : ℕ) (phases : ℕ → ℕ) (test : ℕ → Bool) → test p ≡ true → (marks : List SentMark) → EachOf (λ (m : SentMark). m.node ≡ node → (q : ℕ) → test q ≡ true → m.phase < phases q) marks → EachOf (λ (m : SentMark). m.node ≡ node → m.phase < phases p) marks
+each-of : (node p : ℕ) (phases : ℕ → ℕ) (test : ℕ → Bool) → test p ≡ true → (marks : List SentMark) → EachOf (λ (m : SentMark). m.node ≡ node → (q : ℕ) → test q ≡ true → m.phase < phases q) marks → EachOf (λ (m : SentMark). m.node ≡ node → m.phase < phases p) marks
 each-of node p phases test passes [] each = tt
 each-of node p phases test passes (m ∷ marks) each = ((λ here. each.0 here p passes), each-of node p phases test passes marks each.1)
 
@@ -84,25 +83,28 @@ module _ (s : Setup) (setup : IsSetup s) (cs : List Choice) (w : World) (e : wor
       ∙ none-at (suc k) (let h : (nat_le 1 (suc k) && nat_le (suc k) s.opening.nodes) ≡ true = grind (arith, nat_tests, within) in h) procs (first, (second, (third, (fourth, tt))))
 
   module _ (paced : ArePaced s) where
+    reached : (p : ProcName) → IsProc p.number → IsReached s (history_in s w) w p
+    reached = reached-in s w (heard-are s setup (setup-procs s setup) cs w e timely)
+
+    -- each program is done
+    pub program-done : (p : ProcName) → IsProc p.number → s.asks p (proc_of (w.nodes p.node) p.number).heard ≡ Done
+    program-done p proc = by_cases (is_driven s p) (s.asks p (proc_of (w.nodes p.node) p.number).heard ≡ Done)
+        (λ driven. elim (reached p proc).in_phase [
+          | inr done ↦ done
+          | inl same ↦ absurd (
+              let node = left-true (is_node s.opening p.node) (has_program (given s p.node) p.number) driven in
+              let has = right-true (is_node s.opening p.node) (has_program (given s p.node) p.number) driven in
+              let over = past-all p.node p.number node has in
+              let most = within-phases (s.asks p) s.phases setup.phases_low (paced.phases p) (reached p proc).reaches in
+              omega (arith, over, same, most))
+        ])
+        (λ none. let done = paced.absent p none in ap (s.asks p) (hears-nothing (s.asks p) done (reached p proc).reaches) ∙ done)
+
     done-driven : (p : ProcName) → is_driven s p ≡ true → IsDoneAt (s.asks p) (history_in s w) p
     done-driven p driven =
-        let node = left-true (is_node s.opening p.node) (has_program (given s p.node) p.number) driven in
-        let has = right-true (is_node s.opening p.node) (has_program (given s p.node) p.number) driven in
-        let is = (heard-are s setup (setup-procs s setup) cs w e timely).procs p.node p.number (setup-procs s setup p.node p.number has) in
-        let name : proc_at p.node p.number ≡ p = same_proc_is (proc_at p.node p.number) p (same_proc-itself p) in
-        record {
-          heard = (proc_of (w.nodes p.node) p.number).heard;
-          phase = is.phase;
-          reaches = subst (λ q. Reaches (s.asks q) (entries_of q (entries (history_in s w).items)) (proc_of (w.nodes p.node) p.number).heard is.phase) name
-              (subst (λ es. Reaches (s.asks (proc_at p.node p.number)) (entries_of (proc_at p.node p.number) es) (proc_of (w.nodes p.node) p.number).heard is.phase) (sym (history-entries w (all_told w.trace) w.trace)) is.reaches);
-          finished = elim is.in_phase [
-            | inr done ↦ done
-            | inl same ↦ absurd (
-                let over = past-all p.node p.number node has in
-                let most = within-phases (s.asks p) s.phases setup.phases_low (paced.phases p) is.reaches in
-                omega (arith, over, same, most))
-          ];
-        }
+        let proc = setup-procs s setup p.node p.number (right-true (is_node s.opening p.node) (has_program (given s p.node) p.number) driven) in
+        let is = reached p proc in
+        record { heard = (proc_of (w.nodes p.node) p.number).heard; phase = is.phase; reaches = is.reaches; finished = program-done p proc }
 
     done-absent : (p : ProcName) → is_driven s p ≡ false → IsDoneAt (s.asks p) (history_in s w) p
     done-absent p none =

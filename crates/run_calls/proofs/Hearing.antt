@@ -94,7 +94,8 @@ place-none p x so_far each =
     (λ h. absurd (let e = below (same_proc_is t.proc p (left-true _ _ h)) in let f = ap (λ (y : Place). y.tick) (place-is t.begun x (right-true (same_proc t.proc p) _ h)) in omega (arith, e, f)))
     (λ h. h)) each)
 
-number-none : (p : ProcName) (number : ℕ) (so_far : List Told) → EachOf (λ (t : Told). t.proc ≡ p → t.number < number) so_far → ended_by p number so_far ≡ None
+-- no operation that was told of had this last call
+pub number-none : (p : ProcName) (number : ℕ) (so_far : List Told) → EachOf (λ (t : Told). t.proc ≡ p → t.number < number) so_far → ended_by p number so_far ≡ None
 number-none p number so_far each =
     find-none (λ (t : Told). same_proc t.proc p && (t.number == number)) so_far
     (EachOf-more (λ (t : Told). t.proc ≡ p → t.number < number) (λ (t : Told). (same_proc t.proc p && (t.number == number)) ≡ false) so_far

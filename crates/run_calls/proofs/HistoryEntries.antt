@@ -1,23 +1,28 @@
 -- The history of a run has the entries of its notes, each at the place of its note.
 use Rattle.std.proofs.Common.{◌≡◌, ℕ, Bool, true, false, List, [], ◌∷◌, ◌++◌, Option, Some, None, refl, sym, ap, subst, ◌∙◌, map}
-use Rattle.std.specs.Prelude.{not}
+use Rattle.std.specs.Prelude.{◌⊎◌, not}
+use Rattle.uid_names.proofs.Orders.{same_proc_is, same_proc-itself}
 use Rattle.uid_names.specs.Names.{ProcName}
 use Rattle.uid_names.specs.declared.ids.Place.{Place}
 use Rattle.dom_history.specs.declared.op.Entry.{Entry}
 use Rattle.dom_history.specs.declared.op.Op.{Op}
 use Rattle.dom_history.specs.declared.op.Reply.{Reply}
-use Rattle.dom_history.specs.Histories.{entries}
+use Rattle.dom_history.specs.Histories.{History, entries}
 use Rattle.dom_history.specs.Follows.{Heard, Reaches, starts, answered, passed, entries_of}
 use Rattle.dom_history.specs.declared.op.Want.{Want}
+use Rattle.dom_history.specs.declared.op.Want.TheVariants.{Done}
 use Rattle.dom_history.proofs.Items.{entries-append}
 use Rattle.ring_messages.specs.Bodies.{Answer}
+use Rattle.fault_handler.specs.Invariant.{IsProc}
 use Rattle.node_runs.specs.Setups.{Setup, IsSetup}
 use Rattle.node_runs.specs.NodeStates.{OpenOp, proc_of}
 use Rattle.node_runs.specs.Notes.{Told, Note}
 use Rattle.node_runs.specs.Runs.{Noted, World, Choice, world_after}
 use Rattle.node_runs.specs.NodesKeep.{IsTimely}
-use Rattle.node_runs.specs.RunHistories.{is_fault, change_reply, act_item, fault_item, begun_item, told_item, open_item, decided_item, settled_op, ended_at, ended_by, doing_of, items_of, items_from, all_told}
+use Rattle.node_runs.specs.RunHistories.{is_fault, change_reply, act_item, fault_item, begun_item, told_item, open_item, decided_item, settled_op, ended_at, ended_by, doing_of, items_of, items_from, all_told, history_in}
 use Rattle.node_runs.proofs.SettingUp.{setup-procs}
+use Rattle.run_calls.specs.DecidedReplies.{proc_at}
+use Rattle.run_calls.specs.Heard.{AreHeard}
 use Rattle.run_calls.specs.NotedEntries.{entry_if, begun_entry, decided_entry, entries_at, noted_entries}
 use Rattle.run_calls.specs.Entries.{replies_in, AreRepliesHeard, AreAskedHeard}
 use Rattle.run_calls.proofs.HearingRuns.{heard-are}
@@ -75,3 +80,21 @@ module _ (s : Setup) (setup : IsSetup s) (cs : List Choice) (w : World) (e : wor
 
   pub replies-heard : AreRepliesHeard s w
   replies-heard n p proc = let is = asked-heard n p proc in reaches-replies is.1
+
+-- what the program of a process did and heard in a world: until it is done its phase is that of its process
+pub record IsReached (s : Setup) (h : History) (w : World) (p : ProcName) : Type 0 where
+  pub phase : ℕ
+  pub reaches : Reaches (s.asks p) (entries_of p (entries h.items)) (proc_of (w.nodes p.node) p.number).heard phase
+  pub in_phase : ((proc_of (w.nodes p.node) p.number).phase ≡ phase) ⊎ (s.asks p (proc_of (w.nodes p.node) p.number).heard ≡ Done)
+
+pub reached-in : (s : Setup) (w : World) → AreHeard s w → (p : ProcName) → IsProc p.number → IsReached s (history_in s w) w p
+reached-in s w heard p proc =
+    let is = heard.procs p.node p.number proc in
+    let q = proc_of (w.nodes p.node) p.number in
+    let name : proc_at p.node p.number ≡ p = same_proc_is (proc_at p.node p.number) p (same_proc-itself p) in
+    record {
+      phase = is.phase;
+      reaches = subst (λ r. Reaches (s.asks r) (entries_of r (entries (history_in s w).items)) q.heard is.phase) name
+          (subst (λ es. Reaches (s.asks (proc_at p.node p.number)) (entries_of (proc_at p.node p.number) es) q.heard is.phase) (sym (history-entries w (all_told w.trace) w.trace)) is.reaches);
+      in_phase = subst (λ r. (q.phase ≡ is.phase) ⊎ (s.asks r q.heard ≡ Done)) name is.in_phase;
+    }

@@ -30,7 +30,7 @@ use Rattle.run_calls.specs.Heard.{AreHeard}
 use Rattle.run_calls.specs.LastCalls.{HasNumber, IsOpenNumber, IsOpenOrTold, AreLastCalls}
 use Rattle.run_calls.proofs.HearingRuns.{IsKeptNext, n as acting, same-ask, proc-step, heard-are, every-kept-run, event, event-did}
 
-SomeOf-behind : {A : Type 0} (P : A → Type 0) (xs ys : List A) → SomeOf P ys → SomeOf P (xs ++ ys)
+pub SomeOf-behind : {A : Type 0} (P : A → Type 0) (xs ys : List A) → SomeOf P ys → SomeOf P (xs ++ ys)
 SomeOf-behind P [] ys some = some
 SomeOf-behind P (x ∷ xs) ys some = inr (SomeOf-behind P xs ys some)
 

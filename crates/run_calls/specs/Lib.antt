@@ -11,6 +11,7 @@ pub mod FittingAnswers
 pub mod SingleActs
 pub mod Phases
 pub mod Paced
+pub mod DonePrograms
 pub mod DecisionOrder
 pub mod PacedSample
 pub mod LastActs

@@ -21,6 +21,7 @@ ghost use Rattle.run_calls.specs.SingleActs.{AreToldRising, AreSingleActs};
 ghost use Rattle.run_calls.specs.LastActs.{IsActOfLast, HaveOpenNoAct, HasToldNoAct};
 ghost use Rattle.run_calls.specs.Phases.{AreInPhase};
 ghost use Rattle.run_calls.specs.Paced.{ArePaced};
+ghost use Rattle.run_calls.specs.DonePrograms.{AreProgramsDone};
 ghost use Rattle.node_runs.specs.FirstRun as one;
 ghost use Rattle.node_runs.specs.SecondRun as two;
 ghost use Rattle.run_calls.specs.PacedSample as sample;
@@ -130,6 +131,12 @@ pub fn phases_never_overlap()
 /// phase behind the last one.
 pub fn ended_runs_have_ended_histories()
     ensures { (s : Setup) → IsSetup s → ArePaced s → (es : List Happening) (w : World) → world_of s es ≡ Some w → IsTimely w → HasEnded s w → IsEnded s.asks (history_of s es) }
+{}
+
+/// And each program is done: it asks for nothing more.
+pub fn programs_of_ended_runs_are_done()
+    ensures { (s : Setup) → IsSetup s → ArePaced s → (es : List Happening) (w : World) → world_of s es ≡ Some w → IsTimely w → HasEnded s w →
+        AreProgramsDone s w }
 {}
 
 /// A run of paced programs that ends.

@@ -1,5 +1,6 @@
-//! Cases, and how they are read.
+//! Cases, and what the lines of their heads say.
 use anyhow::{Context, Result, bail};
+use case_files::FileCase;
 use dom_text::decimal;
 use std::alloc::Global;
 use uid_names::ByteList;
@@ -30,22 +31,12 @@ pub(crate) struct Room {
     pub(crate) fails: Vec<u64>,
 }
 
-/// The part of a case that a line belongs to.
-#[derive(Clone, Copy)]
-enum Part {
-    Head,
-    Script,
-    Report,
-    Journal,
-}
-
 /// A case: how `domain` is run, and what it comes to.
 #[derive(Drop)]
 pub(crate) struct Case {
     name: String,
     spoiled: bool,
     unended: bool,
-    part: Part,
     pub(crate) words: Vec<String>,
     pub(crate) status: u64,
     pub(crate) unread: bool,
@@ -71,13 +62,20 @@ fn number_and_rest(text: &str) -> Result<(u64, &str)> {
 }
 
 impl Case {
-    /// A case of this name, of which nothing more was read.
-    pub(crate) fn new(alloc: Global, name: &str) -> Result<Case> {
-        Ok(Case {
-            name: String::from_str(alloc, name)?,
-            spoiled: false,
+    /// A case as its file has it.
+    pub(crate) fn new(alloc: Global, file: FileCase) -> Result<Case> {
+        let FileCase {
+            name,
+            spoiled,
+            head,
+            script,
+            report,
+            journal,
+        } = file;
+        let mut case = Case {
+            name,
+            spoiled,
             unended: false,
-            part: Part::Head,
             words: Vec::new(alloc),
             status: 0,
             unread: false,
@@ -91,11 +89,17 @@ impl Case {
                 fails: Vec::new(alloc),
             },
             script: ByteList::new(alloc),
-            report: ByteList::new(alloc),
-            journal: None,
+            report,
+            journal,
             facts: Vec::new(alloc),
             journals: Journals::Any,
-        })
+        };
+        for line in head.as_slice() {
+            case.take_head(alloc, line.as_str())?;
+        }
+        // Behind the empty lines that the head asks for.
+        case.script.extend(script.bytes())?;
+        Ok(case)
     }
 
     /// Its name.
@@ -118,34 +122,6 @@ impl Case {
         }
     }
 
-    /// Takes the next line of the file.
-    pub(crate) fn take_line(&mut self, alloc: Global, line: &str) -> Result<()> {
-        match line {
-            "-- script" => self.part = Part::Script,
-            "-- report" => self.part = Part::Report,
-            "-- journal" => {
-                self.part = Part::Journal;
-                self.journal = Some(ByteList::new(alloc));
-            }
-            _ => self.take_text(alloc, line)?,
-        }
-        Ok(())
-    }
-
-    /// Takes a line of the part that was begun last.
-    fn take_text(&mut self, alloc: Global, line: &str) -> Result<()> {
-        match self.part {
-            Part::Head => self.take_head(alloc, line),
-            Part::Script => put_line(&mut self.script, line),
-            Part::Report if line.is_empty() => Ok(()),
-            Part::Report => put_line(&mut self.report, line),
-            Part::Journal => match &mut self.journal {
-                Some(journal) if !line.is_empty() => put_line(journal, line),
-                _ => Ok(()),
-            },
-        }
-    }
-
     /// Takes a line of the head.
     fn take_head(&mut self, alloc: Global, line: &str) -> Result<()> {
         let (word, rest) = match line.split_once(' ') {
@@ -153,13 +129,11 @@ impl Case {
             None => (line, ""),
         };
         match word {
-            "" | "#" => {}
             "words" => self.words.push(String::from_str(alloc, rest)?)?,
             "turns" => self.add_turns(alloc, rest)?,
             "status" => self.status = number(rest)?,
             "unread" => self.unread = true,
             "unended" => self.unended = true,
-            "spoiled" => self.spoiled = true,
             "empty" => self.add_empty(number(rest)?)?,
             "same-journals" => self.journals = Journals::Same,
             "other-journals" => self.journals = Journals::Other,
@@ -206,16 +180,10 @@ impl Case {
     }
 }
 
-/// Adds a line to a text.
-fn put_line(to: &mut ByteList, line: &str) -> Result<()> {
-    to.extend(line.as_bytes())?;
-    to.push(b'\n')?;
-    Ok(())
-}
-
 /// A line that stands behind another.
 fn whole_line(alloc: Global, line: &str) -> Result<ByteList> {
     let mut text = ByteList::from_slice(alloc, b"\n")?;
-    put_line(&mut text, line)?;
+    text.extend(line.as_bytes())?;
+    text.push(b'\n')?;
     Ok(text)
 }

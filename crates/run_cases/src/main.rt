@@ -11,7 +11,8 @@ mod trial;
 
 use anyhow::Result;
 use case::Case;
-use std::{fs, mem};
+use case_files::{FileCase, read_cases};
+use std::fs;
 use trial::{Tried, try_case};
 
 /// How many cases were tried, in how many runs, and how many of them came out otherwise than they are to.
@@ -33,9 +34,10 @@ fn told(case: &Case, tried: Tried) -> (&'static str, &'static str) {
 }
 
 /// Tries a case, and tells of it.
-fn try_one(rt: &HostRuntime, case: &Case, tally: Tally) -> Result<Tally> {
-    let tried = try_case(rt.alloc(), case)?;
-    let (end, part) = told(case, tried);
+fn try_one(rt: &HostRuntime, case: FileCase, tally: Tally) -> Result<Tally> {
+    let case = Case::new(rt.alloc(), case)?;
+    let tried = try_case(rt.alloc(), &case)?;
+    let (end, part) = told(&case, tried);
     println!(rt; "  {}: {end}{part}", case.name())?;
     Ok(Tally {
         cases: tally.cases.saturating_add(1),
@@ -49,26 +51,10 @@ fn try_one(rt: &HostRuntime, case: &Case, tally: Tally) -> Result<Tally> {
 /// Tries each case of a file.
 fn try_file(rt: &HostRuntime, path: &str, mut tally: Tally) -> Result<Tally> {
     let text = fs::read_to_string(rt, path)?;
-    let mut case = None;
-    for line in text.as_str().lines() {
-        match line.strip_prefix("== ") {
-            Some(name) => {
-                let before = mem::replace(&mut case, Some(Case::new(rt.alloc(), name)?));
-                if let Some(before) = before {
-                    tally = try_one(rt, &before, tally)?;
-                }
-            }
-            None => {
-                if let Some(open) = &mut case {
-                    open.take_line(rt.alloc(), line)?;
-                }
-            }
-        }
+    for case in read_cases(rt.alloc(), text.as_str())? {
+        tally = try_one(rt, case, tally)?;
     }
-    match case {
-        Some(last) => try_one(rt, &last, tally),
-        None => Ok(tally),
-    }
+    Ok(tally)
 }
 
 fn main(rt: HostRuntime) -> Result<()> {

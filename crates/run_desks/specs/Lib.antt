@@ -1,3 +1,4 @@
+pub mod NodeSteps
 pub mod DeskSteps
 pub mod OpenCalls
 pub mod OpenTasks

@@ -1,16 +1,10 @@
 //! Laws of a node alone. Each stands on a function without a body, so that the check proves it.
-ghost use Rattle.std.specs.Prelude.{◌≡◌, ℕ, Some, List};
-ghost use Rattle.uid_names.specs.Names.{ObjectName};
-ghost use Rattle.dom_history.specs.declared.event.What.{What};
 ghost use Rattle.node_runs.specs.Setups.{Given, IsGiven};
 ghost use Rattle.node_runs.specs.NodeStates.{NodeState};
-ghost use Rattle.node_runs.specs.Incomings.{Incoming};
 ghost use Rattle.node_runs.specs.Doings.{ticked};
-ghost use Rattle.node_runs.specs.Outcomes.{Stepped};
-ghost use Rattle.node_runs.specs.Steps.{step_of};
-ghost use Rattle.node_runs.specs.SentFrames.{IsIncoming};
 ghost use Rattle.node_runs.specs.NodesKeep.{IsNodeOf, AtEveryNode, InEveryRun};
 ghost use Rattle.node_runs.specs.NodesKeep.{Reached};
+ghost use Rattle.run_desks.specs.NodeSteps.{OfEachStep, EachStepKeeps, EachStepKeepsWith};
 ghost use Rattle.run_desks.specs.DeskSteps.{NodeMove};
 ghost use Rattle.run_desks.specs.AskedHomes.{AreCallsAtHomes};
 ghost use Rattle.run_desks.specs.OpenCalls.{AreCarried};
@@ -24,8 +18,7 @@ ghost use Rattle.run_desks.specs.OpenTasks.{AreTasksWithin, AreTasksPlaced, AreT
 /// on, is answered or fails, and moves the desk by the changes that a desk knows, while the others await what they did. The
 /// one call of a new object, and that of a list, is the one that its operand gives.
 pub fn each_event_moves_its_desk_for_one_operation()
-    ensures { (g : Given) (n : NodeState) (what : What) (incoming : Incoming) (dropped : List (ObjectName × ℕ)) (s : Stepped) →
-        IsGiven g → IsNodeOf g n → IsIncoming incoming → step_of g n what incoming dropped ≡ Some s → NodeMove g (ticked n incoming) incoming s }
+    ensures { OfEachStep (λ g n incoming s. NodeMove g (ticked n incoming) incoming s) }
 {}
 
 /// Wherever a node's events led, what its open calls carry fits its desk. A page on its way home is dirty, and has the bytes
@@ -34,8 +27,7 @@ pub fn each_event_moves_its_desk_for_one_operation()
 /// seen stamp. An open lock is of an object on which its process is Free, an open release of one on which it is not, an open
 /// removal of one that is held to be removed. A process without such a call moves no page.
 pub fn what_open_calls_carry_fits()
-    ensures step { (g : Given) (n : NodeState) (what : What) (incoming : Incoming) (dropped : List (ObjectName × ℕ)) (s : Stepped) →
-        IsGiven g → IsNodeOf g n → IsIncoming incoming → AreCarried n → step_of g n what incoming dropped ≡ Some s → AreCarried s.node }
+    ensures step { EachStepKeeps AreCarried }
     ensures reached { (g : Given) → IsGiven g → (n : NodeState) → Reached g n → AreCarried n }
 {}
 
@@ -58,8 +50,7 @@ pub fn a_lock_is_given_up_by_an_open_call()
 /// Wherever a node's events led, each open load ends within the known length of its object, and each open store within the
 /// known room.
 pub fn open_loads_and_stores_lie_within_what_is_known()
-    ensures step { (g : Given) (n : NodeState) (what : What) (incoming : Incoming) (dropped : List (ObjectName × ℕ)) (s : Stepped) →
-        IsGiven g → IsNodeOf g n → IsIncoming incoming → AreTasksWithin n.desk → step_of g n what incoming dropped ≡ Some s → AreTasksWithin s.node.desk }
+    ensures step { EachStepKeeps (λ n. AreTasksWithin n.desk) }
     ensures reached { (g : Given) → IsGiven g → (n : NodeState) → Reached g n → AreTasksWithin n.desk }
 
     // So at each node of every run in which no tick is above 2^40.
@@ -74,8 +65,7 @@ pub fn each_call_asks_the_home_of_its_object()
 /// Wherever a node's events led, each open load or store is one of its process's open operation, at the place that its spot
 /// names.
 pub fn open_loads_and_stores_are_at_their_spots()
-    ensures step { (g : Given) (n : NodeState) (what : What) (incoming : Incoming) (dropped : List (ObjectName × ℕ)) (s : Stepped) →
-        IsGiven g → IsNodeOf g n → IsIncoming incoming → AreTasksPlaced n → step_of g n what incoming dropped ≡ Some s → AreTasksPlaced s.node }
+    ensures step { EachStepKeeps AreTasksPlaced }
     ensures reached { (g : Given) → IsGiven g → (n : NodeState) → Reached g n → AreTasksPlaced n }
 
     // So at each node of every run in which no tick is above 2^40.
@@ -85,8 +75,7 @@ pub fn open_loads_and_stores_are_at_their_spots()
 /// An open unlock or delete keeps its lock in a mode that writes, a delete in one that removes, while it waits for a page of
 /// the object, or sends pages or the length home, under its process's own grant; then it sends its release or its removal.
 pub fn a_release_keeps_its_lock_until_it_is_sent()
-    ensures step { (g : Given) (n : NodeState) (what : What) (incoming : Incoming) (dropped : List (ObjectName × ℕ)) (s : Stepped) →
-        IsGiven g → IsNodeOf g n → IsIncoming incoming → AreCarried n → AreOpenReleases n → step_of g n what incoming dropped ≡ Some s → AreOpenReleases s.node }
+    ensures step { EachStepKeepsWith AreCarried AreOpenReleases }
     ensures reached { (g : Given) → IsGiven g → (n : NodeState) → Reached g n → AreOpenReleases n }
 
     // So at each node of every run in which no tick is above 2^40.
@@ -97,8 +86,7 @@ pub fn a_release_keeps_its_lock_until_it_is_sent()
 /// answer tells; or by a link fault: Kept where a page or the length was sent before a release, Doubt where a lock, a release or a
 /// removal was, else LinkFault.
 pub fn an_operation_ends_by_its_desk_an_answer_or_a_fault()
-    ensures { (g : Given) (n : NodeState) (what : What) (incoming : Incoming) (dropped : List (ObjectName × ℕ)) (s : Stepped) →
-        IsGiven g → IsNodeOf g n → IsIncoming incoming → step_of g n what incoming dropped ≡ Some s → IsEnded g (ticked n incoming) incoming s.note }
+    ensures { OfEachStep (λ g n incoming s. IsEnded g (ticked n incoming) incoming s.note) }
 {}
 
 /// So in every run in which no tick is above 2^40 what a process was told of a call is what its home decided, or a link fault; a call

@@ -1,3 +1,4 @@
+pub mod OpenOps
 pub mod OpenAsks
 pub mod FramesOfCalls
 pub mod OpenFrames

@@ -5,10 +5,10 @@ ghost use Rattle.dom_history.specs.Legal.{IsLegal};
 ghost use Rattle.node_runs.specs.Setups.{Setup, IsSetup};
 ghost use Rattle.node_runs.specs.NodesKeep.{IsTimely, InEveryRun};
 ghost use Rattle.node_runs.specs.Runs.{Choice, World, world_after, world_of, IsRun};
-ghost use Rattle.node_runs.specs.RunHistories.{history_in, history_of};
+ghost use Rattle.node_runs.specs.RunHistories.{history_of};
 ghost use Rattle.node_runs.specs.Deliveries.{IsPlanned};
 ghost use Rattle.world_runs.specs.Picked.{IsPicked};
-ghost use Rattle.run_moves.specs.MovedHistories.{IsMovedOrSame};
+ghost use Rattle.run_moves.specs.MovedHistories.{IsHistoryMoved};
 ghost use Rattle.run_moves.specs.HomesAtUnlocks.{HomesHaveAll};
 ghost use Rattle.run_moves.specs.DeskReplies.{AreDeskReplies};
 ghost use Rattle.run_moves.specs.HomeReplies.{AreHomeReplies};
@@ -29,7 +29,7 @@ pub fn homes_reply_as_one_store_does()
 /// it one of one store.
 pub fn each_event_moves_the_history()
     ensures { (s : Setup) → IsSetup s → (cs : List Choice) (c : Choice) (old new : World) → world_after s cs ≡ Some old → world_after s (c ∷ cs) ≡ Some new → IsTimely new →
-        IsMovedOrSame s.opening (history_in s old) (history_in s new) }
+        IsHistoryMoved s old new }
 {}
 
 /// So the history of every such run is one of one store.

@@ -3,7 +3,5 @@
 
 mod generator;
 mod phase_draws;
-#[cfg(test)]
-mod tests;
 
 pub use generator::generate;

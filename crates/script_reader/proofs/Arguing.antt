@@ -281,7 +281,7 @@ found_is P None h some = absurd cc
 found_is P (Some n) h some = h
 
 -- a node that is named is one
-node_is : (nodes : List NodeRow) (name : List ℕ) → is_node_name nodes name ≡ true → (1 ≤ node_number nodes name) × (node_number nodes name ≤ length nodes)
+pub node_is : (nodes : List NodeRow) (name : List ℕ) → is_node_name nodes name ≡ true → (1 ≤ node_number nodes name) × (node_number nodes name ≤ length nodes)
 node_is nodes name known =
     subst (λ (b : Bool). IsHome (length nodes) (if b then Some (node_number nodes name) else None)) known (home_is nodes (Some name))
 

@@ -13,8 +13,6 @@ mod numbers;
 mod reader;
 mod said;
 pub mod script;
-#[cfg(test)]
-mod tests;
 mod words;
 
 pub use cause::{Cause, ScriptFault};

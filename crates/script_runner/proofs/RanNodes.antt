@@ -1,9 +1,9 @@
 -- What comes of a script's nodes.
-use Rattle.std.proofs.Common.{◌≡◌, ℕ, ◌-◌, ◌<◌, ◌≤◌, Option, Some, None, Result, Ok, Err, List, [], ◌∷◌, length, map, reverse, slice_index_or, refl, sym, ◌∙◌, ap, subst, arith}
+use Rattle.std.proofs.Common.{◌≡◌, ℕ, ◌-◌, ◌<◌, ◌≤◌, Option, Some, None, Result, Ok, Err, List, [], length, map, reverse, slice_index_or, refl, sym, ◌∙◌, ap, subst, arith}
 use Rattle.std.specs.Prelude.{◌^◌, All, IsSome, IfSome, IfOk, IfErr, IsErrOf}
 use Rattle.std.specs.Option.{option_map}
 use Rattle.std.proofs.lemmas.List.{length-map, length-reverse, get_or-reverse}
-use Rattle.std.proofs.lemmas.List.Elements.{All-head, All-tail, All-weaker, All-get_or}
+use Rattle.std.proofs.lemmas.List.Elements.{All-weaker, All-get_or}
 use Rattle.std.proofs.lemmas.Option.{slice_get-get_or}
 use Rattle.uid_names.specs.Names.{ProcName}
 use Rattle.uid_names.specs.Openings.{IsStart}
@@ -22,9 +22,9 @@ use Rattle.aegis_shell.specs.Shells.{Shelled, shell_of, shell_wants, shell_after
 use Rattle.journal_text.specs.Lines.{Names, NamesWhat, IsNamed}
 use Rattle.fault_handler.specs.Desks.{IsNode}
 use Rattle.node_runs.specs.Setups.{Setup}
-use Rattle.node_runs.specs.Runs.{first_world}
+use Rattle.node_runs.specs.Runs.{World, first_world}
 use Rattle.world_runs.specs.Draws.{ComesToLast}
-use Rattle.world_runs.specs.ByPlace.{by_place}
+use Rattle.world_runs.specs.ByPlace.{by_place, IsLike}
 use Rattle.world_runs.specs.Picked.{IsPicked}
 use Rattle.world_runs.specs.NamedNodes.{NamesNodes, NamesNodesIn}
 use Rattle.node_core.specs.declared.fault.RunFault.{RunFault}
@@ -34,15 +34,16 @@ use Rattle.world_core.specs.Ended.{named}
 use Rattle.world_core.specs.Stands as worlds
 use Rattle.script_runs.specs.Processes.{processes_of}
 use Rattle.script_runs.specs.Setups.{setup_of}
-use Rattle.script_runs.specs.Runs.{IsRunOf, heard_in}
-use Rattle.script_runs.specs.Reports.{names_of, rows_of}
-use Rattle.script_runs.specs.Histories.{IsAsOneStore}
+use Rattle.script_runs.specs.Runs.{IsEndedRunOf, IsPickedRunOf}
+use Rattle.script_runs.specs.Reports.{names_of, rows_of, history_rows}
+use Rattle.script_runs.specs.Histories.{heard_in, script_history, IsAsOneStore}
 use Rattle.script_runs.proofs.ProcsWith.{processes_of-All}
+use Rattle.script_runs.proofs.Running.{map-each}
 use Rattle.script_runner.specs.declared.run.AnswerRow.{AnswerRow}
 use Rattle.script_runner.specs.Answered.{answers_by, row_in}
 use Rattle.script_runner.specs.Faults.{IsFaultOf}
 use Rattle.script_runner.specs.Nodes.{made_shell}
-use Rattle.script_runner.specs.Reports.{RunOf, IsRan, answers_in}
+use Rattle.script_runner.specs.Reports.{RunOf, answers_in}
 use Rattle.script_runner.proofs.FirstNodes.{shell_found}
 
 -- each process of a script is one of its nodes
@@ -53,14 +54,6 @@ processes_named s content = processes_of-All (λ p. IsNode (length s.nodes) p.no
 -- the shell of each process of a script is made
 shells_made : (s : Content) → All (λ p. made_shell s p.node p.number ≡ Some (shell_of s p)) (processes_of s.commands)
 shells_made s i d below = shell_found s (processes_of s.commands) (slice_index_or (processes_of s.commands) i d) i d below refl
-
--- lists of the same, one by one
-same_rows : {Y : Type 0} (f g : ProcName → Y) (procs : List ProcName) → All (λ p. f p ≡ g p) procs → map f procs ≡ map g procs
-same_rows f g [] same = refl
-same_rows f g (p ∷ procs) same =
-    let first : f p ≡ g p = All-head (λ q. f q ≡ g q) p procs same in
-    let rest = same_rows f g procs (All-tail (λ q. f q ≡ g q) p procs same) in
-    cc
 
 -- an element of a list that is turned round holds what holds of all
 All-reverse : {X : Type 0} (P : X → Type 0) (xs : List X) → All P xs → All P (reverse xs)
@@ -137,35 +130,49 @@ module _ (s : Content) (content : IsContent s) (seed last : ℕ) (events : List 
       → (procs : List ProcName) → procs ≡ processes_of s.commands → map (row_in programs) procs ≡ rows_of s (heard_in ended.world)
   rows_are law procs are =
       ap (map (row_in programs)) are
-      ∙ same_rows (row_in programs) (λ p. record { proc = p; answers = answers s p (heard_in ended.world p) }) (processes_of s.commands)
+      ∙ map-each (row_in programs) (λ p. record { proc = p; answers = answers s p (heard_in ended.world p) }) (processes_of s.commands)
       (λ i d below.
       let p = slice_index_or (processes_of s.commands) i d in
       ap (λ (texts : List (List ℕ)). record { proc = p; answers = texts }) (ap answers_by (shells_are i d below) ∙ law p (heard_in ended.world p)))
 
--- laws of a script's run
-abbrev pub ArePlanned : Type 0
-ArePlanned = (s : Content) (seed last : ℕ) → IsContent s → IsStart s.opening → last ≤ 2 ^ 40 → (events : List Happening) → IsPicked (setup_of s) s.plan seed last events → IsRunOf s seed last events
+-- laws of a script's runs
+abbrev pub PickEnded : Type 0
+PickEnded = (s : Content) (seed last : ℕ) → IsContent s → IsStart s.opening → last ≤ 2 ^ 40 → (events : List Happening) (picked : IsPickedRunOf s seed last events) → (w : World) × IsEndedRunOf s events w × IsLike picked.world w
 
 abbrev pub NameTheirNodes : Type 0
-NameTheirNodes = (s : Content) (seed last : ℕ) → IsContent s → IsStart s.opening → last ≤ 2 ^ 40 → (events : List Happening) → IsRunOf s seed last events → All (NamesNodes (length s.nodes)) events
+NameTheirNodes = (s : Content) → IsContent s → IsStart s.opening → (events : List Happening) (w : World) → IsEndedRunOf s events w → All (NamesNodes (length s.nodes)) events
 
 abbrev pub AreAsOneStore : Type 0
-AreAsOneStore = (s : Content) (seed last : ℕ) → IsContent s → IsStart s.opening → last ≤ 2 ^ 40 → (events : List Happening) (run : IsRunOf s seed last events) → IsAsOneStore s events run.picked.world
+AreAsOneStore = (s : Content) → IsContent s → IsStart s.opening → (events : List Happening) (w : World) → IsEndedRunOf s events w → IsAsOneStore s events w
 
-module _ (s : Content) (content : IsContent s) (start : IsStart s.opening) (seed last : ℕ) (most : last ≤ 2 ^ 40) (events : List Happening) (programs : List (ProcName × Shelled)) (ended : worlds.IsRunOf shell_wants shell_after (made_shell s) (setup_of s) s.plan seed last events programs) (planned : ArePlanned) where
-  abbrev run_of : IsRunOf s seed last (by_place ended.world.done)
-  run_of = record {
-    picked = picked s content seed last events programs ended;
-    planned = (planned s seed last content start most (by_place ended.world.done) (picked s content seed last events programs ended)).planned;
-  }
+abbrev pub AnswerByHistory : Type 0
+AnswerByHistory = (s : Content) (seed last : ℕ) → IsContent s → IsStart s.opening → last ≤ 2 ^ 40 → (events : List Happening) (picked : IsPickedRunOf s seed last events) → rows_of s (heard_in picked.world) ≡ history_rows s (script_history s events)
+
+module _ (s : Content) (content : IsContent s) (start : IsStart s.opening) (seed last : ℕ) (most : last ≤ 2 ^ 40) (events : List Happening) (programs : List (ProcName × Shelled)) (ended : worlds.IsRunOf shell_wants shell_after (made_shell s) (setup_of s) s.plan seed last events programs) (pick : PickEnded) where
+  abbrev by_turns : List Happening
+  by_turns = by_place ended.world.done
+
+  abbrev picks : IsPickedRunOf s seed last by_turns
+  picks = picked s content seed last events programs ended
+
+  abbrev run : (w : World) × IsEndedRunOf s by_turns w × IsLike picks.world w
+  run = pick s seed last content start most by_turns picks
 
   -- what came of the script
-  pub ran_is : AreAsOneStore → ((p : ProcName) (heard : Heard) → shell_answers (program_after shell_after (shell_of s p) heard) ≡ answers s p heard)
-      → (procs : List ProcName) → procs ≡ processes_of s.commands → (rows : List AnswerRow) → map answers_in rows ≡ map (row_in programs) procs → IsRan s seed last (record { events = events; answers = rows })
-  ran_is one_store answered procs are rows same =
-      let all : RunOf s seed last = record { events = by_place ended.world.done; run = run_of; one_store = one_store s seed last content start most (by_place ended.world.done) run_of } in
-      (all, ended.events_are, same ∙ rows_are s content seed last events programs ended answered procs are)
+  pub ran_is : AreAsOneStore → AnswerByHistory → ((p : ProcName) (heard : Heard) → shell_answers (program_after shell_after (shell_of s p) heard) ≡ answers s p heard)
+      → (procs : List ProcName) → procs ≡ processes_of s.commands → (rows : List AnswerRow) → map answers_in rows ≡ map (row_in programs) procs → RunOf s seed last (record { events = events; answers = rows })
+  ran_is one_store by_history answered procs are rows same =
+      record {
+        events = by_turns;
+        world = run.0;
+        run = run.1;
+        picked = picks;
+        one_store = one_store s content start by_turns run.0 run.1;
+        recent = ended.recent;
+        by_place = ended.events_are;
+        answered = same ∙ (rows_are s content seed last events programs ended answered procs are ∙ by_history s seed last content start most by_turns picks);
+      }
 
   -- each node that an event names has a name
   pub names_are : NameTheirNodes → All (Names (names_of s)) events
-  names_are named = subst (All (Names (names_of s))) (sym ended.events_are) (events_named s (by_place ended.world.done) (named s seed last content start most (by_place ended.world.done) run_of))
+  names_are named = subst (All (Names (names_of s))) (sym ended.events_are) (events_named s by_turns (named s content start by_turns run.0 run.1))

@@ -3,7 +3,8 @@ use Rattle.std.proofs.Common.{◌≡◌, ℕ, ◌+◌, ◌<◌, List, [], ◌∷
 use Rattle.std.proofs.Math.Seq.{take-suc}
 use Rattle.std.proofs.lemmas.List.{length-take, map_more}
 use Rattle.script_runner.specs.declared.run.AnswerRow.{AnswerRow}
-use Rattle.script_runs.specs.Reports.{ProcAnswers, process_text, report_line, report_lines, lines_of}
+use Rattle.node_texts.specs.Texts.{process_text}
+use Rattle.script_runs.specs.Reports.{ProcAnswers, report_line, report_lines, lines_of}
 use Rattle.script_runner.specs.Reports.{answers_in}
 
 report_lines-push : (process : List ℕ) (n : ℕ) (answers : List (List ℕ)) (a : List ℕ) → report_lines process n (answers ++ a ∷ []) ≡ report_lines process n answers ++ report_line process (n + length answers) a

@@ -1,8 +1,9 @@
 -- What the program promises of its words, its source and its sinks.
-use Rattle.std.specs.Prelude.{ℕ, Bool, ◌==◌, ◌||◌, ◌≡◌, ◌⊎◌, List, ◌++◌, codes, decimal, Option, IfSome}
+use Rattle.std.specs.Prelude.{ℕ, Bool, ◌==◌, ◌||◌, ◌≡◌, ◌⊎◌, List, ◌++◌, codes, decimal, map, Option, Some, IfSome, String, string_bytes}
 use Rattle.std.specs.Io.KnownBytes.{append_known}
+use Rattle.dom_io.specs.Counts.{CountRose}
 use Rattle.dom_io.specs.Known.{AppendsPrefix}
-use Rattle.dom_history.specs.Events.{Happening}
+use Rattle.dom_history.specs.Histories.{History}
 use Rattle.script_reader.specs.declared.cause.Cause.{Cause}
 use Rattle.script_reader.specs.Causes.{cause_text}
 use Rattle.script_reader.specs.Scripts.{Content}
@@ -10,10 +11,12 @@ use Rattle.script_reader.specs.Grammar.{IsScript, IsBad}
 use Rattle.script_maker.specs.Generated.{generated}
 use Rattle.script_runner.specs.declared.words.Origin.{Origin}
 use Rattle.script_runner.specs.declared.words.Origin.TheVariants.{Read, Generated}
-use Rattle.script_runner.specs.Words.{AskFor}
-use Rattle.script_runs.specs.Runs.{IsRunOf, ComesToTick, last_tick}
+use Rattle.script_runner.specs.Words.{AskFor, IsTaken}
+use Rattle.script_runs.specs.Runs.{ComesToTick, last_tick}
 use Rattle.script_runs.specs.Reports.{report_of}
 use Rattle.script_runs.specs.Summaries.{summary_of}
+use Rattle.script_runs.specs.Histories.{script_history}
+use Rattle.script_runner.specs.declared.run.Ran.{Ran}
 use Rattle.script_runner.specs.Reports.{RunOf, journal_of}
 
 -- the exit statuses
@@ -42,12 +45,6 @@ abbrev pub IsScriptFrom : Origin → Option (List ℕ) → Content → Type 0
 IsScriptFrom Read left script = IsSourceOf left script
 IsScriptFrom (Generated seed) left script = script ≡ generated seed
 
--- the run of the script that is run
-pub record RunOfSource (origin : Origin) (left : Option (List ℕ)) (turns : ℕ) : Type 0 where
-  pub script : Content
-  pub source : IsScriptFrom origin left script
-  pub is : RunOf script turns last_tick
-
 -- the turns of this number give a node of the script the last tick
 pub record LimitOfSource (origin : Origin) (left : Option (List ℕ)) (turns : ℕ) : Type 0 where
   pub script : Content
@@ -55,16 +52,19 @@ pub record LimitOfSource (origin : Origin) (left : Option (List ℕ)) (turns : �
   pub node : ℕ
   pub comes : ComesToTick script turns last_tick node
 
--- what is told of a run: the report, or for a script that was generated the line that sums it up
-abbrev pub text_of : Origin → (s : Content) {turns last : ℕ} {events : List Happening} → IsRunOf s turns last events → List ℕ
-text_of Read s run = report_of s run
-text_of (Generated seed) s run = summary_of seed s run
+-- what is told of a history: the report, or for a script that was generated the line that sums it up
+abbrev pub text_of : Origin → Content → History → List ℕ
+text_of Read s h = report_of s h
+text_of (Generated seed) s h = summary_of seed s h
 
-abbrev pub text_in : (origin : Origin) {left : Option (List ℕ)} {turns : ℕ} → RunOfSource origin left turns → List ℕ
-text_in origin r = text_of origin r.script r.is.run
-
-abbrev pub journal_in : {origin : Origin} {left : Option (List ℕ)} {turns : ℕ} → RunOfSource origin left turns → List ℕ
-journal_in r = journal_of r.script r.is.events
+-- the run of the script that is run, what is told of its history, and its journal
+pub record RunOfSource (origin : Origin) (left : Option (List ℕ)) (turns : ℕ) (text lines : List ℕ) : Type 0 where
+  pub script : Content
+  pub source : IsScriptFrom origin left script
+  pub ran : Ran
+  pub run : RunOf script turns last_tick ran
+  pub told : text ≡ text_of origin script (script_history script run.events)
+  pub written : lines ≡ journal_of script run.events
 
 -- the bytes of a source are bad at this line, for this cause
 pub record IsBadSource (left : Option (List ℕ)) (line : ℕ) (cause : Cause) : Type 0 where
@@ -84,13 +84,9 @@ abbrev pub IsRefusalFrom : Origin → Option (List ℕ) → List ℕ → Type 0
 IsRefusalFrom Read left text = IsRefusalOfSource left text
 IsRefusalFrom (Generated seed) left text = ⊥
 
--- the text is what is told of the run that the number of turns picks
-abbrev pub IsTextOfSource : Origin → Option (List ℕ) → ℕ → List ℕ → Type 0
-IsTextOfSource origin left turns text = (r : RunOfSource origin left turns) × (text ≡ text_in origin r)
-
--- the text that is due: what is told of the run, or what is said of the first bad line
+-- the text that is due: what is told of the run that the number of turns picks, or what is said of the first bad line
 abbrev pub IsDue : Origin → Option (List ℕ) → ℕ → List ℕ → Type 0
-IsDue origin left turns text = IsTextOfSource origin left turns text ⊎ IsRefusalFrom origin left text
+IsDue origin left turns text = ((lines : List ℕ) × RunOfSource origin left turns text lines) ⊎ IsRefusalFrom origin left text
 
 -- a text was added at the end of what a sink holds, where it tells that
 abbrev pub Adds : Option (List ℕ) → Option (List ℕ) → List ℕ → Type 0
@@ -104,23 +100,32 @@ pub record Held : Type 0 where
 abbrev pub from_to : Option (List ℕ) → Option (List ℕ) → Held
 from_to before after = record { before = before; after = after }
 
+-- a text was added, with this status; or a first part of it, which may be all of it, with 5, where a write failed
+abbrev pub AddsOrFails : ℕ → ℕ → Held → ℕ → ℕ → List ℕ → Type 0
+AddsOrFails result status held before after text =
+    ((result ≡ status) × Adds held.before held.after text) ⊎ ((result ≡ 5) × CountRose before after × AppendsPrefix held.before held.after text)
+
 -- the text and the journal of one run were added, each to its sink; the words ask for its script and its turns
 pub record AddsRun (words : List (List ℕ)) (left : Option (List ℕ)) (out journal : Held) : Type 0 where
   pub origin : Origin
   pub turns : ℕ
   pub asked : AskFor words origin turns
-  pub run : RunOfSource origin left turns
-  pub told : Adds out.before out.after (text_in origin run)
-  pub written : Adds journal.before journal.after (journal_in run)
+  pub text : List ℕ
+  pub lines : List ℕ
+  pub run : RunOfSource origin left turns text lines
+  pub told : Adds out.before out.after text
+  pub written : Adds journal.before journal.after lines
 
 -- the text was added, and a first part of the journal of the same run, which may be all of it
 pub record AddsPartOfRun (words : List (List ℕ)) (left : Option (List ℕ)) (out journal : Held) : Type 0 where
   pub origin : Origin
   pub turns : ℕ
   pub asked : AskFor words origin turns
-  pub run : RunOfSource origin left turns
-  pub told : Adds out.before out.after (text_in origin run)
-  pub part : AppendsPrefix journal.before journal.after (journal_in run)
+  pub text : List ℕ
+  pub lines : List ℕ
+  pub run : RunOfSource origin left turns text lines
+  pub told : Adds out.before out.after text
+  pub part : AppendsPrefix journal.before journal.after lines
 
 -- what is said of the first bad line was added
 pub record AddsRefusal (left : Option (List ℕ)) (out : Held) : Type 0 where
@@ -143,3 +148,19 @@ pub record ComesToTheLimit (words : List (List ℕ)) (left : Option (List ℕ)) 
   pub turns : ℕ
   pub asked : AskFor words origin turns
   pub limit : LimitOfSource origin left turns
+
+-- the words are taken, and the source tells that it has the bytes of a script left
+pub record HasScript {Z : Type 0} (words : List (String Z)) (left : Option (List ℕ)) : Type 0 where
+  pub bytes : List ℕ
+  pub script : Content
+  pub taken : IsTaken (map string_bytes words)
+  pub left_is : left ≡ Some bytes
+  pub form : IsScript bytes script
+
+-- nothing failed: this count of faults did not rise
+abbrev pub NoFault : {A : Type 0} → (A → ℕ) → A → A → Type 0
+NoFault faults old new = CountRose (faults old) (faults new) → ⊥
+
+-- what is told of a run was written, and its journal; or there was no memory, or a node came to the last tick
+abbrev pub IsDone : ℕ → Type 0
+IsDone status = (status ≡ 0) ⊎ ((status ≡ 7) ⊎ (status ≡ 8))

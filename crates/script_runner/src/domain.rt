@@ -1,15 +1,13 @@
 //! The program: from its words and a script to what is told of its run, and the journal.
-ghost use Rattle.std.specs.Prelude.{◌≡◌, ◌≢◌, ◌+◌, ◌⊎◌, ℕ, List, Option, map, string_bytes, IsTrue, IfOk, IfErr, IsErrOf, Some};
+ghost use Rattle.std.specs.Prelude.{◌≡◌, ◌≢◌, ◌+◌, ◌⊎◌, ℕ, List, Option, map, string_bytes, IsTrue, IfOk, IfErr, IsErrOf};
 ghost use Rattle.dom_io.specs.Counts.{CountRose};
 ghost use Rattle.dom_io.specs.Known.{TakesAtMost, AppendsPrefix};
 ghost use Rattle.script_reader.specs.declared.cause.Cause.{Cause};
-ghost use Rattle.script_reader.specs.Scripts.{Content};
-ghost use Rattle.script_reader.specs.Grammar.{IsScript};
 ghost use Rattle.script_runner.specs.declared.words.Origin.TheVariants.{Read, Generated};
 ghost use Rattle.script_runner.specs.Words.{IsTaken, AskToRead, AskToGenerate, seed_of};
 ghost use Rattle.script_runner.specs.Reports.{answers_in};
-ghost use Rattle.script_runner.specs.Domain.{is_status, usage as usage_text, refusal as refusal_text, from_to, Adds, AddsRun, AddsPartOfRun, AddsRefusal, AddsPart, ComesToTheLimit, LimitOfSource};
-ghost use Rattle.script_runner.specs.DueTexts.{told_of, IsDueText, IsDueOf, IsEndOf};
+ghost use Rattle.script_runner.specs.Domain.{is_status, usage as usage_text, refusal as refusal_text, from_to, Adds, AddsOrFails, AddsRun, AddsPartOfRun, AddsRefusal, AddsPart, IsScriptFrom, ComesToTheLimit, LimitOfSource, HasScript, NoFault, IsDone};
+ghost use Rattle.script_runner.specs.DueTexts.{told_of, IsDueText, IsEndOf};
 
 use crate::names::names_of;
 use crate::report::report;
@@ -17,12 +15,13 @@ use crate::run::{AnswerRow, MergedRan, run_merged};
 use crate::run_journal::RunJournal;
 use crate::summary::summary;
 use crate::words::{Asked, Origin, words_asked};
+use dom_history::NodeNames;
 use dom_io::{ReadEnd, Sink, Source, read_all, write_all};
 use dom_text::put_decimal;
 use node_core::RunFault;
 use script_maker::generate;
 use script_reader::laws::scripts_have_one_reading;
-use script_reader::{Cause, NodeRow, Script, ScriptFault, read_script};
+use script_reader::{Cause, Script, ScriptFault, read_script};
 use std::alloc::Global;
 use thiserror::Error;
 use uid_names::{ByteList, NoMemory, SCRIPT_BYTES};
@@ -79,13 +78,13 @@ fn refusal(alloc: Global, line: u32, cause: Cause) -> Result<ByteList, NoMemory>
 fn told(
     alloc: Global,
     origin: Origin,
-    nodes: &[NodeRow],
+    names: &NodeNames,
     rows: &[AnswerRow],
 ) -> Result<ByteList, NoMemory>
-    ensures { IfOk result (λ text. text ≡ told_of origin (map (λ n. n.name) nodes.now) (map answers_in rows.now)) }
+    ensures { IfOk result (λ text. text ≡ told_of origin names.now (map answers_in rows.now)) }
 {
     match origin {
-        Origin::Read => report(alloc, nodes, rows),
+        Origin::Read => report(alloc, names, rows),
         Origin::Generated(seed) => summary(alloc, seed, rows),
     }
 }
@@ -97,7 +96,7 @@ fn run_due(
     script: &Script,
     turns: Option<u64>,
 ) -> Result<Due, RunEnd>
-    ensures due { IfOk result (IsDueOf origin script.now (seed_of turns)) }
+    ensures due { (left : Option (List ℕ)) → IsScriptFrom origin left script.now → IfOk result (IsDueText origin left (seed_of turns)) }
     ensures end { IfErr result (IsEndOf script.now (seed_of turns)) }
 {
     let MergedRan { events, answers } = match run_merged(alloc, script, turns, LAST_TICK) {
@@ -105,8 +104,8 @@ fn run_due(
         Err(RunFault::TickLimit(_)) => return Err(RunEnd::TickLimit),
         Err(RunFault::NoMemory) => return Err(RunEnd::NoMemory),
     };
-    let text = told(alloc, origin, script.nodes(), answers.items())?;
     let names = names_of(alloc, script.nodes())?;
+    let text = told(alloc, origin, &names, answers.items())?;
     Ok(Due::Run(text, RunJournal::new(events, names)))
 }
 
@@ -157,8 +156,7 @@ fn asked_due<S: Source>(alloc: Global, asked: Asked, script: &mut S) -> Result<D
 
 /// Writes a text: the status, or 5 where a write failed.
 fn write_text<O: Sink>(out: &mut O, text: &[u8], status: u8) -> u8
-    ensures either { ((result ≡ status) × Adds (O.held out.old) (O.held out.new) text.now)
-        ⊎ ((result ≡ 5) × CountRose (O.faults out.old) (O.faults out.new) × AppendsPrefix (O.held out.old) (O.held out.new) text.now) }
+    ensures either { AddsOrFails result status (from_to (O.held out.old) (O.held out.new)) (O.faults out.old) (O.faults out.new) text.now }
 {
     match write_all(out, text) {
         Ok(()) => status,
@@ -223,8 +221,9 @@ pub fn run_domain<S: Source, O: Sink, J: Sink>(
     // The headline: what is written is the report and the journal of one run of the script's nodes, which is planned by its
     // faults and which the turns of the words pick. All nodes have ended in it. Its history is one of one store without nodes or
     // caches, and holds each process's commands once and in order, to their end, in phases that never overlap; the report is
-    // exactly its answers. And at each unlock of a held lock every page that the holder modified is at its home. Where the words
-    // ask for the script of a seed it is the generated one, and in place of the report stands the line that sums up its answers.
+    // exactly its answers, just one for each command. And at each unlock of a held lock every page that the holder modified is
+    // at its home. Where the words ask for the script of a seed it is the generated one, and in place of the report stands the
+    // line that sums up its answers.
     ensures run { result ≡ 0 → AddsRun (map string_bytes words.now) (S.left script.old)
         (from_to (O.held out.old) (O.held out.new)) (from_to (J.held journal.old) (J.held journal.new)) }
 
@@ -253,13 +252,10 @@ pub fn run_domain<S: Source, O: Sink, J: Sink>(
     ensures source { TakesAtMost (SCRIPT_BYTES + 1) (S.left script.old) (S.left script.new) }
 
     // Where nothing outside fails, a script is run to its end or to the last tick, or there was no memory.
-    ensures complete { (bytes : List ℕ) → (s : Content) → IsTaken (map string_bytes words.now) → S.left script.old ≡ Some bytes → IsScript bytes s
-        → (CountRose (S.faults script.old) (S.faults script.new) → ⊥) → (CountRose (O.faults out.old) (O.faults out.new) → ⊥)
-        → (CountRose (J.faults journal.old) (J.faults journal.new) → ⊥)
-        → (result ≡ 0) ⊎ ((result ≡ 7) ⊎ (result ≡ 8)) }
+    ensures complete { HasScript words.now (S.left script.old)
+        → NoFault S.faults script.old script.new → NoFault O.faults out.old out.new → NoFault J.faults journal.old journal.new → IsDone result }
     ensures complete_generated { AskToGenerate (map string_bytes words.now)
-        → (CountRose (O.faults out.old) (O.faults out.new) → ⊥) → (CountRose (J.faults journal.old) (J.faults journal.new) → ⊥)
-        → (result ≡ 0) ⊎ ((result ≡ 7) ⊎ (result ≡ 8)) }
+        → NoFault O.faults out.old out.new → NoFault J.faults journal.old journal.new → IsDone result }
 {
     let Some(asked) = words_asked(words) else {
         return write_text(out, USAGE, 2);

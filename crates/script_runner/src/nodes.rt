@@ -17,12 +17,12 @@ use std::alloc::Global;
 use uid_names::{NoMemory, NodeId, ProcId};
 
 /// The shells of a node's processes among these, each with its number there.
-fn shells(
+fn shells<'a>(
     alloc: Global,
-    script: &Script,
+    script: &'a Script,
     procs: &[ProcId],
     node: NodeId,
-) -> Result<Vec<(u8, Shell)>, NoMemory>
+) -> Result<Vec<(u8, Shell<'a>)>, NoMemory>
     ensures { IfOk result (λ shells. shells.items ≡ shells_among script.now node procs.now) }
 {
     let mut shells = Vec::new(alloc);
@@ -35,12 +35,12 @@ fn shells(
 }
 
 /// A node of a script.
-fn node_of(
+fn node_of<'a>(
     alloc: Global,
-    script: &Script,
+    script: &'a Script,
     procs: &[ProcId],
     node: NodeId,
-) -> Result<Node<Shell, BlockPages>, NoMemory>
+) -> Result<Node<Shell<'a>, BlockPages>, NoMemory>
     requires procs { procs.now ≡ processes_of script.now.commands }
     requires node { node ≤ length script.now.nodes }
     ensures { IfOk result (IsFirstNode script.now node) }
@@ -68,7 +68,7 @@ fn node_of(
 pub(crate) fn nodes_of(
     alloc: Global,
     script: &Script,
-) -> Result<Vec<Node<Shell, BlockPages>>, NoMemory>
+) -> Result<Vec<Node<Shell<'_>, BlockPages>>, NoMemory>
     ensures { IfOk result (λ nodes. AreNodes shell_wants shell_after (made_shell script.now) (setup_of script.now) nodes.items) }
 {
     // So they are nodes of one set-up.

@@ -1,32 +1,22 @@
 //! How answers are written in a report.
 ghost use Rattle.std.specs.Prelude.{◌≡◌, ◌++◌, map, IfOk, OnOk};
-ghost use Rattle.script_runs.specs.Reports.{process_text, report_line, report_lines, lines_of};
+ghost use Rattle.node_texts.specs.Texts.{process_text};
+ghost use Rattle.script_runs.specs.Reports.{report_line, report_lines, lines_of};
 ghost use Rattle.script_runner.specs.Reports.{answers_in};
-ghost use Rattle.aegis_shell.specs.AnswerTexts.{node_name};
 
 use crate::run::AnswerRow;
+use dom_history::NodeNames;
 use dom_text::put_decimal;
-use script_reader::NodeRow;
+use node_texts::put_process;
 use std::alloc::Global;
-use uid_names::{ByteList, NoMemory, NodeId, ProcId};
-
-/// The name of a node; empty where there is no such node.
-fn name_of(nodes: &[NodeRow], node: NodeId) -> &[u8]
-    ensures { result.now ≡ node_name (map (λ n. n.name) nodes.now) node }
-{
-    match nodes.get(node.number() as usize - 1) {
-        Some(row) => row.name.bytes(),
-        None => b"",
-    }
-}
+use uid_names::{ByteList, NoMemory, ProcId};
 
 /// A process by the name of its node.
-fn process_name(alloc: Global, nodes: &[NodeRow], proc: ProcId) -> Result<ByteList, NoMemory>
-    ensures { IfOk result (λ text. text ≡ process_text (map (λ n. n.name) nodes.now) proc) }
+fn process_name(alloc: Global, names: &NodeNames, proc: ProcId) -> Result<ByteList, NoMemory>
+    ensures { IfOk result (λ text. text ≡ process_text names.now proc) }
 {
-    let mut text = ByteList::from_slice(alloc, name_of(nodes, proc.node()))?;
-    text.extend(b".")?;
-    put_decimal(&mut text, proc.number() as u64)?;
+    let mut text = ByteList::new(alloc);
+    put_process(&mut text, names, proc)?;
     Ok(text)
 }
 
@@ -54,14 +44,14 @@ fn put_lines(to: &mut ByteList, process: &[u8], answers: &[ByteList]) -> Result<
 /// The report: the lines of each process, one process after another.
 pub(crate) fn report(
     alloc: Global,
-    nodes: &[NodeRow],
+    names: &NodeNames,
     rows: &[AnswerRow],
 ) -> Result<ByteList, NoMemory>
-    ensures { IfOk result (λ text. text ≡ lines_of (map (λ n. n.name) nodes.now) (map answers_in rows.now)) }
+    ensures { IfOk result (λ text. text ≡ lines_of names.now (map answers_in rows.now)) }
 {
     let mut text = ByteList::new(alloc);
     for row in rows {
-        let name = process_name(alloc, nodes, row.proc)?;
+        let name = process_name(alloc, names, row.proc)?;
         put_lines(&mut text, name.bytes(), row.answers.items())?;
     }
     Ok(text)

@@ -9,7 +9,7 @@ ghost use Rattle.script_runner.specs.Answered.{row_in};
 ghost use Rattle.journal_text.specs.Lines.{Names};
 ghost use Rattle.script_runner.specs.Words.{seed_of};
 ghost use Rattle.script_runs.specs.Reports.{names_of};
-ghost use Rattle.script_runner.specs.Reports.{IsRan, answers_in};
+ghost use Rattle.script_runner.specs.Reports.{RunOf, answers_in};
 ghost use Rattle.script_runner.specs.Faults.{IsFaultOf};
 
 use crate::nodes::nodes_of;
@@ -20,8 +20,8 @@ use dom_history::{EventList, MergedLogs};
 use node_core::RunFault;
 use script_reader::Script;
 use script_runs::laws::{
-    a_seed_picks_one_run_of_a_script, runs_of_scripts_are_as_one_store,
-    runs_of_scripts_name_their_nodes,
+    a_seed_picks_one_run_of_a_script, answers_are_functions_of_histories,
+    ended_runs_of_scripts_are_as_one_store, ended_runs_of_scripts_name_their_nodes,
 };
 use std::alloc::Global;
 use uid_names::{ByteList, ItemList, NoMemory, ProcId};
@@ -63,7 +63,7 @@ fn answers_of(alloc: Global, shell: &Shell) -> Result<ItemList<ByteList>, NoMemo
 }
 
 /// The shell of a process.
-fn shell_in(shells: &[(ProcId, Shell)], proc: ProcId) -> Option<&Shell>
+fn shell_in<'a, 'b>(shells: &'a [(ProcId, Shell<'b>)], proc: ProcId) -> Option<&'a Shell<'b>>
     ensures { option_copied result ≡ named shells.now proc }
 {
     for (other, shell) in shells {
@@ -77,7 +77,7 @@ fn shell_in(shells: &[(ProcId, Shell)], proc: ProcId) -> Option<&Shell>
 /// The answers of these processes, each of which has a shell.
 fn answers(
     alloc: Global,
-    shells: &[(ProcId, Shell)],
+    shells: &[(ProcId, Shell<'_>)],
     procs: &[ProcId],
 ) -> Result<AnswerRows, NoMemory>
     requires { All (λ p. IsSome (named shells.now p)) procs.now }
@@ -103,7 +103,7 @@ fn run_nodes(
     script: &Script,
     turns: u64,
     last_tick: u64,
-) -> Result<(MergedLogs, Vec<(ProcId, Shell)>), RunFault>
+) -> Result<(MergedLogs, Vec<(ProcId, Shell<'_>)>), RunFault>
     requires some { 1 ≤ last_tick }
     requires few { last_tick ≤ 2 ^ 40 }
     ensures run { IfOk result (λ r. IsRunOf shell_wants shell_after (made_shell script.now) (setup_of script.now) script.now.plan turns last_tick r.0.events r.1.items) }
@@ -125,17 +125,19 @@ pub(crate) fn run_merged(
     requires some { 1 ≤ last_tick }
     requires few { last_tick ≤ 2 ^ 40 }
     ensures named { IfOk result (λ ran. All (Names (names_of script.now)) ran.events.events) }
-    ensures ran { IfOk result (λ ran. IsRan script.now (seed_of turns) last_tick (record { events = ran.events.events; answers = ran.answers })) }
+    ensures ran { IfOk result (λ ran. RunOf script.now (seed_of turns) last_tick (record { events = ran.events.events; answers = ran.answers })) }
     ensures limit { IfErr result (IsFaultOf script.now (seed_of turns) last_tick) }
 {
     let (events, shells) = run_nodes(alloc, script, turns.unwrap_or(0), last_tick)?;
     let procs = processes_in(alloc, script.commands())?;
     let answers = answers(alloc, shells.as_slice(), procs.as_slice())?;
-    // So the run is planned, names its own nodes and is as one store would have it, and the shells were answered what it says.
+    // So the run is planned and has ended, names its own nodes and is as one store would have it, and the shells were answered what its
+    // history says.
     let _start = script.opening().nodes();
     a_seed_picks_one_run_of_a_script();
-    runs_of_scripts_name_their_nodes();
-    runs_of_scripts_are_as_one_store();
+    ended_runs_of_scripts_name_their_nodes();
+    ended_runs_of_scripts_are_as_one_store();
+    answers_are_functions_of_histories();
     shells_go_by_all_they_heard();
     Ok(MergedRan { events, answers })
 }
@@ -151,7 +153,7 @@ pub fn run_script(
     requires some { 1 ≤ last_tick }
     requires few { last_tick ≤ 2 ^ 40 }
     ensures named { IfOk result (λ ran. All (Names (names_of script.now)) ran.events) }
-    ensures ran { IfOk result (IsRan script.now (seed_of turns) last_tick) }
+    ensures ran { IfOk result (RunOf script.now (seed_of turns) last_tick) }
     ensures limit { IfErr result (IsFaultOf script.now (seed_of turns) last_tick) }
 {
     let ran = run_merged(alloc, script, turns, last_tick)?;

@@ -4,3 +4,5 @@ pub mod Running
 pub mod Driven
 pub mod Pacing
 pub mod Faultless
+pub mod Commands
+pub mod Counting

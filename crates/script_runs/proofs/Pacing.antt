@@ -15,8 +15,7 @@ use Rattle.script_reader.specs.declared.script.CommandRow.{CommandRow}
 use Rattle.script_reader.specs.Commands.{IsCommandRow}
 use Rattle.script_reader.specs.Scripts.{Content, IsContent}
 use Rattle.script_reader.specs.Variables.{declared_object}
-use Rattle.aegis_shell.specs.declared.work.Job.{Job}
-use Rattle.aegis_shell.specs.Work.{Part, job_of, part_of, jobs_of}
+use Rattle.aegis_shell.specs.Work.{Job, Part, job_of, part_of, jobs_of}
 use Rattle.aegis_shell.specs.Asking.{ask}
 use Rattle.command_talks.specs.declared.outcome.Outcome.{Outcome}
 use Rattle.aegis_shell.specs.declared.stage.Stage.{Stage}

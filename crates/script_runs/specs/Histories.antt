@@ -1,5 +1,5 @@
 -- What the history of a script's run says of its processes.
-use Rattle.std.specs.Prelude.{◌≡◌, ℕ, false, List, All, map}
+use Rattle.std.specs.Prelude.{◌≡◌, ℕ, ◌*◌, ◌≤◌, false, List, length, All, map}
 use Rattle.uid_names.specs.Names.{ProcName, IsProcNumber}
 use Rattle.dom_history.specs.declared.op.Entry.{Entry}
 use Rattle.dom_history.specs.declared.plan.FateRow.{FateRow}
@@ -7,16 +7,20 @@ use Rattle.dom_history.specs.Events.{Happening}
 use Rattle.dom_history.specs.Histories.{History, entries, told}
 use Rattle.dom_history.specs.Legal.{IsLegal}
 use Rattle.dom_history.specs.Runs.{AreAnswered, IsEntry}
-use Rattle.dom_history.specs.Follows.{Reaches, Follows, IsEnded, IsPhased, entries_of}
+use Rattle.dom_history.specs.Follows.{Reaches, Follows, IsEnded, IsPhased}
 use Rattle.script_reader.specs.Scripts.{Content}
 use Rattle.aegis_shell.specs.Asking.{ask}
 use Rattle.node_runs.specs.Runs.{World, HasEnded}
 use Rattle.node_runs.specs.RunHistories.{history_of}
 use Rattle.node_runs.specs.Deliveries.{is_gone}
 use Rattle.run_calls.specs.Entries.{replies_in}
-use Rattle.run_moves.specs.HomesAtUnlocks as moves
+use Rattle.run_faults.specs.LinkFaults.{fault_entries, marked}
+use Rattle.run_faults.specs.EightNotices.{HasEightNotices}
+use Rattle.every_run.specs.EveryRun.{HomesHaveAll as HomesHaveAllOf}
+pub use Rattle.every_run.specs.HeardOf.{heard_in, own_entries}
 use Rattle.script_runs.specs.Setups.{setup_of}
-use Rattle.script_runs.specs.Runs.{heard_in}
+use Rattle.script_runs.specs.Answers.{AreAllAnswered}
+use Rattle.script_runs.specs.Reports.{rows_of, history_rows}
 
 -- the history of a script's events
 abbrev pub script_history : Content → List Happening → History
@@ -33,7 +37,7 @@ IsOfOneStore s events = IsLegal s.opening (script_history s events)
 -- at each unlock of a lock that its process held, the object's home has every byte and the length of it as the history has them there, and so
 -- every page that the holder modified
 abbrev pub HomesHaveAll : Content → List Happening → Type 0
-HomesHaveAll s events = moves.HomesHaveAll (setup_of s) events
+HomesHaveAll s events = HomesHaveAllOf (setup_of s) events
 
 -- its phases never overlap: no entry stands before one of a smaller phase, over all processes
 abbrev pub KeepsPhasesApart : Content → List Happening → Type 0
@@ -43,17 +47,17 @@ KeepsPhasesApart s events = IsPhased (entries (script_history s events).items)
 abbrev pub IsWhole : Content → List Happening → Type 0
 IsWhole s events = IsEnded (ask s) (script_history s events)
 
--- the entries of a process in it, the last one by place first
-abbrev pub own_entries : Content → List Happening → ProcName → List Entry
-own_entries s events p = entries_of p (entries (script_history s events).items)
-
 -- each process's entries have exactly the replies that its program heard in this world
 abbrev pub AreRepliesHeard : Content → List Happening → World → Type 0
-AreRepliesHeard s events w = (p : ProcName) → IsProcNumber p.number → map (λ (e : Entry). e.reply) (own_entries s events p) ≡ replies_in (heard_in w p)
+AreRepliesHeard s events w = (p : ProcName) → IsProcNumber p.number → map (λ (e : Entry). e.reply) (own_entries (script_history s events) p) ≡ replies_in (heard_in w p)
 
 -- and the operations that the script's process asked each time, each once and in its phase
 abbrev pub AreAskedHeard : Content → List Happening → World → Type 0
-AreAskedHeard s events w = (p : ProcName) → IsProcNumber p.number → (phase : ℕ) × Reaches (ask s p) (own_entries s events p) (heard_in w p) phase
+AreAskedHeard s events w = (p : ProcName) → IsProcNumber p.number → (phase : ℕ) × Reaches (ask s p) (own_entries (script_history s events) p) (heard_in w p) phase
+
+-- what its processes heard in this world gives the answers that the history says
+abbrev pub AreAnswersOfHistory : Content → List Happening → World → Type 0
+AreAnswersOfHistory s events w = rows_of s (heard_in w) ≡ history_rows s (script_history s events)
 
 -- by the plan no frame is lost or late
 abbrev pub LosesNothing : List FateRow → Type 0
@@ -64,13 +68,26 @@ pub record IsFaultless (s : Content) (events : List Happening) : Type 0 where
   pub no_acts : All IsEntry (script_history s events).items
   pub answered : AreAnswered s.opening (told (entries (script_history s events).items))
 
--- a run of a script is as one store would have it, without nodes or caches; its nodes ended in this world
+-- each entry that a link fault answered has eight notices of one call of its operation, each of a frame of its own that is lost or late
+abbrev pub HaveEightNotices : Content → List Happening → World → Type 0
+HaveEightNotices s events w = All (HasEightNotices s.plan w) (fault_entries (script_history s events))
+
+-- so eight times as many frames are lost or late, at least
+abbrev pub AreFaultsFew : Content → List Happening → Type 0
+AreFaultsFew s events = 8 * length (fault_entries (script_history s events)) ≤ marked s.plan events
+
+-- an ended run of a script is as one store would have it, without nodes or caches
 pub record IsAsOneStore (s : Content) (events : List Happening) (w : World) : Type 0 where
+  -- all nodes have ended in this world
   pub ended : HasEnded (setup_of s) w
   pub legal : IsOfOneStore s events
   pub follows : FollowsScript s events
   pub whole : IsWhole s events
   pub phased : KeepsPhasesApart s events
   pub heard : AreRepliesHeard s events w
+  pub asked : AreAskedHeard s events w
+  pub all_answered : AreAllAnswered s (script_history s events)
   pub homes : HomesHaveAll s events
+  pub eight_notices : HaveEightNotices s events w
+  pub few_faults : AreFaultsFew s events
   pub faultless : LosesNothing s.plan → IsFaultless s events

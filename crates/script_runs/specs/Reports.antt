@@ -1,22 +1,18 @@
--- The report of a run of a script.
+-- The report of a script.
 use Rattle.std.specs.Prelude.{ℕ, ◌+◌, List, [], ◌∷◌, ◌++◌, codes, decimal, map}
 use Rattle.uid_names.specs.Names.{ProcName}
-use Rattle.dom_history.specs.Events.{Happening}
 use Rattle.dom_history.specs.Follows.{Heard}
+use Rattle.dom_history.specs.Histories.{History}
+use Rattle.node_texts.specs.Texts.{process_text}
 use Rattle.script_reader.specs.Scripts.{Content}
-use Rattle.aegis_shell.specs.AnswerTexts.{node_name}
 use Rattle.aegis_shell.specs.Asking.{answers}
 use Rattle.script_runs.specs.Processes.{processes_of}
-use Rattle.script_runs.specs.Runs.{IsRunOf, heard_in}
+use Rattle.script_runs.specs.Answers.{heard_as}
 
 -- a process, and the answers of its commands in order
 pub record ProcAnswers : Type 0 where
   pub proc : ProcName
   pub answers : List (List ℕ)
-
--- a process by the name of its node
-abbrev pub process_text : List (List ℕ) → ProcName → List ℕ
-process_text names p = node_name names p.node ++ codes "." ++ decimal p.number
 
 -- a line of the report: the process, the number of the command in its process, and its answer
 abbrev pub report_line : List ℕ → ℕ → List ℕ → List ℕ
@@ -40,10 +36,10 @@ names_of s = map (λ n. n.name) s.nodes
 abbrev pub rows_of : Content → (ProcName → Heard) → List ProcAnswers
 rows_of s heard = map (λ p. record { proc = p; answers = answers s p (heard p) }) (processes_of s.commands)
 
--- a line for each command that was answered
-abbrev pub report : Content → (ProcName → Heard) → List ℕ
-report s heard = lines_of (names_of s) (rows_of s heard)
+-- the same, as a history has them
+abbrev pub history_rows : Content → History → List ProcAnswers
+history_rows s h = rows_of s (heard_as s h)
 
--- the report of a run: the answers over what each program heard in it
-abbrev pub report_of : (s : Content) {seed last : ℕ} {events : List Happening} → IsRunOf s seed last events → List ℕ
-report_of s run = report s (heard_in run.picked.world)
+-- the report of a history: a line for each command that was answered
+abbrev pub report_of : Content → History → List ℕ
+report_of s h = lines_of (names_of s) (history_rows s h)

@@ -1,10 +1,9 @@
--- The line that sums up a run of a script that was generated.
-use Rattle.std.specs.Prelude.{ℕ, Bool, ◌==◌, not, List, [], ◌∷◌, ◌++◌, codes, decimal, length}
+-- The line that sums up the answers of a script that was generated.
+use Rattle.std.specs.Prelude.{◌≡◌, ℕ, Bool, ◌==◌, not, List, ◌++◌, codes, decimal, length}
 use Rattle.std.specs.List.{starts_with, count_by, flat_map}
-use Rattle.dom_history.specs.Events.{Happening}
+use Rattle.dom_history.specs.Histories.{History}
 use Rattle.script_reader.specs.Scripts.{Content}
-use Rattle.script_runs.specs.Runs.{IsRunOf, heard_in}
-use Rattle.script_runs.specs.Reports.{ProcAnswers, rows_of}
+use Rattle.script_runs.specs.Reports.{ProcAnswers, history_rows}
 
 -- an answer is ok where it begins so
 abbrev pub is_ok : List ℕ → Bool
@@ -23,6 +22,10 @@ summary_line seed commands ok other =
 abbrev pub summary : ℕ → List (List ℕ) → List ℕ
 summary seed answers = summary_line seed (length answers) (count_by is_ok answers) (count_by (λ a. not (is_ok a)) answers)
 
--- the summary of a run: that of the answers over what each program heard in it, which are the answers of its report
-abbrev pub summary_of : ℕ → (s : Content) {turns last : ℕ} {events : List Happening} → IsRunOf s turns last events → List ℕ
-summary_of seed s run = summary seed (all_answers (rows_of s (heard_in run.picked.world)))
+-- the summary of a history: that of the answers of its report
+abbrev pub summary_of : ℕ → Content → History → List ℕ
+summary_of seed s h = summary seed (all_answers (history_rows s h))
+
+-- there are as many answers as commands
+abbrev pub AreAsManyAnswers : Content → History → Type 0
+AreAsManyAnswers s h = length (all_answers (history_rows s h)) ≡ length s.commands

@@ -1,4 +1,5 @@
-//! What a script gives its nodes, and the run that a seed picks of it; and laws of them.
+//! What a script gives its nodes; its runs that have ended, and the one that a seed picks; their answers and reports, by their history
+//! alone; and laws of them.
 #![tactic(auto)]
 
 pub mod laws;

@@ -13,8 +13,6 @@ pub mod no_memory;
 pub mod opening;
 pub mod segment;
 pub mod table;
-#[cfg(test)]
-mod tests;
 
 pub use byte_list::ByteList;
 pub use frame_kind::FrameKind;

@@ -4,8 +4,6 @@
 pub mod laws;
 pub mod seen;
 pub mod stamps;
-#[cfg(test)]
-mod tests;
 
 pub use seen::{Checked, Seen};
 pub use stamps::Stamp;

@@ -1,12 +1,13 @@
 -- A link whose entries go through a ring, with word of lost and late replies in their places.
 use Rattle.std.specs.Prelude.{◌≡◌, ℕ, ◌+◌, Bool, true, false, not, ◌&&◌, ◌⊎◌, Option, Some, None, List, [], ◌∷◌, ◌++◌, map}
 use Rattle.dom_history.specs.declared.plan.Fate.{Fate}
+use Rattle.dom_history.specs.Events.{Happening}
 use Rattle.ring_messages.specs.Frames.{Message}
 use Rattle.ring_messages.specs.Bodies.{is_request}
 use Rattle.ring_messages.specs.Spelling.{spelling}
 use Rattle.node_runs.specs.Deliveries.{in_place, is_gone}
 use Rattle.node_runs.specs.Runs.{numbered}
-use Rattle.world_runs.specs.Sendings.{Sending}
+use Rattle.world_runs.specs.Sendings.{Sending, sendings}
 use Rattle.world_runs.specs.Waiting as plain
 use Rattle.world_runs.specs.Links as links
 use Rattle.ring_links.specs.declared.entry.Waiting.{Waiting}
@@ -101,6 +102,14 @@ parcels_of xs = map (λ m. parcel.Frame (spelling m)) (frames_of xs)
 -- the entries that were put, as the runs name them
 abbrev pub names_of : List Carried → List plain.Entry
 names_of xs = map (λ e. carrying.plain_name e.waiting) (kept xs)
+
+-- what a wire of these fates puts of what was sent, so named
+abbrev pub names_put : (ℕ → Fate) → List Posting → List plain.Entry
+names_put fate xs = names_of (wire_after fate xs).put
+
+-- it is what these events sent on the link
+abbrev pub AreSentBy : ℕ → ℕ → List Happening → List Posting → Type 0
+AreSentBy from to es xs = map sending_of xs ≡ sendings from to es
 
 -- it was sent
 abbrev pub IsPosted : Posting → List Posting → Type 0

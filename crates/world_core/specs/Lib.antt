@@ -1,8 +1,10 @@
 pub mod Stations
+pub mod OldestEntries
 pub mod Listed
 pub mod OneStore
 pub mod Before
 pub mod Stands
+pub mod Starts
 pub mod Ended
 pub mod EnabledEvents
 pub mod Firsts

@@ -14,6 +14,7 @@ use dom_history::{EventList, MergedLogs, NodeLog, Program};
 use drawn_numbers::Draws;
 use node_core::{Node, RunFault};
 use page_store::Pages;
+use recent_runs::laws::turns_are_recent;
 use ring_links::by_place;
 use run_ends::laws::no_turn_is_stuck;
 use run_moves::laws::{a_home_has_all_at_an_unlock, each_history_is_one_of_one_store};
@@ -71,6 +72,7 @@ fn take_apart<P: Program, G: Pages>(
 
 impl<P: Program, G: Pages> World<P, G> {
     ghost use Rattle.world_core.specs.Stands.{Stands, IsRunOf};
+    ghost use Rattle.world_core.specs.Starts.{OfEachStart};
 
     /// Turns by the draws of a seed, until all nodes have ended: all events by rising place, and the programs as they are
     /// then, by node and number. TickLimit is answered where an event gave that node the tick `last_tick`.
@@ -83,10 +85,8 @@ impl<P: Program, G: Pages> World<P, G> {
         requires stands { (made : ℕ → ℕ → Option P) × (s : Setup) × Stands P.wants P.becomes made s self (first_world s) }
         requires least { 1 ≤ last_tick }
         requires greatest { last_tick ≤ 2 ^ 40 }
-        ensures run { IfOk result (λ r. (made : ℕ → ℕ → Option P) (s : Setup) → Stands P.wants P.becomes made s self (first_world s) →
-            IsRunOf P.wants P.becomes made s self.plan seed last_tick r.0 r.1.items) }
-        ensures limit { (n : ℕ) → IsErrOf result (faults.TickLimit n) → (made : ℕ → ℕ → Option P) (s : Setup) →
-            Stands P.wants P.becomes made s self (first_world s) → ComesToLast s self.plan seed last_tick n }
+        ensures run { IfOk result (λ r. OfEachStart P.wants P.becomes self (λ made s. IsRunOf P.wants P.becomes made s self.plan seed last_tick r.0 r.1.items)) }
+        ensures limit { (n : ℕ) → IsErrOf result (faults.TickLimit n) → OfEachStart P.wants P.becomes self (λ made s. ComesToLast s self.plan seed last_tick n) }
     {
         let (events, programs) = self.run_merged(alloc, seed, last_tick)?;
         Ok((events.to_list(alloc)?, programs))
@@ -104,16 +104,15 @@ impl<P: Program, G: Pages> World<P, G> {
         requires stands { (made : ℕ → ℕ → Option P) × (s : Setup) × Stands P.wants P.becomes made s self (first_world s) }
         requires least { 1 ≤ last_tick }
         requires greatest { last_tick ≤ 2 ^ 40 }
-        ensures run { IfOk result (λ r. (made : ℕ → ℕ → Option P) (s : Setup) → Stands P.wants P.becomes made s self (first_world s) →
-            IsRunOf P.wants P.becomes made s self.plan seed last_tick r.0.events r.1.items) }
-        ensures limit { (n : ℕ) → IsErrOf result (faults.TickLimit n) → (made : ℕ → ℕ → Option P) (s : Setup) →
-            Stands P.wants P.becomes made s self (first_world s) → ComesToLast s self.plan seed last_tick n }
+        ensures run { IfOk result (λ r. OfEachStart P.wants P.becomes self (λ made s. IsRunOf P.wants P.becomes made s self.plan seed last_tick r.0.events r.1.items)) }
+        ensures limit { (n : ℕ) → IsErrOf result (faults.TickLimit n) → OfEachStart P.wants P.becomes self (λ made s. ComesToLast s self.plan seed last_tick n) }
     {
-        // So where no event is enabled all nodes have ended, and what was done is as one store would have it.
+        // So where no event is enabled all nodes have ended, and what was done is as one store would have it, and recent.
         no_turn_is_stuck();
         turns_are_a_run_by_place();
         each_history_is_one_of_one_store();
         a_home_has_all_at_an_unlock();
+        turns_are_recent();
         let mut world = self;
         let mut draws = Draws::new(seed);
         for turn in 0..u64::MAX {

@@ -254,12 +254,13 @@ pub struct Station<P: Program, G: Pages> {
 }
 
 impl<P: Program, G: Pages> Station<P, G> {
-    ghost use Rattle.std.specs.Prelude.{◌<◌, ◌^◌, Option, Some, IfSome, IsSomeAnd, remove};
+    ghost use Rattle.std.specs.Prelude.{◌<◌, ◌^◌, Option, Some, IfSome, remove};
     ghost use Rattle.node_runs.specs.Incomings.{tick_of};
     ghost use Rattle.node_runs.specs.Incomings.Incoming.{Nothing};
     ghost use Rattle.node_core.specs.Nodes.{is_enabled, Does};
     ghost use Rattle.ring_links.specs.Notices.{notice_what, notice_incoming};
     ghost use Rattle.world_core.specs.Sending.{told, still, delivered, marked};
+    ghost use Rattle.world_core.specs.OldestEntries.{IfOldestAt, IsOldestAt};
     ghost use Rattle.world_core.specs.Listed.{IsListed, IsKept, event_at, IsDone, less_at};
 
     /// Notices whose call is open no more go.
@@ -426,9 +427,8 @@ impl<P: Program, G: Pages> Station<P, G> {
     fn take(&mut self, alloc: Global, what: What, at: usize) -> Result<Emitted, NoMemory>
         requires within { at < length self.old.ins.items }
         requires tick { (state_of self.old.node).tick < 2 ^ 40 }
-        requires entry { IfSome (slice_get self.old.ins.items at) (λ l. IsSomeAnd (slice_get l.link.queue 0) (λ e. (is_enabled self.old.node what (seen e.received) ≡ true) × (tick_of (seen e.received) < 2 ^ 40))) }
-        ensures does { IfOk result (λ emitted. IfSome (slice_get self.old.ins.items at) (λ l. IfSome (slice_get l.link.queue 0)
-            (λ e. Does P.wants P.becomes what (seen e.received) self.old.node self.new.node emitted))) }
+        requires entry { IsOldestAt at self.old.ins.items (λ x. (is_enabled self.old.node what x ≡ true) × (tick_of x < 2 ^ 40)) }
+        ensures does { IfOk result (λ emitted. IfOldestAt at self.old.ins.items (λ x. Does P.wants P.becomes what x self.old.node self.new.node emitted)) }
         ensures notices { self.new.notices ≡ self.old.notices }
         ensures ins { OnOk result (self.new.ins.items ≡ less_at at self.old.ins.items (slice_get self.old.ins.items at)) }
     {

@@ -2,12 +2,15 @@
 ghost use Rattle.std.specs.Prelude.{◌≡◌, ◌<◌, ◌≤◌, ◌^◌, ℕ, true, false, Option, MatchOption, IfOk, OnErr, length, sum};
 ghost use Rattle.node_runs.specs.Setups.{Setup};
 ghost use Rattle.node_runs.specs.Runs.{World as Done, first_world};
+ghost use Rattle.world_runs.specs.ByPlace.{by_place};
+ghost use Rattle.recent_runs.specs.Recent.{IsRecent};
 ghost use Rattle.world_core.specs.Places.{enabled_counts, IsPlace};
 
 use crate::station::Station;
 use dom_history::{FaultPlan, Program};
 use node_core::Node;
 use page_store::Pages;
+use recent_runs::laws::turns_are_recent;
 use run_ends::laws::no_turn_is_stuck;
 use run_moves::laws::{a_home_has_all_at_an_unlock, each_history_is_one_of_one_store};
 use std::alloc::Global;
@@ -83,8 +86,8 @@ impl<P: Program, G: Pages> World<P, G> {
     }
 
     /// Does the enabled event at the place `choice`, counted on from the first behind the last; false where none is
-    /// enabled, which is just where all nodes have ended. What was done so far, ended or not, is as one store would have it. Without
-    /// memory the world is spent.
+    /// enabled, which is just where all nodes have ended. What was done so far, ended or not, is as one store would have it, and each
+    /// page that was dropped for another was the clean one used longest ago. Without memory the world is spent.
     pub fn turn(&mut self, alloc: Global, choice: u64) -> Result<bool, NoMemory>
         requires stands { (made : ℕ → ℕ → Option P) × (s : Setup) × (w : Done) × Stands P.wants P.becomes made s self.old w }
         requires below { IsBelow (2 ^ 40) self.old }
@@ -94,6 +97,8 @@ impl<P: Program, G: Pages> World<P, G> {
             TellsEnd s w done) }
         ensures one_store { IfOk result (λ done. (made : ℕ → ℕ → Option P) (s : Setup) (w : Done) → Stands P.wants P.becomes made s self.new w →
             IsOneStore s w) }
+        ensures recent { IfOk result (λ done. (made : ℕ → ℕ → Option P) (s : Setup) (w : Done) → Stands P.wants P.becomes made s self.new w →
+            IsRecent s (by_place w.done)) }
         ensures plan { self.new.plan ≡ self.old.plan }
         ensures spent { OnErr result (self.new.spent ≡ true) }
     {
@@ -101,6 +106,7 @@ impl<P: Program, G: Pages> World<P, G> {
         turns_are_a_run_by_place();
         each_history_is_one_of_one_store();
         a_home_has_all_at_an_unlock();
+        turns_are_recent();
         Ok(self.take_turn(alloc, choice)?.is_some())
     }
 

@@ -196,7 +196,7 @@ module _ (old new : World) (more : SendsMore old new) where
       ap (λ (o : Option CallName). cond (is_that_call c o) (e ∷ filter (tells_call new c) es) (filter (tells_call new c) es)) (told-stays e.place.node e.what found.0)
       ∙ ap (λ (xs : List Happening). cond (tells_call old c e) (e ∷ xs) xs) (count-stays c es found.1)
 
-one-more : (b : Bool) (e : Happening) (es : List Happening) → length (cond b (e ∷ es) es) ≡ one_if b + length es
+pub one-more : (b : Bool) (e : Happening) (es : List Happening) → length (cond b (e ∷ es) es) ≡ one_if b + length es
 one-more true e es = omega arith
 one-more false e es = omega arith
 

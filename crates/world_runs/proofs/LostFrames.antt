@@ -166,17 +166,29 @@ different (x ∷ xs) pairs = (
 pub done-is : (s : Setup) (es : List Happening) (w : World) → IsRun s es → world_of s es ≡ Some w → w.done ≡ es
 done-is s es w run is = same_Some w.done es (sym (ap (λ (o : Option World). option_map (λ (x : World). x.done) o) is) ∙ run)
 
-pub few-faults : (s : Setup) → IsSetup s → (plan : List FateRow) (es : List Happening) (w : World) → IsPlanned s plan es → world_of s es ≡ Some w → IsTimely w → 8 * length (faults_in w.trace) ≤ length (gone_in plan es)
-few-faults s setup plan es w planned is timely =
+-- eight times as many notices as link faults, at least
+pub many-notices : (s : Setup) → IsSetup s → (es : List Happening) (w : World) → IsRun s es → world_of s es ≡ Some w → IsTimely w → 8 * length (faults_in w.trace) ≤ length (noticed_in es)
+many-notices s setup es w run is timely =
+    let eight = eight-times w (runs-fault s setup (map choice_of es) w is timely) in
+    let equals = ap (λ (xs : List Happening). length (noticed_in xs)) (done-is s es w run is) in
+    omega (arith, eight, equals)
+
+-- by a plan no more notices than frames that are lost or late
+pub few-notices : (s : Setup) → IsSetup s → (plan : List FateRow) (es : List Happening) (w : World) → IsPlanned s plan es → world_of s es ≡ Some w → IsTimely w → length (noticed_in es) ≤ length (gone_in plan es)
+few-notices s setup plan es w planned is timely =
     let done = done-is s es w planned.run is in
     let faults = runs-fault s setup (map choice_of es) w is timely in
     let sent = runs-sent s (map choice_of es) w is in
     let gone = subst (λ (xs : List Happening). AllByRecursion (IsGone plan) (noticed_in xs)) (sym done) (recursion_from_All (IsGone plan) (noticed_in es) planned.gone) in
     let once = subst (λ (xs : List Happening). AreDifferent (noticed_in xs)) (sym done) (different (noticed_in es) planned.once) in
-    let many = as-many (noticed_in w.done) (gone_in plan w.done) once (told-among plan w sent w.done faults.found gone) in
-    let eight = eight-times w faults in
-    let equals = ap (λ (xs : List Happening). length (gone_in plan xs)) done in
-    omega (arith, many, eight, equals)
+    subst (λ (xs : List Happening). length (noticed_in xs) ≤ length (gone_in plan xs)) done
+    (as-many (noticed_in w.done) (gone_in plan w.done) once (told-among plan w sent w.done faults.found gone))
+
+pub few-faults : (s : Setup) → IsSetup s → (plan : List FateRow) (es : List Happening) (w : World) → IsPlanned s plan es → world_of s es ≡ Some w → IsTimely w → 8 * length (faults_in w.trace) ≤ length (gone_in plan es)
+few-faults s setup plan es w planned is timely =
+    let many = many-notices s setup es w planned.run is timely in
+    let few = few-notices s setup plan es w planned is timely in
+    omega (arith, many, few)
 
 -- a plan by which no frame is lost or late
 module _ (plan : List FateRow) (none : All (λ row. is_gone row.fate ≡ false) plan) where

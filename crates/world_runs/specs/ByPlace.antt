@@ -1,8 +1,9 @@
 -- The events of turns, by place.
-use Rattle.std.specs.Prelude.{◌≡◌, ℕ, ◌==◌, Bool, true, false, List, [], ◌∷◌, filter}
+use Rattle.std.specs.Prelude.{◌≡◌, ℕ, ◌==◌, Bool, true, false, Some, List, [], ◌∷◌, filter}
 use Rattle.dom_history.specs.Events.{Happening}
 use Rattle.dom_history.specs.Histories.{place_lt}
-use Rattle.node_runs.specs.Runs.{World, mark_of}
+use Rattle.node_runs.specs.Setups.{Setup}
+use Rattle.node_runs.specs.Runs.{World, mark_of, world_of}
 
 -- an event goes behind another one, or before it into its place among the older ones
 abbrev pub behind_if : Bool → Happening → Happening → List Happening → List Happening → List Happening
@@ -28,3 +29,7 @@ pub record IsLike (w v : World) : Type 0 where
   pub frames : (from to : ℕ) → w.frames from to ≡ v.frames from to
   pub marks : (from phase : ℕ) → mark_of w from phase ≡ mark_of v from phase
   pub calls : (n p : ℕ) → w.calls n p ≡ v.calls n p
+
+-- the events lead to a world like this one
+abbrev pub LeadsAlike : Setup → List Happening → World → Type 0
+LeadsAlike s es w = (v : World) × (world_of s es ≡ Some v) × IsLike w v

@@ -1,11 +1,11 @@
 -- The turns that a seed picks.
-use Rattle.std.specs.Prelude.{◌≡◌, ℕ, zero, suc, ◌<◌, Option, Some, List, [], ◌∷◌, map, sum}
+use Rattle.std.specs.Prelude.{◌≡◌, ℕ, zero, suc, ◌<◌, ◌≤◌, Option, Some, List, [], ◌∷◌, map, sum}
 use Rattle.drawn_numbers.specs.Draws.{drawn, state_after}
 use Rattle.dom_history.specs.declared.plan.FateRow.{FateRow}
 use Rattle.node_runs.specs.Setups.{Setup}
 use Rattle.node_runs.specs.Doings.{node_numbers}
 use Rattle.node_runs.specs.Runs.{World}
-use Rattle.world_runs.specs.Turns.{enabled_events, after_turns}
+use Rattle.world_runs.specs.Turns.{enabled_events, turn, after_turns}
 
 -- what the first draws gave, the last first
 abbrev pub draws : ℕ → ℕ → List ℕ
@@ -19,6 +19,12 @@ turns s plan seed k = after_turns s plan (draws seed k)
 -- no node's tick has come so far
 abbrev pub IsBelow : ℕ → World → Type 0
 IsBelow last w = (n : ℕ) → (w.nodes n).tick < last
+
+-- a turn from a world in which no node's tick has come so far brings none beyond it
+abbrev pub GoesNoFurther : Setup → List FateRow → ℕ → Type 0
+GoesNoFurther s plan last =
+    (cs : List ℕ) (old new : World) (choice : ℕ) →
+    after_turns s plan cs ≡ Some old → IsBelow last old → turn s plan old choice ≡ Some new → (n : ℕ) → (new.nodes n).tick ≤ last
 
 -- the turns end in this world: no event is enabled, and no tick came to the last one
 pub record EndsIn (s : Setup) (plan : List FateRow) (seed last : ℕ) (w : World) : Type 0 where

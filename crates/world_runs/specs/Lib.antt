@@ -3,10 +3,14 @@ pub mod Waiting
 pub mod Links
 pub mod Gone
 pub mod Turns
+pub mod EveryTurn
+pub mod EnabledParts
 pub mod OpenNotices
+pub mod LeftAlone
 pub mod Draws
 pub mod ByPlace
 pub mod Picked
+pub mod EveryRunBy
 pub mod Faults
 pub mod NamedNodes
 pub mod SampleTurns

@@ -6,14 +6,14 @@ ghost use Rattle.ring_messages.specs.Ranges.{IsBody};
 ghost use Rattle.dom_history.specs.declared.op.Op.{Op};
 ghost use Rattle.page_cache.specs.Caches.{IsResident, page_at, free_count};
 ghost use Rattle.fault_handler.specs.Tasks.{page_of, start_of};
-ghost use Rattle.fault_handler.specs.Unseen.{loaded_from, loaded_size, said_to, fits_way, ComesTo, GivesTo};
+ghost use Rattle.fault_handler.specs.Unseen.{loaded_from, loaded_size, said_to, fits_way, ComesTo, GivesTo, ComesOfPage, ComesOfRoom};
 ghost use Rattle.fault_handler.specs.Transits.{coming, going};
 ghost use Rattle.fault_handler.specs.Desks.{task_of, moving_of, base_of};
 ghost use Rattle.fault_handler.specs.Changes.{with_used, with_raised};
 ghost use Rattle.fault_handler.specs.Invariant.{IsAllowed};
-ghost use Rattle.fault_handler.specs.Outcomes.{as_access, seen_access, Gives, IsNoRefusal};
-ghost use Rattle.fault_handler.specs.Accesses.{Comes, performed, page_access};
-ghost use Rattle.fault_handler.specs.PageReplies.{page_answer, page_came_of, page_by_stamp, room_taken, room_sent_again, access_failed_of};
+ghost use Rattle.fault_handler.specs.Outcomes.{seen_access, IsNoRefusal};
+ghost use Rattle.fault_handler.specs.Accesses.{performed, page_access};
+ghost use Rattle.fault_handler.specs.PageReplies.{page_answer, page_came_of, room_sent_again, access_failed_of, GoesOn};
 ghost use Rattle.fault_handler.specs.LockCalls.{answers};
 ghost use Rattle.fault_handler.specs.Conditions.{IsOf, IsIdle, IsAccessing, MayWantAt};
 ghost use Rattle.fault_handler.specs.Ready.{IsReady};
@@ -44,8 +44,7 @@ impl Desk {
         requires access { IsAccessing self.old proc.number }
         requires fits { answers self.old proc.number body.now ≡ true }
         requires range { IsBody proc.node body.now }
-        ensures outcome { IfOk result (λ access. ForSome (answer_of body.now) (λ answer. ForSome (page_answer self.old proc.number answer) (λ a.
-            Comes proc.number (λ m. Gives as_access self.new m access) (page_came_of self.old proc.number a)))) }
+        ensures outcome { IfOk result (GoesOn self.old self.new proc.number (answer_of body.now)) }
         ensures never { IfOk result IsNoRefusal }
         ensures fits { IfOk result (λ access. ForSome (seen_access access) (λ o. (op : Op) → IsOpen self.old proc.number op → FitsTurn op o.turn)) }
         ensures asks { IfOk result (λ access. ForSome (seen_access access) (λ o. IsAsked self.new.nodes o.turn)) }
@@ -146,8 +145,7 @@ impl Desk {
         requires access { IsAccessing self.old proc.number }
         requires coming { moving_of self.old proc.number ≡ coming uid page }
         requires stamp { 1 ≤ stamp }
-        ensures outcome { IfOk result (λ access. IfSome (task_of self.old proc.number) (λ task.
-            GivesTo self.new (page_by_stamp self.old proc.number task stamp bytes.now (nat_lt stamp (base_of self.old.seen task.uid))) access)) }
+        ensures outcome { IfOk result (ComesOfPage self.old self.new proc.number stamp bytes.now) }
         ensures unchanged { OnErr result (self.new ≡ self.old) }
         ensures memory { OnErr result (nat_lt stamp (base_of self.old.seen uid) ≡ false) }
     {
@@ -197,8 +195,7 @@ impl Desk {
         requires access { IsAccessing self.old proc.number }
         requires going { moving_of self.old proc.number ≡ going transit.uid transit.page }
         requires stamp { 1 ≤ stamp }
-        ensures outcome { IfOk result (λ access. IfSome (task_of self.old proc.number) (λ task. IfSome (page_at self.old.cache.pages transit.uid transit.page) (λ r.
-            ComesTo proc.number self.new (page_access (room_taken self.old proc.number r stamp) proc.number task) access))) }
+        ensures outcome { IfOk result (ComesOfRoom self.old self.new proc.number transit stamp) }
         ensures unchanged { OnErr result (self.new ≡ self.old) }
     {
         self.kept(proc);

@@ -6,7 +6,8 @@ ghost use Rattle.uid_names.specs.Texts.{text_of};
 ghost use Rattle.dom_history.specs.EndWords.{word_text};
 ghost use Rattle.dom_history.specs.Ranges.{IsProcNumber};
 ghost use Rattle.dom_text.specs.Numbers.{number_spelled};
-ghost use Rattle.journal_text.specs.Lines.{node_text, numbered_text};
+ghost use Rattle.node_texts.specs.Texts.{node_text};
+ghost use Rattle.journal_text.specs.Lines.{numbered_text};
 ghost use Rattle.journal_text.specs.Walk.Fields.{number32_of, proc_of, node_of, uid_of, kind_of, end_of, numbered_of};
 ghost use Rattle.journal_text.specs.Written.{IsCount, IsNode};
 

@@ -19,7 +19,7 @@ machine_for-requires c = c.requires
 pub returns-then-branch : goal.returns-then-branch
 returns-then-branch c =
     let part = c.args.work.now in
-    let command = c.args.job.now.command in
+    let command = c.args.command.now in
     let long = sym c.in_ok-is_too_long.ensures ∙ c.if-branch.true in
     record {
       turn = leads_by c.written.result (turns.Comes (Written path_too_long)) (begins part c.args.working.now c.args.object command) c.written.ensures
@@ -29,7 +29,7 @@ returns-then-branch c =
 
 pub turn_of-requires : goal.turn_of-requires
 turn_of-requires c =
-    let command = c.args.job.now.command in
+    let command = c.args.command.now in
     let found = rw c.in-Some.is at c.in_ok-machine.ensures in
     subst (λ (t : Talk). MayBeTold t None) (sym found.1) (ranged_begun c.site.result.now c.args.working.now.dir command found.0 c.requires)
 
@@ -37,7 +37,7 @@ pub returns-in-Some : goal.returns-in-Some
 returns-in-Some c =
     let part = c.args.work.now in
     let working = c.args.working.now in
-    let command = c.args.job.now.command in
+    let command = c.args.command.now in
     let found = rw c.in-Some.is at c.in_ok-machine.ensures in
     let short = sym c.in_ok-is_too_long.ensures ∙ c.if-branch.false in
     record {

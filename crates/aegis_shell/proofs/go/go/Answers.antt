@@ -17,7 +17,7 @@ use Rattle.aegis_shell.proofs.go.go.Goals as goal
 pub unreachable-requires : goal.unreachable-requires
 unreachable-requires c =
     let part = c.args.work.now in
-    let list = ops_of part.node c.args.job.now.command c.args.object in
+    let list = ops_of part.node c.args.command.now c.args.object in
     absurd (subst (λ (s : Stage). FitsStage list s c.args.reply.now) c.in-Between.is c.requires.fits)
 
 pub go_first-requires : goal.go_first-requires
@@ -26,7 +26,7 @@ go_first-requires c = c.requires.range
 pub returns-in-First : goal.returns-in-First
 returns-in-First c =
     let part = c.args.work.now in
-    let list = ops_of part.node c.args.job.now.command c.args.object in
+    let list = ops_of part.node c.args.command.now c.args.object in
     let reply = c.args.reply.now in
     record {
       turn = leads_same c.go_first.result (on_first (is_done reply) (second_of list) (Some reply)) (goes_on part.names list c.args.stage (Some reply)) c.go_first.ensures.turn
@@ -37,18 +37,18 @@ returns-in-First c =
 pub returns-in_ok-reply-in-Second-clause-turn : goal.returns-in_ok-reply-in-Second-clause-turn
 returns-in_ok-reply-in-Second-clause-turn c =
     let part = c.args.work.now in
-    let list = ops_of part.node c.args.job.now.command c.args.object in
+    let list = ops_of part.node c.args.command.now c.args.object in
     ap (λ (r : Reply). Comes (Replied r)) c.in_ok-reply-in-Second.ensures ∙ ap (λ (s : Stage). goes_on part.names list s (Some c.args.reply.now)) (sym c.in-Second.is)
 
 pub turn_of-requires : goal.turn_of-requires
 turn_of-requires c =
-    let list = ops_of c.args.work.now.node c.args.job.now.command c.args.object in
+    let list = ops_of c.args.work.now.node c.args.command.now c.args.object in
     talk_told c.in-Talks.talk c.args.reply.now (subst (λ (s : Stage). FitsStage list s c.args.reply.now) c.in-Talks.is c.requires.fits)
 
 pub returns-in-Talks : goal.returns-in-Talks
 returns-in-Talks c =
     let part = c.args.work.now in
-    let list = ops_of part.node c.args.job.now.command c.args.object in
+    let list = ops_of part.node c.args.command.now c.args.object in
     let reply = c.args.reply.now in
     let fits = subst (λ (s : Stage). FitsStage list s reply) c.in-Talks.is c.requires.fits in
     record {
@@ -60,7 +60,7 @@ returns-in-Talks c =
 pub returns-in-Locks : goal.returns-in-Locks
 returns-in-Locks c =
     let part = c.args.work.now in
-    let list = ops_of part.node c.args.job.now.command c.args.object in
+    let list = ops_of part.node c.args.command.now c.args.object in
     let told = on_list part.names c.in-Lists.home c.in-Lists.text in
     record {
       turn = leads_same c.go_list.result (told (Some (Locks c.items.result.now c.in-Locks.more))) (goes_on part.names list c.args.stage (Some c.args.reply.now)) c.go_list.ensures.turn
@@ -73,7 +73,7 @@ returns-in-Locks c =
 pub returns-in_default : goal.returns-in_default
 returns-in_default c =
     let part = c.args.work.now in
-    let list = ops_of part.node c.args.job.now.command c.args.object in
+    let list = ops_of part.node c.args.command.now c.args.object in
     let reply = c.args.reply.now in
     record {
       turn = leads_by c.ended.result (turns.Comes (Replied reply)) (goes_on part.names list c.args.stage (Some reply)) c.ended.ensures

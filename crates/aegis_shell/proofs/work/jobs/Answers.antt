@@ -16,8 +16,8 @@ loop-place-preserved c =
     let inside = rw c.places_of-places.ensures.value at c.places_of-places.ensures.bound in
     let row_is = rw (c.commands-rows.ensures.value, c.places_of-places.ensures.value) at c.index-rows-place.is in
     c.in_ok-push.ensures.items
-    ∙ (ap (λ list. list ++ c.in_ok-job_from.field-0 ∷ []) c.loop-place.invariant
-    ∙ (ap (λ job. map f (rows_at script.commands (take i places)) ++ job ∷ []) c.in_ok-job_from.ensures
+    ∙ (ap (λ list. list ++ c.job_from.result ∷ []) c.loop-place.invariant
+    ∙ (ap (λ job. map f (rows_at script.commands (take i places)) ++ job ∷ []) c.job_from.ensures
     ∙ sym (jobs-more f script.commands places i 0 c.index-rows-place.result within (inside i 0 within) row_is)))
 
 pub returns : goal.returns

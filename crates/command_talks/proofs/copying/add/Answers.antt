@@ -2,14 +2,14 @@ use Rattle.std.proofs.Common.{◌≡◌, Option, Some, None, ap, ◌∙◌, sym,
 use Rattle.std.specs.Option.{option_copied}
 use Rattle.std.proofs.lemmas.Result.{IfOk-weaker}
 use Rattle.naming_tree.specs.ByPaths.{by_path_after, by_path_asks}
-use Rattle.naming_tree.specs.Turns.{IsStep}
+use Rattle.naming_tree.specs.Dialogues.{IsStep}
 use Rattle.naming_tree.specs.declared.by_path.ByPath.{ByPath}
 use Rattle.command_talks.specs.FileTalks.{add_told, add_turn}
 use Rattle.command_talks.specs.NameTalks.{asked_at}
 use Rattle.command_talks.specs.declared.file_talk.FileTalk.TheVariants.{Adds}
 use Rattle.command_talks.specs.declared.file_talk.FileTurn.{FileTurn}
 use Rattle.command_talks.specs.declared.file_talk.FileTurn.TheVariants.{Goes}
-use Rattle.naming_tree.specs.declared.step.NameStep.TheVariants.{Over}
+use Rattle.naming_tree.specs.declared.step.Step.TheVariants.{Over}
 use Rattle.command_talks.proofs.Copies.{add_goes, add_comes}
 use Rattle.command_talks.proofs.Machines.{asked_stood}
 use Rattle.command_talks.proofs.copying.add.Goals as goal

@@ -1,10 +1,10 @@
 use Rattle.std.proofs.Common.{◌≡◌, Option, Some, None, ap, ◌∙◌, sym, subst}
 use Rattle.std.proofs.lemmas.Result.{IfOk-weaker}
 use Rattle.std.specs.Option.{option_copied}
-use Rattle.naming_tree.specs.Turns.{IsStep}
+use Rattle.naming_tree.specs.Dialogues.{IsStep}
 use Rattle.naming_tree.specs.Walking.{walking_after, walking_asks}
 use Rattle.naming_tree.specs.declared.walking.Walking.{Walking}
-use Rattle.naming_tree.specs.declared.step.NameStep.TheVariants.{Over}
+use Rattle.naming_tree.specs.declared.step.Step.TheVariants.{Over}
 use Rattle.command_talks.specs.FileTalks.{file_turn, seek_turn}
 use Rattle.command_talks.specs.NameTalks.{asked_at}
 use Rattle.command_talks.specs.declared.file_talk.FileTalk.TheVariants.{Seeks}

@@ -1,6 +1,6 @@
 use Rattle.std.proofs.Common.{Some, ap, ◌∙◌, sym, subst}
 use Rattle.std.specs.Option.{option_copied}
-use Rattle.naming_tree.specs.Turns.{IsStep}
+use Rattle.naming_tree.specs.Dialogues.{IsStep}
 use Rattle.command_talks.specs.NameTalks.{name_asks}
 use Rattle.command_talks.specs.declared.name_talk.NameTalk.{NameTalk}
 use Rattle.command_talks.specs.declared.talk.Talk.TheVariants.{Name}

@@ -1,10 +1,10 @@
 use Rattle.script_runner.specs.declared.words.Origin.TheVariants.{Generated}
 use Rattle.script_runner.specs.Words.{seed_of}
-use Rattle.script_runner.proofs.Due.{due_of_source, limit_of_source, no_read_fault}
+use Rattle.script_runner.proofs.Due.{limit_of_source, no_read_fault}
 use Rattle.script_runner.proofs.domain.generated_due.Goals as goal
 
 pub returns-clause-due : goal.returns-clause-due
-returns-clause-due c = λ left. due_of_source (Generated c.args.seed) left c.in_ok-script.script (seed_of c.args.turns) c.run_due.result c.in_ok-script.ensures.script c.run_due.ensures.due
+returns-clause-due c = λ left. c.run_due.ensures.due left c.in_ok-script.ensures.script
 
 pub returns-clause-no_read_fault : goal.returns-clause-no_read_fault
 returns-clause-no_read_fault c = λ is. no_read_fault c.in_ok-script.script (seed_of c.args.turns) c.run_due.result c.run_due.ensures.end is

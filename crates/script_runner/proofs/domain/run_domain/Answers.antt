@@ -9,8 +9,8 @@ use Rattle.script_runner.proofs.Due.{run_added, journal_cut, text_cut}
 use Rattle.script_runner.proofs.domain.run_domain.Goals as goal
 
 pub returns-in-Ok-Refusal-clause-complete : goal.returns-in-Ok-Refusal-clause-complete
-returns-in-Ok-Refusal-clause-complete g c = λ bytes s taken left form source_fine out_fine.
-    absurd (script_not_refused (g.S.Source.left c.args.script.now) bytes s c.in-Some.asked.origin (seed_of c.in-Some.asked.turns) c.in-Ok-Refusal.field-0 _ c.scripts_have_one_reading.ensures.never_both left form c.in-Ok-Refusal.ensures.due c.in-Ok-Refusal.field-0-is)
+returns-in-Ok-Refusal-clause-complete g c = λ has source_fine out_fine.
+    absurd (script_not_refused (g.S.Source.left c.args.script.now) has.bytes has.script c.in-Some.asked.origin (seed_of c.in-Some.asked.turns) c.in-Ok-Refusal.field-0 _ c.scripts_have_one_reading.ensures.never_both has.left_is has.form c.in-Ok-Refusal.ensures.due c.in-Ok-Refusal.field-0-is)
 
 pub returns-in-Ok-Run-clause-run : goal.returns-in-Ok-Run-clause-run
 returns-in-Ok-Run-clause-run g c = λ is.

@@ -4,6 +4,9 @@ use Rattle.script_runner.specs.Nodes.{made_shell}
 use Rattle.script_runner.proofs.RanNodes.{run_found, limit_found}
 use Rattle.script_runner.proofs.run.run_nodes.Goals as goal
 
+pub new-requires : goal.new-requires
+new-requires c = let s = c.args.script.now in record { nodes = (made_shell s, setup_of s, c.in_ok-nodes.ensures) }
+
 pub run_merged-requires-clause-stands : goal.run_merged-requires-clause-stands
 run_merged-requires-clause-stands c =
     let s = c.args.script.now in

@@ -13,11 +13,11 @@ use Rattle.world_runs.specs.OpenNotices.{notices_by}
 use Rattle.world_runs.proofs.laws.a_node_left_alone_has_the_same_events.Goals as goal
 
 pub returns : goal.returns
-returns c = λ s plan setup cs old new choice before timely now e done n differs nothing quiet.
+returns c = λ s plan setup cs old new choice before timely now e done n alone.
     let turn = timely-turn s setup plan cs old new before (turn-is s plan old choice new now) timely in
     let it = event_at turn.is.act.node turn.is.act.what turn.is.step in
     let same = cons-heads e it old.done old.done (sym done ∙ ap (λ (w : World). w.done) turn.is.world) in
     enabled-same s setup plan old new turn (turns-within s setup plan cs old before timely) (turns-marked s setup plan cs old before timely) n
-    (λ h. differs (ap (λ (x : Happening). x.place.node) same ∙ h))
-    (ap (λ (x : Happening). sent_by x.place.node n x) (sym same) ∙ nothing)
-    (ap (λ (x : Happening). notices_by plan new n x old.done) (sym same) ∙ quiet)
+    (λ h. alone.other (ap (λ (x : Happening). x.place.node) same ∙ h))
+    (ap (λ (x : Happening). sent_by x.place.node n x) (sym same) ∙ alone.nothing)
+    (ap (λ (x : Happening). notices_by plan new n x old.done) (sym same) ∙ alone.quiet)

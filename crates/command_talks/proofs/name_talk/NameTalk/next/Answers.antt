@@ -4,7 +4,7 @@ use Rattle.std.proofs.lemmas.Result.{on_ok_weaker}
 use Rattle.command_talks.specs.NameTalks.{name_after, name_says, MayHearName}
 use Rattle.command_talks.specs.declared.name_talk.NameTalk.{NameTalk}
 use Rattle.command_talks.specs.declared.name_talk.NameTalk.TheVariants as machines
-use Rattle.naming_tree.specs.declared.step.NameStep.{NameStep}
+use Rattle.naming_tree.specs.Dialogues.{NameStep}
 use Rattle.command_talks.proofs.name_talk.NameTalk.next.Goals as goal
 
 pub next-requires-clause-still : goal.next-requires-clause-still

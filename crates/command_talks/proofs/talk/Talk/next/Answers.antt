@@ -1,7 +1,7 @@
 use Rattle.std.proofs.Common.{◌≡◌, Some, sym, subst, IfOk}
 use Rattle.std.specs.Option.{option_copied}
 use Rattle.command_talks.specs.Talks.{turn_by, talk_turn, MayBeTold}
-use Rattle.command_talks.specs.declared.talk.Step.{Step}
+use Rattle.command_talks.specs.Dialogues.{TalkStep}
 use Rattle.command_talks.specs.declared.talk.Talk.{Talk}
 use Rattle.command_talks.specs.declared.talk.Talk.TheVariants.{Name, File}
 use Rattle.command_talks.proofs.talk.Talk.next.Goals as goal
@@ -11,7 +11,7 @@ name_step-requires c = subst (λ (t : Talk). MayBeTold t (option_copied c.args.l
 
 pub returns-in-Name-clause-turn : goal.returns-in-Name-clause-turn
 returns-in-Name-clause-turn c =
-    subst (λ (t : Talk). IfOk c.name_step.result (λ (step : Step). Some (turn_by step (Name c.name_step.new.talk)) ≡ talk_turn t (option_copied c.args.last))) (sym c.in-Name.is) c.name_step.ensures.turn
+    subst (λ (t : Talk). IfOk c.name_step.result (λ (step : TalkStep). Some (turn_by step (Name c.name_step.new.talk)) ≡ talk_turn t (option_copied c.args.last))) (sym c.in-Name.is) c.name_step.ensures.turn
 
 pub returns-in-Name-clause-asks : goal.returns-in-Name-clause-asks
 returns-in-Name-clause-asks c = c.name_step.ensures.asks
@@ -21,7 +21,7 @@ file_step-requires c = subst (λ (t : Talk). MayBeTold t (option_copied c.args.l
 
 pub returns-in-File-clause-turn : goal.returns-in-File-clause-turn
 returns-in-File-clause-turn c =
-    subst (λ (t : Talk). IfOk c.file_step.result (λ (step : Step). Some (turn_by step (File c.file_step.new.talk)) ≡ talk_turn t (option_copied c.args.last))) (sym c.in-File.is) c.file_step.ensures.turn
+    subst (λ (t : Talk). IfOk c.file_step.result (λ (step : TalkStep). Some (turn_by step (File c.file_step.new.talk)) ≡ talk_turn t (option_copied c.args.last))) (sym c.in-File.is) c.file_step.ensures.turn
 
 pub returns-in-File-clause-asks : goal.returns-in-File-clause-asks
 returns-in-File-clause-asks c = c.file_step.ensures.asks

@@ -1,7 +1,8 @@
 use Rattle.std.proofs.Common.{◌≡◌, ℕ, List, ◌∷◌, ◌++◌, decimal, ap, append_assoc}
 use Rattle.uid_names.specs.FrameKinds.{kind_number, kind_name}
 use Rattle.uid_names.specs.declared.frame_kind.FrameKind.{FrameKind}
-use Rattle.journal_text.specs.Lines.{node_text, numbered_text, kind_text}
+use Rattle.node_texts.specs.Texts.{node_text}
+use Rattle.journal_text.specs.Lines.{numbered_text, kind_text}
 use Rattle.journal_text.proofs.KindNames.{kind_text_of}
 use Rattle.journal_text.proofs.reading.effects.sent.Goals as goal
 

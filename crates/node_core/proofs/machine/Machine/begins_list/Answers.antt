@@ -20,12 +20,15 @@ pub returns-then-is_node : goal.returns-then-is_node
 returns-then-is_node g c =
     let m = c.args.self.now in
     let p = c.args.proc.number in
-    let asks = subst (λ (ds : List (ObjectName × ℕ)). Turns g.P.Program.spent g.P.Program.wants g.P.Program.becomes m c.asks.new.self c.asks.new.done p c.args.begun (Turn.Asks c.args.home (Ask.ListLocks c.args.after)) ds) c.new.ensures c.asks.ensures in
     let opening : Start = record { nodes = m.desk.nodes; greatest = m.greatest; objects = [] } in
-    λ op wanted. subst (λ (o : Op). Moves g.P.Program.spent g.P.Program.wants g.P.Program.becomes m c.asks.new.self c.asks.new.done p c.args.begun (begun_as opening m.desk p o)) (do-same (want_at m.procs p) (ops.List c.args.home c.args.after) op c.requires.wanted wanted)
+    IfOk-weaker c.asks.result _ _
+    (λ ok turns op wanted. subst (λ (o : Op). Moves g.P.Program.spent g.P.Program.wants g.P.Program.becomes m c.asks.new.self c.asks.new.done p c.args.begun (begun_as opening m.desk p o)) (do-same (want_at m.procs p) (ops.List c.args.home c.args.after) op c.requires.wanted wanted)
     (subst (λ b. Moves g.P.Program.spent g.P.Program.wants g.P.Program.becomes m c.asks.new.self c.asks.new.done p c.args.begun (Accessed.Settled (list_by m.desk c.args.home c.args.after b)))
     (sym c.if-is_node.true ∙ c.is_node.ensures)
-    (moves-settled g.P.Program.spent g.P.Program.wants g.P.Program.becomes m c.asks.new.self c.asks.new.done p c.args.begun m.desk (asking_home m.desk c.args.home (Ask.ListLocks c.args.after)) refl refl asks))
+    (moves-settled g.P.Program.spent g.P.Program.wants g.P.Program.becomes m c.asks.new.self c.asks.new.done p c.args.begun m.desk (asking_home m.desk c.args.home (Ask.ListLocks c.args.after)) refl refl
+    (subst (λ (ask : Ask). Turns g.P.Program.spent g.P.Program.wants g.P.Program.becomes m c.asks.new.self c.asks.new.done p c.args.begun (Turn.Asks c.args.home ask) []) c.from_body-request.ensures
+    (subst (λ (ds : List (ObjectName × ℕ)). Turns g.P.Program.spent g.P.Program.wants g.P.Program.becomes m c.asks.new.self c.asks.new.done p c.args.begun (Turn.Asks c.args.home c.from_body-request.result) ds) c.new.ensures turns)))))
+    c.asks.ensures
 
 pub returns : goal.returns
 returns g c =

@@ -19,12 +19,15 @@ pub returns-then-may_make : goal.returns-then-may_make
 returns-then-may_make g c =
     let m = c.args.self.now in
     let p = c.args.proc.number in
-    let asks = subst (λ (ds : List (ObjectName × ℕ)). Turns g.P.Program.spent g.P.Program.wants g.P.Program.becomes m c.asks.new.self c.asks.new.done p c.args.begun (Turn.Asks c.args.home (Ask.Make c.args.kind c.args.room)) ds) c.new.ensures c.asks.ensures in
     let opening : Start = record { nodes = m.desk.nodes; greatest = m.greatest; objects = [] } in
-    λ op wanted. subst (λ (o : Op). Moves g.P.Program.spent g.P.Program.wants g.P.Program.becomes m c.asks.new.self c.asks.new.done p c.args.begun (begun_as opening m.desk p o)) (do-same (want_at m.procs p) (ops.New c.args.home c.args.kind c.args.room) op c.requires.wanted wanted)
+    IfOk-weaker c.asks.result _ _
+    (λ ok turns op wanted. subst (λ (o : Op). Moves g.P.Program.spent g.P.Program.wants g.P.Program.becomes m c.asks.new.self c.asks.new.done p c.args.begun (begun_as opening m.desk p o)) (do-same (want_at m.procs p) (ops.New c.args.home c.args.kind c.args.room) op c.requires.wanted wanted)
     (subst (λ b. Moves g.P.Program.spent g.P.Program.wants g.P.Program.becomes m c.asks.new.self c.asks.new.done p c.args.begun (Accessed.Settled (new_by m.desk c.args.home c.args.kind c.args.room b)))
     (sym c.if-may_make.true ∙ c.may_make.ensures)
-    (moves-settled g.P.Program.spent g.P.Program.wants g.P.Program.becomes m c.asks.new.self c.asks.new.done p c.args.begun m.desk (asking_home m.desk c.args.home (Ask.Make c.args.kind c.args.room)) refl refl asks))
+    (moves-settled g.P.Program.spent g.P.Program.wants g.P.Program.becomes m c.asks.new.self c.asks.new.done p c.args.begun m.desk (asking_home m.desk c.args.home (Ask.Make c.args.kind c.args.room)) refl refl
+    (subst (λ (ask : Ask). Turns g.P.Program.spent g.P.Program.wants g.P.Program.becomes m c.asks.new.self c.asks.new.done p c.args.begun (Turn.Asks c.args.home ask) []) c.from_body-request.ensures
+    (subst (λ (ds : List (ObjectName × ℕ)). Turns g.P.Program.spent g.P.Program.wants g.P.Program.becomes m c.asks.new.self c.asks.new.done p c.args.begun (Turn.Asks c.args.home c.from_body-request.result) ds) c.new.ensures turns)))))
+    c.asks.ensures
 
 pub returns : goal.returns
 returns g c =

@@ -24,10 +24,10 @@ returns g c =
     let found = open-wanted q.want q.opened c.in-Some.open (sym c.in-Some.ensures) in
     let op = found.0 in
     let own : want_at m.procs p ≡ Do op = want-is m.procs i p d c.index_of.ensures.value inside ∙ found.1 in
-    let doing : (proc_of (state_of m) p).doing ≡ Some (open_seen op c.in-Some.open q.page.value) =
-    ap (λ (r : ProcState). r.doing) (proc-is m.procs i p d c.index_of.ensures.value inside) ∙ doing-open q.want q.opened q.page.value op c.in-Some.open found.1 found.2 in
+    let doing : (proc_of (state_of m) p).doing ≡ Some (open_seen op c.in-Some.open q.asked) =
+    ap (λ (r : ProcState). r.doing) (proc-is m.procs i p d c.index_of.ensures.value inside) ∙ doing-open q.want q.opened q.asked op c.in-Some.open found.1 found.2 in
     IfOk-weaker c.begins.result _ _
     (λ ok moves.
     subst (λ (o : Option OpenOp). ForSome (goes_on (state_of m) p o >>= stepped_as_named (given_of m) (state_of m)) (λ s. Led g.P.Program.spent g.P.Program.wants g.P.Program.becomes m c.begins.new.self c.begins.new.done s)) (sym doing)
-    (does-goes_on g.P.Program.spent g.P.Program.wants g.P.Program.becomes m c.begins.new.self c.begins.new.done p c.in-Some.open.begun op (open_seen op c.in-Some.open q.page.value) refl own (moves op own)))
+    (does-goes_on g.P.Program.spent g.P.Program.wants g.P.Program.becomes m c.begins.new.self c.begins.new.done p c.in-Some.open.begun op (open_seen op c.in-Some.open q.asked) refl own (moves op own)))
     c.begins.ensures

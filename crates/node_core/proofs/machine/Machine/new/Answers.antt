@@ -22,10 +22,10 @@ returns-clause-programs g c p =
 
 pub returns-clause-kept : goal.returns-clause-kept
 returns-clause-kept g c =
-    let a = c.in_ok-new.ensures in
-    let b = c.in_ok-new-2.ensures in
-    let d = c.in_ok-new-3.ensures in
-    let e = c.in_ok-new-4.ensures in
+    let a = c.new-4.ensures in
+    let b = c.new-5.ensures in
+    let d = c.new-6.ensures in
+    let e = c.new-7.ensures in
     let m : Machine g.row.P.Denot g.row.G.Denot =
     record {
       greatest = c.greatest.result;
@@ -33,7 +33,7 @@ returns-clause-kept g c =
       server = c.in_ok-server.server;
       desk = c.in_ok-desk.desk;
       programs = c.in_ok-programs.programs;
-      procs = c.in_ok-new.field-0 ∷ c.in_ok-new-2.field-0 ∷ c.in_ok-new-3.field-0 ∷ c.in_ok-new-4.field-0 ∷ [];
+      procs = c.new-4.result ∷ c.new-5.result ∷ c.new-6.result ∷ c.new-7.result ∷ [];
       emitted = 0 ∷ 0 ∷ 0 ∷ 0 ∷ 0 ∷ 0 ∷ 0 ∷ 0 ∷ [];
       tick = 0;
       phase = 1;
@@ -43,8 +43,8 @@ returns-clause-kept g c =
     kept-first g.P.Program.spent g.P.Program.wants m c.args.opening.now c.nodes-nodes.ensures.start c.args.setup.node c.args.setup.frames c.requires.begins
     (subst (λ (h : HomeState). h.greatest ≤ VOLUME_ROOM) c.in_ok-home.ensures.first c.in_ok-home.ensures.few) (record { few = c.requires.frames_low; many = c.requires.frames_high })
     c.args.programs.items c.in_ok-programs.ensures (returns-clause-programs g c) c.requires.whole c.requires.fresh
-    (four-want c.in_ok-new.field-0 c.in_ok-new-2.field-0 c.in_ok-new-3.field-0 c.in_ok-new-4.field-0 a.want b.want d.want e.want)
+    (four-want c.new-4.result c.new-5.result c.new-6.result c.new-7.result a.want b.want d.want e.want)
     c.greatest.ensures c.requires.phases c.in_ok-home.home c.in_ok-server.ensures c.in_ok-home.ensures.first
     (c.in_ok-desk.ensures ∙ ap (λ k. empty_desk c.args.setup.node k c.args.setup.frames) (sym c.requires.nodes))
-    (four-seen c.in_ok-new.field-0 c.in_ok-new-2.field-0 c.in_ok-new-3.field-0 c.in_ok-new-4.field-0 a.state b.state d.state e.state)
+    (four-seen c.new-4.result c.new-5.result c.new-6.result c.new-7.result a.state b.state d.state e.state)
     refl refl refl refl c.new-8.ensures

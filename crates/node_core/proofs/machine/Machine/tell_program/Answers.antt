@@ -41,8 +41,8 @@ returns g c =
     let proc : IsProcNumber p = subst IsProcNumber is (c.number.ensures.least, c.number.ensures.greatest) in
     let inside : i < length m.procs = subst (λ n. i < n) (sym c.requires.four) c.index_of-at.ensures.bound in
     let q = get_or m.procs i d in
-    let x : Proc = record { want = c.tell.new.want; opened = None; last = q.last; phase = c.args.phase; page = q.page } in
-    let seen : proc_seen x ≡ record (proc_seen q) { doing = None; phase = c.args.phase } = ap (λ (o : Option OpenOp). record { heard = (proc_seen q).heard; doing = o; last = q.last; phase = c.args.phase }) (doing-none x.want x.page.value) in
+    let x : Proc = record { want = c.tell.new.want; opened = None; last = q.last; phase = c.args.phase; asked = q.asked } in
+    let seen : proc_seen x ≡ record (proc_seen q) { doing = None; phase = c.args.phase } = ap (λ (o : Option OpenOp). record { heard = (proc_seen q).heard; doing = o; last = q.last; phase = c.args.phase }) (doing-none x.want x.asked) in
     let put = put-seen m.procs i p d x (λ r. record r { doing = None; phase = c.args.phase }) c.index_of-at.ensures.value inside seen in
     record {
       state = ap (λ ps. record (state_of m) { procs = ps }) put;

@@ -92,6 +92,7 @@ returns-in-None-clause-run g c = λ made s stands.
       one_store =
           one-store c.turns_are_a_run_by_place.ensures.leads c.each_history_is_one_of_one_store.ensures c.a_home_has_all_at_an_unlock.ensures
           s c.loop-turn.world.plan is.stands.setup is.stands.choices is.world is.stands.turns is.stands.timely;
+      recent = c.turns_are_recent.ensures.turns s is.stands.setup c.loop-turn.world.plan is.stands.choices is.world is.stands.turns is.stands.timely;
       events_are = merged-is g.P.Program.wants g.P.Program.becomes made s c.take_turn.new.self is.world ended.1 c.args.seed c.args.last_tick c.requires.greatest here c.in_ok-end-in-None.field-0.0.events c.in_ok-end-in-None.ensures.events;
       programs_are = are-ended g.P.Program.wants g.P.Program.becomes made s c.take_turn.new.self is.world ended.1 c.in_ok-end-in-None.field-0.1.items c.in_ok-end-in-None.ensures.programs;
     })

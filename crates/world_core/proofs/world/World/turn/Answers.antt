@@ -46,3 +46,6 @@ pub returns-clause-one_store : goal.returns-clause-one_store
 returns-clause-one_store g c = λ made s w stands.
     one-store c.turns_are_a_run_by_place.ensures.leads c.each_history_is_one_of_one_store.ensures c.a_home_has_all_at_an_unlock.ensures
     s c.take_turn.new.self.plan stands.setup stands.choices w stands.turns stands.timely
+
+pub returns-clause-recent : goal.returns-clause-recent
+returns-clause-recent g c = λ made s w stands. c.turns_are_recent.ensures.turns s stands.setup c.take_turn.new.self.plan stands.choices w stands.turns stands.timely
