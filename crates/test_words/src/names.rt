@@ -146,7 +146,7 @@ struct Row {
 }
 
 impl UidRow for Row {
-    ghost use Rattle.uid_names.specs.declared.tests.Row.{Row};
+    ghost use Rattle.test_words.specs.declared.names.Row.{Row};
 
     ghost name = { λ row. row.uid };
 
