@@ -1,8 +1,8 @@
 -- Each good line leaves what lines before it left: a draft whose objects a store can begin with.
-use Rattle.std.proofs.Common.{◌≡◌, ◌≢◌, ◌≤◌, ◌+◌, ℕ, Bool, true, false, cond, List, [], ◌∷◌, length, Option, Some, None, Result, Ok, Err, refl, sym, subst, arith, rules}
+use Rattle.std.proofs.Common.{◌≡◌, ◌≢◌, ◌≤◌, ◌+◌, ℕ, Bool, true, false, cond, List, [], ◌∷◌, length, Option, Some, None, Result, Ok, Err, refl, subst, arith, rules}
 use Rattle.std.specs.Prelude.{◌&&◌, not, nat_le, nat_lt, is_some, unwrap_or, if◌then◌else◌, IfSome, IfOk, MatchResult, codes, bytes_eq}
 use Rattle.std.specs.List.{AllByRecursion, list_all}
-use Rattle.std.proofs.lemmas.Bool.{not-false, and_parts}
+use Rattle.std.proofs.lemmas.Bool.{not-false}
 use Rattle.std.proofs.lemmas.List.Elements.{All-nil}
 use Rattle.uid_names.specs.NameTexts.{IsNameText}
 use Rattle.uid_names.specs.Names.{same_uid}
@@ -12,8 +12,6 @@ use Rattle.uid_names.specs.Texts.{written_so}
 use Rattle.uid_names.specs.declared.limits.TheConstants.{MAX_NODES, MAX_PHASES, MAX_ROOM, NODE_PROCESSES, VOLUME_ROOM}
 use Rattle.uid_names.specs.declared.opening.Object.{Object as ObjectRecord}
 use Rattle.uid_names.proofs.InOrder.{AllPairs-nil}
-use Rattle.uid_names.proofs.ListLemmas.{position_within}
-use Rattle.uid_names.proofs.Somes.{found_there}
 use Rattle.dom_history.specs.Plans.{is_of_frame, is_set}
 use Rattle.dom_history.specs.declared.plan.FateRow.{FateRow}
 use Rattle.dom_text.specs.Cuts.{cut_at}
@@ -32,7 +30,7 @@ use Rattle.script_reader.specs.Limits.{is_past_limit, pages_at}
 use Rattle.script_reader.specs.NamesAsked.{has_name, is_no_name}
 use Rattle.script_reader.specs.Commands.{IsCommandRow}
 use Rattle.script_reader.specs.Fates.{IsFateRow}
-use Rattle.script_reader.specs.NodeNames.{is_node_name, node_number, place_of}
+use Rattle.script_reader.specs.NodeNames.{is_node_name, node_number}
 use Rattle.script_reader.specs.Numbers.{has_number, is_fate, is_no_number}
 use Rattle.script_reader.specs.Repeats.{is_fresh, is_repeated}
 use Rattle.script_reader.specs.SaidCommands.{command_said}

@@ -1,11 +1,10 @@
 -- The journal of a run.
-use Rattle.std.proofs.Common.{◌≡◌, ℕ, ◌-◌, ◌≤◌, true, List, [], ◌∷◌, ◌++◌, length, Option, Some, None, IfSome, refl, sym, ap, subst, ◌∙◌, arith}
+use Rattle.std.proofs.Common.{◌≡◌, ℕ, ◌-◌, ◌≤◌, true, List, [], ◌∷◌, length, Option, Some, None, IfSome, refl, sym, ap, subst, ◌∙◌, arith}
 use Rattle.std.specs.Prelude.{◌^◌, All, reverse, IsSome}
 use Rattle.std.specs.List.{AllByRecursion}
 use Rattle.std.proofs.lemmas.List.{reverse-reverse}
 use Rattle.std.proofs.lemmas.List.Elements.{All-from_recursion, All-push, All-head, All-tail}
 use Rattle.uid_names.specs.Names.{ObjectName}
-use Rattle.uid_names.specs.declared.ids.Place.{Place}
 use Rattle.uid_names.proofs.ListLemmas.{get-within}
 use Rattle.dom_history.specs.Events.{Happening, IsEvent}
 use Rattle.dom_history.specs.declared.event.What.{What}

@@ -7,13 +7,17 @@ ghost use Rattle.script_reader.specs.Scripts.{Content};
 ghost use Rattle.script_maker.specs.Generated.{generated};
 ghost use Rattle.journal_text.specs.Written.{IsWritten};
 ghost use Rattle.node_runs.specs.Setups.{Setup, IsSetup};
-ghost use Rattle.node_runs.specs.Runs.{IsRun};
+ghost use Rattle.node_runs.specs.Runs.{World, IsRun};
+ghost use Rattle.script_runs.specs.Reports.{names_of};
+ghost use Rattle.script_runs.specs.Runs.{IsEndedRunOf, OfPickedRuns};
+ghost use Rattle.script_runs.specs.Setups.{setup_of};
 ghost use Rattle.run_journals.specs.Begins.{CanRun};
-ghost use Rattle.run_journals.specs.Journals.{IsTimelyRun, AreRunsTold, AreJournalsApart};
+ghost use Rattle.run_journals.specs.Journals.{IsTimelyRun, SpellsOnly, journal_of, AreRunsTold, AreJournalsApart};
 
 use journal_text::laws::journals_have_one_reading;
 use node_runs::laws::{each_node_of_a_run_agrees_with_its_desk, places_rise};
 use run_homes::laws::homes_stand_for_what_is_kept;
+use script_runs::laws::{a_seed_picks_one_run_of_a_script, scripts_set_nodes_up};
 use world_runs::laws::{events_name_nodes, ticks_are_few};
 
 /// Bytes that are a script say what a run can begin with.
@@ -50,4 +54,19 @@ pub fn a_journal_tells_its_run()
     journals_have_one_reading();
     places_rise();
     ticks_are_few();
+}
+
+/// So does the journal of a script's run, by the names that the script gives its nodes: the bytes are the journal of no other events. Such is each
+/// run of the script that has ended, and the one that a seed picks; and two runs of a script with the same journal are one.
+pub fn the_journal_of_a_script_tells_its_run()
+    ensures runs { (s : Content) → CanRun s → AreRunsTold (names_of s) (setup_of s) }
+    ensures ended { (s : Content) → CanRun s → (events : List Happening) (w : World) → IsEndedRunOf s events w →
+        SpellsOnly (names_of s) (journal_of (names_of s) events) events }
+    ensures picked { (s : Content) (seed last : ℕ) → CanRun s → last ≤ 2 ^ 40 →
+        OfPickedRuns s seed last (λ events w. SpellsOnly (names_of s) (journal_of (names_of s) events) events) }
+    ensures one { (s : Content) → CanRun s → AreJournalsApart (names_of s) (setup_of s) (setup_of s) }
+{
+    a_journal_tells_its_run();
+    a_seed_picks_one_run_of_a_script();
+    scripts_set_nodes_up();
 }

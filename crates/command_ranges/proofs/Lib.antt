@@ -1,0 +1,13 @@
+pub mod Asking
+pub mod Answers
+pub mod Ranges
+pub mod Records
+pub mod Paths
+pub mod Names
+pub mod Walks
+pub mod Changes
+pub mod Parents
+pub mod Streams
+pub mod Files
+pub mod Talks
+pub mod Guards

@@ -1,0 +1,4 @@
+//! What commands ask is in its ranges, so that no guard of a shell ever acts.
+#![tactic(auto)]
+
+pub mod laws;
