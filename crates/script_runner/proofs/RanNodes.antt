@@ -1,6 +1,6 @@
 -- What comes of a script's nodes.
 use Rattle.std.proofs.Common.{◌≡◌, ℕ, ◌-◌, ◌<◌, ◌≤◌, Option, Some, None, Result, Ok, Err, List, [], length, map, reverse, slice_index_or, refl, sym, ◌∙◌, ap, subst, arith}
-use Rattle.std.specs.Prelude.{◌^◌, All, IsSome, IfSome, IfOk, IfErr, IsErrOf}
+use Rattle.std.specs.Prelude.{◌^◌, All, IsSome, IfSome, IfOk, IfErr, IsErrOf, unwrap_or}
 use Rattle.std.specs.Option.{option_map}
 use Rattle.std.proofs.lemmas.List.{length-map, length-reverse, get_or-reverse}
 use Rattle.std.proofs.lemmas.List.Elements.{All-weaker, All-get_or}
@@ -34,16 +34,16 @@ use Rattle.world_core.specs.Ended.{named}
 use Rattle.world_core.specs.Stands as worlds
 use Rattle.script_runs.specs.Processes.{processes_of}
 use Rattle.script_runs.specs.Setups.{setup_of}
-use Rattle.script_runs.specs.Runs.{IsEndedRunOf, IsPickedRunOf}
+use Rattle.script_runs.specs.Runs.{IsEndedRunOf, IsPickedRunOf, ComesToTick}
 use Rattle.script_runs.specs.Reports.{names_of, rows_of, history_rows}
 use Rattle.script_runs.specs.Histories.{heard_in, script_history, IsAsOneStore}
 use Rattle.script_runs.proofs.ProcsWith.{processes_of-All}
 use Rattle.script_runs.proofs.Running.{map-each}
 use Rattle.script_runner.specs.declared.run.AnswerRow.{AnswerRow}
 use Rattle.script_runner.specs.Answered.{answers_by, row_in}
-use Rattle.script_runner.specs.Faults.{IsFaultOf}
+use Rattle.script_runner.specs.Faults.{IsFaultOf, ComesToLastTick}
 use Rattle.script_runner.specs.Nodes.{made_shell}
-use Rattle.script_runner.specs.Reports.{RunOf, answers_in}
+use Rattle.script_runner.specs.Reports.{RunOf, StaysBelow, answers_in}
 use Rattle.script_runner.proofs.FirstNodes.{shell_found}
 
 -- each process of a script is one of its nodes
@@ -99,14 +99,31 @@ run_found events programs s seed last x (Err e) stands plan found = tt
 run_found events programs s seed last x (Ok y) stands plan found =
     subst (λ (rows : List FateRow). worlds.IsRunOf shell_wants shell_after (made_shell s) (setup_of s) rows seed last (events y) (programs y)) plan (found (made_shell s) (setup_of s) stands)
 
-pub limit_found : {G R : Type 0} (s : Content) (seed last : ℕ) (x : Whole Shelled G) (r : Result R RunFault)
+-- the turns of a number do not come both to a run and to the last tick
+abbrev pub NeverBoth : Type 0
+NeverBoth = (s : Content) (seed last node : ℕ) (events : List Happening) → IsPickedRunOf s seed last events → ComesToTick s seed last node → ⊥
+
+-- the run, or the limit, of a number that is given or not
+picked_for : (s : Content) (turns : Option ℕ) (seed last : ℕ) (events : List Happening) → seed ≡ unwrap_or turns 0 → IsPickedRunOf s seed last events → IfSome turns (λ number. IsPickedRunOf s number last events)
+picked_for s None seed last events is picked = tt
+picked_for s (Some number) seed last events is picked = subst (λ n. IsPickedRunOf s n last events) is picked
+
+below_for : NeverBoth → (s : Content) (turns : Option ℕ) (seed last : ℕ) (events : List Happening) → seed ≡ unwrap_or turns 0 → IsPickedRunOf s seed last events → IfSome turns (λ number. StaysBelow s number last)
+below_for never s None seed last events is picked = tt
+below_for never s (Some number) seed last events is picked = λ node. never s number last node events (subst (λ n. IsPickedRunOf s n last events) is picked)
+
+comes_for : (s : Content) (turns : Option ℕ) (seed last node : ℕ) → seed ≡ unwrap_or turns 0 → ComesToTick s seed last node → ComesToLastTick s turns last node
+comes_for s None seed last node is comes = (seed, comes)
+comes_for s (Some number) seed last node is comes = subst (λ n. ComesToTick s n last node) is comes
+
+pub limit_found : {G R : Type 0} (s : Content) (turns : Option ℕ) (seed last : ℕ) (x : Whole Shelled G) (r : Result R RunFault) → seed ≡ unwrap_or turns 0
     → worlds.Stands shell_wants shell_after (made_shell s) (setup_of s) x (first_world (setup_of s)) → x.plan ≡ s.plan
     → ((n : ℕ) → IsErrOf r (TickLimit n) → (made : ℕ → ℕ → Option Shelled) (t : Setup) → worlds.Stands shell_wants shell_after made t x (first_world t) → ComesToLast t x.plan seed last n)
-    → IfErr r (IsFaultOf s seed last)
-limit_found s seed last x (Ok y) stands plan found = tt
-limit_found s seed last x (Err NoMemory) stands plan found = tt
-limit_found s seed last x (Err (TickLimit n)) stands plan found =
-    subst (λ (rows : List FateRow). ComesToLast (setup_of s) rows seed last n) plan (found n refl (made_shell s) (setup_of s) stands)
+    → IfErr r (IsFaultOf s turns last)
+limit_found s turns seed last x (Ok y) is stands plan found = tt
+limit_found s turns seed last x (Err NoMemory) is stands plan found = tt
+limit_found s turns seed last x (Err (TickLimit n)) is stands plan found =
+    comes_for s turns seed last n is (subst (λ (rows : List FateRow). ComesToLast (setup_of s) rows seed last n) plan (found n refl (made_shell s) (setup_of s) stands))
 
 module _ (s : Content) (content : IsContent s) (seed last : ℕ) (events : List Happening) (programs : List (ProcName × Shelled)) (ended : worlds.IsRunOf shell_wants shell_after (made_shell s) (setup_of s) s.plan seed last events programs) where
   -- the events are the run that the seed picks
@@ -159,14 +176,15 @@ module _ (s : Content) (content : IsContent s) (start : IsStart s.opening) (seed
   run = pick s seed last content start most by_turns picks
 
   -- what came of the script
-  pub ran_is : AreAsOneStore → AnswerByHistory → ((p : ProcName) (heard : Heard) → shell_answers (program_after shell_after (shell_of s p) heard) ≡ answers s p heard)
-      → (procs : List ProcName) → procs ≡ processes_of s.commands → (rows : List AnswerRow) → map answers_in rows ≡ map (row_in programs) procs → RunOf s seed last (record { events = events; answers = rows })
-  ran_is one_store by_history answered procs are rows same =
+  pub ran_is : (turns : Option ℕ) → seed ≡ unwrap_or turns 0 → NeverBoth → AreAsOneStore → AnswerByHistory → ((p : ProcName) (heard : Heard) → shell_answers (program_after shell_after (shell_of s p) heard) ≡ answers s p heard)
+      → (procs : List ProcName) → procs ≡ processes_of s.commands → (rows : List AnswerRow) → map answers_in rows ≡ map (row_in programs) procs → RunOf s turns last (record { events = events; answers = rows })
+  ran_is turns is never one_store by_history answered procs are rows same =
       record {
         events = by_turns;
         world = run.0;
         run = run.1;
-        picked = picks;
+        picked = picked_for s turns seed last by_turns is picks;
+        below = below_for never s turns seed last by_turns is picks;
         one_store = one_store s content start by_turns run.0 run.1;
         recent = ended.recent;
         by_place = ended.events_are;

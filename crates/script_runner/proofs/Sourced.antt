@@ -1,29 +1,17 @@
--- Words that are taken, and sources that are too long.
-use Rattle.std.proofs.Common.{◌≡◌, ◌≤◌, ◌<◌, ◌+◌, ℕ, zero, suc, Option, Some, None, List, [], ◌∷◌, length, get_or, refl, ap, subst, arith, inl}
+-- Sources that are too long, and sources that have a script.
+use Rattle.std.proofs.Common.{◌≡◌, ◌≤◌, ◌+◌, ℕ, zero, suc, Option, Some, None, Ok, Err, List, [], ◌∷◌, length, refl, sym, ap, subst, arith, inl, inr}
+use Rattle.std.specs.Prelude.{MatchResult}
 use Rattle.uid_names.specs.declared.limits.TheConstants.{SCRIPT_BYTES}
-use Rattle.dom_io.specs.Known.{Exceeds}
+use Rattle.std.specs.Io.KnownBytes.{IsAtEnd}
+use Rattle.dom_io.specs.Known.{Exceeds, left_after}
 use Rattle.script_reader.specs.declared.cause.Cause.{Cause}
 use Rattle.script_reader.specs.declared.cause.Cause.TheVariants.{TooLong}
 use Rattle.script_reader.specs.Scripts.{Content}
-use Rattle.script_reader.specs.Grammar.{IsScript, IsBad}
-use Rattle.script_runner.specs.declared.domain.Due.{Due}
-use Rattle.script_runner.specs.declared.domain.Due.TheVariants.{Refusal}
-use Rattle.script_runner.specs.declared.words.Origin.{Origin}
-use Rattle.script_runner.specs.declared.words.Origin.TheVariants.{Read, Generated}
-use Rattle.script_runner.specs.Domain.{AreLeft, IsBadSource, IsRefusalOfSource}
-use Rattle.script_runner.specs.DueTexts.{IsDueText}
-
--- a list of three elements
-three : {A : Type 0} (xs : List A) (d e f : A) → 3 ≤ length xs → length xs < 4 → xs ≡ get_or xs 0 d ∷ (get_or xs 1 e ∷ (get_or xs 2 f ∷ []))
-three [] d e f low high = absurd (omega arith)
-three (x ∷ []) d e f low high = absurd (omega arith)
-three (x ∷ y ∷ []) d e f low high = absurd (omega arith)
-three (x ∷ y ∷ z ∷ []) d e f low high = refl
-three (x ∷ y ∷ z ∷ w ∷ xs) d e f low high = absurd (omega arith)
-
--- by its elements
-pub three_are : {A : Type 0} (xs : List A) (x y z : A) → 3 ≤ length xs → length xs < 4 → x ≡ get_or xs 0 x → y ≡ get_or xs 1 y → z ≡ get_or xs 2 z → xs ≡ x ∷ (y ∷ (z ∷ []))
-three_are xs x y z low high first second third = let all = three xs x y z low high in cc
+use Rattle.script_reader.specs.Grammar.{IsScript, IsBad, IsFirstBad, nothing, raw_lines, without_cr}
+use Rattle.script_reader.specs.Judging.{judged}
+use Rattle.script_runner.specs.Outside.{Bytes, from_to}
+use Rattle.script_runner.specs.Domain.{AreLeft, IsSourceOf, IsTakenTo, IsBadSource, IsRefusalOfSource}
+use Rattle.script_runner.specs.Promises.{HasScript, LacksScript}
 
 -- so many zeros
 zeros : ℕ → List ℕ
@@ -36,29 +24,58 @@ length-zeros zero = refl
 length-zeros (suc n) = ap suc (length-zeros n)
 
 -- a source of more bytes than a script has is bad
-pub too_long_is_bad : (left : Option (List ℕ)) → Exceeds left SCRIPT_BYTES → IsBadSource left 0 TooLong
-too_long_is_bad None exceeds = record {
+pub too_long_is_bad : (before after : Option (List ℕ)) → Exceeds before SCRIPT_BYTES → after ≡ left_after (SCRIPT_BYTES + 1) before → IsBadSource (from_to before after) 0 TooLong
+too_long_is_bad None after exceeds taken = record {
   bytes = zeros (SCRIPT_BYTES + 1);
   are_left = tt;
   bad = inl (record { long = omega (arith, length-zeros (SCRIPT_BYTES + 1)); line = refl; cause_is = refl });
+  taken = taken;
 }
-too_long_is_bad (Some left) exceeds = record {
+too_long_is_bad (Some left) after exceeds taken = record {
   bytes = left;
   are_left = refl;
   bad = inl (record { long = exceeds; line = refl; cause_is = refl });
+  taken = taken;
 }
+
+-- the first bad line is counted from the first one
+first_bad : (k : ℕ) (s : Content) (lines : List (List ℕ)) (n : ℕ) (cause : Cause) → IsFirstBad k s lines n cause → k ≤ n
+first_bad k s [] n cause bad = absurd bad
+first_bad k s (line ∷ lines) n cause bad =
+    elim (judged s (without_cr line)) as (λ r. MatchResult r (λ next. IsFirstBad (k + 1) next lines n cause) (λ met. (n ≡ k) × (cause ≡ met)) → k ≤ n) [
+      | Ok next ↦ λ bad. (let further = first_bad (k + 1) next lines n cause bad in omega (arith, further))
+      | Err met ↦ λ bad. (let is = bad.0 in omega (arith, is))
+    ] bad
+
+-- bytes that are not too long are bad at a line that is counted, and are taken to their end
+pub all_taken : (left : Bytes) (bytes : List ℕ) (line : ℕ) (cause : Cause) → length bytes ≤ SCRIPT_BYTES → IsBad bytes line cause → IsAtEnd left.after → IsTakenTo line left
+all_taken left bytes zero cause few (inl long) end = absurd (let exceeds = long.long in omega (arith, few, exceeds))
+all_taken left bytes zero cause few (inr (inl bad)) end = absurd (let low = first_bad 1 nothing (raw_lines bytes) 0 cause bad.first in omega (arith, low))
+all_taken left bytes zero cause few (inr (inr lacks)) end = absurd (let is = lacks.line in omega (arith, is))
+all_taken left bytes (suc line) cause few bad end = end
 
 -- bytes that are a script have no bad line
 abbrev pub AreNeverBoth : Type 0
 AreNeverBoth = (bytes : List ℕ) (s : Content) (n : ℕ) (c : Cause) → IsScript bytes s → IsBad bytes n c → ⊥
 
-not_bad : (left : Option (List ℕ)) (bytes : List ℕ) (s : Content) (text : List ℕ) → AreNeverBoth → left ≡ Some bytes → IsScript bytes s → IsRefusalOfSource left text → ⊥
-not_bad left bytes s text never left_is form refused =
-    let same : bytes ≡ refused.bad.bytes = subst (λ l. AreLeft l refused.bad.bytes) left_is refused.bad.are_left in
-    never refused.bad.bytes s refused.line refused.cause (subst (λ b. IsScript b s) same form) refused.bad.bad
+-- and they are one script
+abbrev pub AreOneContent : Type 0
+AreOneContent = (bytes : List ℕ) (s t : Content) → IsScript bytes s → IsScript bytes t → s ≡ t
+
+-- so the script of a source is the one that it has left
+pub same_script : AreOneContent → (left : Bytes) (has : HasScript left.before) (s : Content) → IsSourceOf left s → s ≡ has.script
+same_script one left has s source =
+    let same : has.bytes ≡ source.bytes = subst (λ (l : Option (List ℕ)). AreLeft l source.bytes) has.left_is source.are_left in
+    one source.bytes s has.script source.form (subst (λ (b : List ℕ). IsScript b has.script) same has.form)
+
+-- and there is none where it has no script left
+pub not_lacking : (left : Bytes) (s : Content) → IsSourceOf left s → LacksScript left.before → ⊥
+not_lacking left s source lacks =
+    let same : lacks.bytes ≡ source.bytes = subst (λ (l : Option (List ℕ)). AreLeft l source.bytes) lacks.left_is source.are_left in
+    lacks.none s (subst (λ (b : List ℕ). IsScript b s) (sym same) source.form)
 
 -- so a source that has a script left is not refused
-pub script_not_refused : (left : Option (List ℕ)) (bytes : List ℕ) (s : Content) (origin : Origin) (turns : ℕ) (due : Due) (text : List ℕ) → AreNeverBoth → left ≡ Some bytes → IsScript bytes s → IsDueText origin left turns due → due ≡ Refusal text → ⊥
-script_not_refused left bytes s Read turns due text never left_is form is_due is =
-    not_bad left bytes s text never left_is form (subst (IsDueText Read left turns) is is_due)
-script_not_refused left bytes s (Generated seed) turns due text never left_is form is_due is = subst (IsDueText (Generated seed) left turns) is is_due
+pub script_not_refused : (left : Bytes) (text : List ℕ) → AreNeverBoth → HasScript left.before → IsRefusalOfSource left text → ⊥
+script_not_refused left text never has refused =
+    let same : has.bytes ≡ refused.bad.bytes = subst (λ (l : Option (List ℕ)). AreLeft l refused.bad.bytes) has.left_is refused.bad.are_left in
+    never refused.bad.bytes has.script refused.line refused.cause (subst (λ (b : List ℕ). IsScript b has.script) same has.form) refused.bad.bad

@@ -1,27 +1,25 @@
--- What the program promises of its words, its source and its sinks.
-use Rattle.std.specs.Prelude.{ℕ, Bool, ◌==◌, ◌||◌, ◌≡◌, ◌⊎◌, List, ◌++◌, codes, decimal, map, Option, Some, IfSome, String, string_bytes}
-use Rattle.std.specs.Io.KnownBytes.{append_known}
-use Rattle.dom_io.specs.Counts.{CountRose}
-use Rattle.dom_io.specs.Known.{AppendsPrefix}
+-- What the program writes: its texts, and what they tell of the script that the words ask for.
+use Rattle.std.specs.Prelude.{ℕ, zero, suc, ◌+◌, ◌≡◌, ◌⊎◌, List, ◌++◌, codes, decimal, Option, IfSome}
+use Rattle.std.specs.Io.KnownBytes.{IsAtEnd}
+use Rattle.uid_names.specs.declared.limits.TheConstants.{SCRIPT_BYTES}
+use Rattle.dom_io.specs.Known.{left_after}
 use Rattle.dom_history.specs.Histories.{History}
 use Rattle.script_reader.specs.declared.cause.Cause.{Cause}
 use Rattle.script_reader.specs.Causes.{cause_text}
 use Rattle.script_reader.specs.Scripts.{Content}
 use Rattle.script_reader.specs.Grammar.{IsScript, IsBad}
 use Rattle.script_maker.specs.Generated.{generated}
-use Rattle.script_runner.specs.declared.words.Origin.{Origin}
-use Rattle.script_runner.specs.declared.words.Origin.TheVariants.{Read, Generated}
-use Rattle.script_runner.specs.Words.{AskFor, IsTaken}
-use Rattle.script_runs.specs.Runs.{ComesToTick, last_tick}
+use Rattle.script_runs.specs.Runs.{last_tick}
 use Rattle.script_runs.specs.Reports.{report_of}
 use Rattle.script_runs.specs.Summaries.{summary_of}
 use Rattle.script_runs.specs.Histories.{script_history}
+use Rattle.script_runner.specs.declared.words.Asked.{Asked}
+use Rattle.script_runner.specs.declared.words.Asked.TheVariants.{Reads, Generates}
 use Rattle.script_runner.specs.declared.run.Ran.{Ran}
+use Rattle.script_runner.specs.Words.{turns_of}
+use Rattle.script_runner.specs.Outside.{Bytes}
 use Rattle.script_runner.specs.Reports.{RunOf, journal_of}
-
--- the exit statuses
-abbrev pub is_status : ℕ → Bool
-is_status status = (status == 0) || ((status == 2) || ((status == 3) || ((status == 4) || ((status == 5) || ((status == 6) || ((status == 7) || (status == 8)))))))
+use Rattle.script_runner.specs.Faults.{ComesToLastTick}
 
 abbrev pub usage : List ℕ
 usage = codes "usage: domain run [--turns N] | domain gen SEED [--turns N]\n"
@@ -34,133 +32,63 @@ refusal line cause = codes "line " ++ decimal line ++ codes ": " ++ cause_text c
 abbrev pub AreLeft : Option (List ℕ) → List ℕ → Type 0
 AreLeft left bytes = IfSome left (λ known. known ≡ bytes)
 
--- the bytes of a source are this script
-pub record IsSourceOf (left : Option (List ℕ)) (script : Content) : Type 0 where
+-- the bytes of a source are this script, and it is at its end
+pub record IsSourceOf (left : Bytes) (script : Content) : Type 0 where
   pub bytes : List ℕ
-  pub are_left : AreLeft left bytes
+  pub are_left : AreLeft left.before bytes
   pub form : IsScript bytes script
+  pub at_end : IsAtEnd left.after
 
 -- the script that is run: the one whose bytes the source had left, or the one that is generated from a seed
-abbrev pub IsScriptFrom : Origin → Option (List ℕ) → Content → Type 0
-IsScriptFrom Read left script = IsSourceOf left script
-IsScriptFrom (Generated seed) left script = script ≡ generated seed
-
--- the turns of this number give a node of the script the last tick
-pub record LimitOfSource (origin : Origin) (left : Option (List ℕ)) (turns : ℕ) : Type 0 where
-  pub script : Content
-  pub source : IsScriptFrom origin left script
-  pub node : ℕ
-  pub comes : ComesToTick script turns last_tick node
+abbrev pub IsScriptFor : Asked → Bytes → Content → Type 0
+IsScriptFor (Reads turns) left script = IsSourceOf left script
+IsScriptFor (Generates seed turns) left script = script ≡ generated seed
 
 -- what is told of a history: the report, or for a script that was generated the line that sums it up
-abbrev pub text_of : Origin → Content → History → List ℕ
-text_of Read s h = report_of s h
-text_of (Generated seed) s h = summary_of seed s h
+abbrev pub text_for : Asked → Content → History → List ℕ
+text_for (Reads turns) s h = report_of s h
+text_for (Generates seed turns) s h = summary_of seed s h
 
--- the run of the script that is run, what is told of its history, and its journal
-pub record RunOfSource (origin : Origin) (left : Option (List ℕ)) (turns : ℕ) (text lines : List ℕ) : Type 0 where
+-- one run of the script that is asked for, what is told of its history, and its journal
+pub record RunFor (asked : Asked) (left : Bytes) (text lines : List ℕ) : Type 0 where
   pub script : Content
-  pub source : IsScriptFrom origin left script
+  pub source : IsScriptFor asked left script
   pub ran : Ran
-  pub run : RunOf script turns last_tick ran
-  pub told : text ≡ text_of origin script (script_history script run.events)
+  pub run : RunOf script (turns_of asked) last_tick ran
+  pub told : text ≡ text_for asked script (script_history script run.events)
   pub written : lines ≡ journal_of script run.events
 
+-- turns of the script give a node the last tick: those of the number that is asked for, or where none is said those of some number
+pub record LimitFor (asked : Asked) (left : Bytes) : Type 0 where
+  pub script : Content
+  pub source : IsScriptFor asked left script
+  pub node : ℕ
+  pub comes : ComesToLastTick script (turns_of asked) last_tick node
+
+-- what was taken of bytes that are bad at this line: one byte more than a script may have where they are too long, which is line 0, else all
+abbrev pub IsTakenTo : ℕ → Bytes → Type 0
+IsTakenTo zero left = left.after ≡ left_after (SCRIPT_BYTES + 1) left.before
+IsTakenTo (suc line) left = IsAtEnd left.after
+
 -- the bytes of a source are bad at this line, for this cause
-pub record IsBadSource (left : Option (List ℕ)) (line : ℕ) (cause : Cause) : Type 0 where
+pub record IsBadSource (left : Bytes) (line : ℕ) (cause : Cause) : Type 0 where
   pub bytes : List ℕ
-  pub are_left : AreLeft left bytes
+  pub are_left : AreLeft left.before bytes
   pub bad : IsBad bytes line cause
+  pub taken : IsTakenTo line left
 
 -- the bytes of a source are bad, and the text names their first bad line and its cause
-pub record IsRefusalOfSource (left : Option (List ℕ)) (text : List ℕ) : Type 0 where
+pub record IsRefusalOfSource (left : Bytes) (text : List ℕ) : Type 0 where
   pub line : ℕ
   pub cause : Cause
   pub bad : IsBadSource left line cause
   pub written : text ≡ refusal line cause
 
 -- the same where the script is read; no other is refused
-abbrev pub IsRefusalFrom : Origin → Option (List ℕ) → List ℕ → Type 0
-IsRefusalFrom Read left text = IsRefusalOfSource left text
-IsRefusalFrom (Generated seed) left text = ⊥
+abbrev pub IsRefusalFor : Asked → Bytes → List ℕ → Type 0
+IsRefusalFor (Reads turns) left text = IsRefusalOfSource left text
+IsRefusalFor (Generates seed turns) left text = ⊥
 
--- the text that is due: what is told of the run that the number of turns picks, or what is said of the first bad line
-abbrev pub IsDue : Origin → Option (List ℕ) → ℕ → List ℕ → Type 0
-IsDue origin left turns text = ((lines : List ℕ) × RunOfSource origin left turns text lines) ⊎ IsRefusalFrom origin left text
-
--- a text was added at the end of what a sink holds, where it tells that
-abbrev pub Adds : Option (List ℕ) → Option (List ℕ) → List ℕ → Type 0
-Adds before after text = after ≡ append_known before text
-
--- what a sink holds, before and after, where it tells that
-pub record Held : Type 0 where
-  pub before : Option (List ℕ)
-  pub after : Option (List ℕ)
-
-abbrev pub from_to : Option (List ℕ) → Option (List ℕ) → Held
-from_to before after = record { before = before; after = after }
-
--- a text was added, with this status; or a first part of it, which may be all of it, with 5, where a write failed
-abbrev pub AddsOrFails : ℕ → ℕ → Held → ℕ → ℕ → List ℕ → Type 0
-AddsOrFails result status held before after text =
-    ((result ≡ status) × Adds held.before held.after text) ⊎ ((result ≡ 5) × CountRose before after × AppendsPrefix held.before held.after text)
-
--- the text and the journal of one run were added, each to its sink; the words ask for its script and its turns
-pub record AddsRun (words : List (List ℕ)) (left : Option (List ℕ)) (out journal : Held) : Type 0 where
-  pub origin : Origin
-  pub turns : ℕ
-  pub asked : AskFor words origin turns
-  pub text : List ℕ
-  pub lines : List ℕ
-  pub run : RunOfSource origin left turns text lines
-  pub told : Adds out.before out.after text
-  pub written : Adds journal.before journal.after lines
-
--- the text was added, and a first part of the journal of the same run, which may be all of it
-pub record AddsPartOfRun (words : List (List ℕ)) (left : Option (List ℕ)) (out journal : Held) : Type 0 where
-  pub origin : Origin
-  pub turns : ℕ
-  pub asked : AskFor words origin turns
-  pub text : List ℕ
-  pub lines : List ℕ
-  pub run : RunOfSource origin left turns text lines
-  pub told : Adds out.before out.after text
-  pub part : AppendsPrefix journal.before journal.after lines
-
--- what is said of the first bad line was added
-pub record AddsRefusal (left : Option (List ℕ)) (out : Held) : Type 0 where
-  pub text : List ℕ
-  pub due : IsRefusalOfSource left text
-  pub added : Adds out.before out.after text
-
--- a first part of the text that was due was added, which may be all of it
-pub record AddsPart (words : List (List ℕ)) (left : Option (List ℕ)) (out : Held) : Type 0 where
-  pub origin : Origin
-  pub turns : ℕ
-  pub asked : AskFor words origin turns
-  pub text : List ℕ
-  pub due : IsDue origin left turns text
-  pub part : AppendsPrefix out.before out.after text
-
--- the turns that the words ask for come to the last tick
-pub record ComesToTheLimit (words : List (List ℕ)) (left : Option (List ℕ)) : Type 0 where
-  pub origin : Origin
-  pub turns : ℕ
-  pub asked : AskFor words origin turns
-  pub limit : LimitOfSource origin left turns
-
--- the words are taken, and the source tells that it has the bytes of a script left
-pub record HasScript {Z : Type 0} (words : List (String Z)) (left : Option (List ℕ)) : Type 0 where
-  pub bytes : List ℕ
-  pub script : Content
-  pub taken : IsTaken (map string_bytes words)
-  pub left_is : left ≡ Some bytes
-  pub form : IsScript bytes script
-
--- nothing failed: this count of faults did not rise
-abbrev pub NoFault : {A : Type 0} → (A → ℕ) → A → A → Type 0
-NoFault faults old new = CountRose (faults old) (faults new) → ⊥
-
--- what is told of a run was written, and its journal; or there was no memory, or a node came to the last tick
-abbrev pub IsDone : ℕ → Type 0
-IsDone status = (status ≡ 0) ⊎ ((status ≡ 7) ⊎ (status ≡ 8))
+-- the text that is due: what is told of a run, or what is said of the first bad line
+abbrev pub IsDue : Asked → Bytes → List ℕ → Type 0
+IsDue asked left text = ((lines : List ℕ) × RunFor asked left text lines) ⊎ IsRefusalFor asked left text

@@ -1,6 +1,8 @@
 pub mod Reports
 pub mod Words
+pub mod Outside
 pub mod Domain
+pub mod Promises
 pub mod DueTexts
 pub mod Faults
 pub mod Answered

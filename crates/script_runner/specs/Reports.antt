@@ -1,12 +1,12 @@
 -- What comes of a script: the events of a run, and the answers of its processes.
-use Rattle.std.specs.Prelude.{ℕ, ◌≡◌, List, map, reverse}
+use Rattle.std.specs.Prelude.{ℕ, ◌≡◌, List, map, reverse, Option, IfSome}
 use Rattle.dom_history.specs.Events.{Happening}
 use Rattle.script_reader.specs.Scripts.{Content}
 use Rattle.journal_text.specs.Lines.{journal}
 use Rattle.node_runs.specs.Runs.{World}
 use Rattle.recent_runs.specs.Recent.{IsRecent}
 use Rattle.script_runs.specs.Setups.{setup_of}
-use Rattle.script_runs.specs.Runs.{IsEndedRunOf, IsPickedRunOf}
+use Rattle.script_runs.specs.Runs.{IsEndedRunOf, IsPickedRunOf, ComesToTick}
 use Rattle.script_runs.specs.Reports.{ProcAnswers, names_of, history_rows}
 use Rattle.script_runs.specs.Histories.{script_history, IsAsOneStore}
 use Rattle.script_runner.specs.declared.run.AnswerRow.{AnswerRow}
@@ -20,16 +20,21 @@ answers_in row = record { proc = row.proc; answers = row.answers }
 abbrev pub journal_of : Content → List Happening → List ℕ
 journal_of s events = journal (names_of s) (reverse events)
 
--- a run of a script that has ended, the one that the number of its turns picks, in which no node comes to the last tick; it is as one store would have
--- it: all nodes have ended, the history is one of one store, which holds each process's commands once and in order to their end, in phases that never
+-- no turns of this number give a node of the script the last tick
+abbrev pub StaysBelow : Content → ℕ → ℕ → Type 0
+StaysBelow s number last = (node : ℕ) → ComesToTick s number last node → ⊥
+
+-- a run of a script that has ended, in which no node comes to the last tick, and where a number of turns is given the one that it picks, of which no turns give a node the last tick; it is as one
+-- store would have it: all nodes have ended, the history is one of one store, which holds each process's commands once and in order to their end, in phases that never
 -- overlap, with the replies that its program heard, and each has exactly one answer; and at each unlock of a held lock every page that the holder
 -- modified is at its home. Each page that was dropped for another was the clean one used longest ago. What came of it are its events by rising place,
 -- and the answers of its history
-pub record RunOf (s : Content) (turns last : ℕ) (ran : Ran) : Type 0 where
+pub record RunOf (s : Content) (turns : Option ℕ) (last : ℕ) (ran : Ran) : Type 0 where
   pub events : List Happening
   pub world : World
   pub run : IsEndedRunOf s events world
-  pub picked : IsPickedRunOf s turns last events
+  pub picked : IfSome turns (λ number. IsPickedRunOf s number last events)
+  pub below : IfSome turns (λ number. StaysBelow s number last)
   pub one_store : IsAsOneStore s events world
   pub recent : IsRecent (setup_of s) events
   pub by_place : ran.events ≡ reverse events

@@ -1,8 +1,8 @@
--- The words of the command line.
-use Rattle.std.specs.Prelude.{ℕ, ◌≡◌, ◌⊎◌, List, [], ◌∷◌, codes, Option, Some, unwrap_or}
+-- The words of the command line, and what they ask for.
+use Rattle.std.specs.Prelude.{ℕ, ◌≡◌, ◌⊎◌, List, [], ◌∷◌, codes, map, Option, Some, None, String, string_bytes}
 use Rattle.dom_text.specs.Numbers.{number_spelled}
-use Rattle.script_runner.specs.declared.words.Origin.{Origin}
-use Rattle.script_runner.specs.declared.words.Origin.TheVariants.{Read, Generated}
+use Rattle.script_runner.specs.declared.words.Asked.{Asked}
+use Rattle.script_runner.specs.declared.words.Asked.TheVariants.{Reads, Generates}
 
 -- `run` with the number of its turns
 pub record AreTurns (words : List (List ℕ)) (turns : ℕ) : Type 0 where
@@ -24,23 +24,26 @@ pub record AreSeedAndTurns (words : List (List ℕ)) (seed turns : ℕ) : Type 0
   pub seed_number : number_spelled seed_word ≡ Some seed
   pub turns_number : number_spelled turns_word ≡ Some turns
 
--- the script that the words ask for, and its turns: those of 0 where the words say no number of turns
-abbrev pub AskFor : List (List ℕ) → Origin → ℕ → Type 0
-AskFor words Read turns = ((words ≡ codes "run" ∷ []) × (turns ≡ 0)) ⊎ AreTurns words turns
-AskFor words (Generated seed) turns = (AreSeed words seed × (turns ≡ 0)) ⊎ AreSeedAndTurns words seed turns
+-- the words ask for a script that is read: `run`, alone or with the number of its turns
+abbrev pub AskToRead : List (List ℕ) → Option ℕ → Type 0
+AskToRead words None = words ≡ codes "run" ∷ []
+AskToRead words (Some turns) = AreTurns words turns
 
--- the words are taken, as they stand
-abbrev pub IsTaken : List (List ℕ) → Type 0
-IsTaken words = (origin : Origin) × (turns : ℕ) × AskFor words origin turns
+-- the words ask for the script of a seed: `gen` with that seed, alone or with the number of its turns
+abbrev pub AskToGenerate : List (List ℕ) → ℕ → Option ℕ → Type 0
+AskToGenerate words seed None = AreSeed words seed
+AskToGenerate words seed (Some turns) = AreSeedAndTurns words seed turns
 
--- the words ask for a script that is read
-abbrev pub AskToRead : List (List ℕ) → Type 0
-AskToRead words = (turns : ℕ) × AskFor words Read turns
+-- what the words ask for, as they stand
+abbrev pub AskFor : {Z : Type 0} → List (String Z) → Asked → Type 0
+AskFor words (Reads turns) = AskToRead (map string_bytes words) turns
+AskFor words (Generates seed turns) = AskToGenerate (map string_bytes words) seed turns
 
--- the words ask for a script that is generated, and no byte is read
-abbrev pub AskToGenerate : List (List ℕ) → Type 0
-AskToGenerate words = (seed : ℕ) × (turns : ℕ) × AskFor words (Generated seed) turns
+-- the words are taken
+abbrev pub IsTaken : {Z : Type 0} → List (String Z) → Type 0
+IsTaken words = (asked : Asked) × AskFor words asked
 
--- the number of the turns, where one may be given
-abbrev pub seed_of : Option ℕ → ℕ
-seed_of turns = unwrap_or turns 0
+-- the number of the turns, if the words say one
+abbrev pub turns_of : Asked → Option ℕ
+turns_of (Reads turns) = turns
+turns_of (Generates seed turns) = turns

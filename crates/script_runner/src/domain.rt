@@ -1,20 +1,23 @@
 //! The program: from its words and a script to what is told of its run, and the journal.
-ghost use Rattle.std.specs.Prelude.{◌≡◌, ◌≢◌, ◌+◌, ◌⊎◌, ℕ, List, Option, map, string_bytes, IsTrue, IfOk, IfErr, IsErrOf};
+ghost use Rattle.std.specs.Prelude.{◌≡◌, ◌≢◌, ◌+◌, ◌≤◌, ◌⊎◌, map, IfOk, IfErr, IsErrOf};
 ghost use Rattle.dom_io.specs.Counts.{CountRose};
-ghost use Rattle.dom_io.specs.Known.{TakesAtMost, AppendsPrefix};
+ghost use Rattle.dom_io.specs.Known.{TakesAtMost};
 ghost use Rattle.script_reader.specs.declared.cause.Cause.{Cause};
-ghost use Rattle.script_runner.specs.declared.words.Origin.TheVariants.{Read, Generated};
-ghost use Rattle.script_runner.specs.Words.{IsTaken, AskToRead, AskToGenerate, seed_of};
+ghost use Rattle.script_runner.specs.declared.words.Asked.{Asked};
+ghost use Rattle.script_runner.specs.declared.words.Asked.TheVariants.{Reads, Generates};
+ghost use Rattle.script_runner.specs.Words.{AskFor, IsTaken, turns_of};
 ghost use Rattle.script_runner.specs.Reports.{answers_in};
-ghost use Rattle.script_runner.specs.Domain.{is_status, usage as usage_text, refusal as refusal_text, from_to, Adds, AddsOrFails, AddsRun, AddsPartOfRun, AddsRefusal, AddsPart, IsScriptFrom, ComesToTheLimit, LimitOfSource, HasScript, NoFault, IsDone};
-ghost use Rattle.script_runner.specs.DueTexts.{told_of, IsDueText, IsEndOf};
+ghost use Rattle.script_runner.specs.Outside.{Bytes, from_to, over, IsSame, Fails, Adds, AddsPart, AddsOrFails};
+ghost use Rattle.script_runner.specs.Domain.{refusal as refusal_text, IsScriptFor, LimitFor};
+ghost use Rattle.script_runner.specs.Promises.{IsStatusOf, RefusesWords, Promised};
+ghost use Rattle.script_runner.specs.DueTexts.{told_for, IsEndOf, IsDueFor, IsRead, IsUnread};
 
 use crate::names::names_of;
 use crate::report::report;
 use crate::run::{AnswerRow, MergedRan, run_merged};
 use crate::run_journal::RunJournal;
 use crate::summary::summary;
-use crate::words::{Asked, Origin, words_asked};
+use crate::words::{Asked, words_asked};
 use dom_history::NodeNames;
 use dom_io::{ReadEnd, Sink, Source, read_all, write_all};
 use dom_text::put_decimal;
@@ -77,44 +80,40 @@ fn refusal(alloc: Global, line: u32, cause: Cause) -> Result<ByteList, NoMemory>
 /// What is told of these answers: the report, or the line that sums up those of a script that was generated.
 fn told(
     alloc: Global,
-    origin: Origin,
+    asked: Asked,
     names: &NodeNames,
     rows: &[AnswerRow],
 ) -> Result<ByteList, NoMemory>
-    ensures { IfOk result (λ text. text ≡ told_of origin names.now (map answers_in rows.now)) }
+    ensures { IfOk result (λ text. text ≡ told_for asked names.now (map answers_in rows.now)) }
 {
-    match origin {
-        Origin::Read => report(alloc, names, rows),
-        Origin::Generated(seed) => summary(alloc, seed, rows),
+    match asked {
+        Asked::Reads { .. } => report(alloc, names, rows),
+        Asked::Generates { seed, .. } => summary(alloc, seed, rows),
     }
 }
 
-/// What is told of a script's run, and its journal, which are made whole.
-fn run_due(
-    alloc: Global,
-    origin: Origin,
-    script: &Script,
-    turns: Option<u64>,
-) -> Result<Due, RunEnd>
-    ensures due { (left : Option (List ℕ)) → IsScriptFrom origin left script.now → IfOk result (IsDueText origin left (seed_of turns)) }
-    ensures end { IfErr result (IsEndOf script.now (seed_of turns)) }
+/// What is told of a run of the script that is asked for, and its journal, which are made whole.
+fn run_due(alloc: Global, asked: Asked, script: &Script) -> Result<Due, RunEnd>
+    ensures due { (left : Bytes) → IsScriptFor asked left script.now → IfOk result (IsDueFor asked left) }
+    ensures end { IfErr result (IsEndOf script.now (turns_of asked)) }
 {
-    let MergedRan { events, answers } = match run_merged(alloc, script, turns, LAST_TICK) {
+    let MergedRan { events, answers } = match run_merged(alloc, script, asked.turns(), LAST_TICK) {
         Ok(ran) => ran,
         Err(RunFault::TickLimit(_)) => return Err(RunEnd::TickLimit),
         Err(RunFault::NoMemory) => return Err(RunEnd::NoMemory),
     };
     let names = names_of(alloc, script.nodes())?;
-    let text = told(alloc, origin, &names, answers.items())?;
+    let text = told(alloc, asked, &names, answers.items())?;
     Ok(Due::Run(text, RunJournal::new(events, names)))
 }
 
 /// What is due for the bytes that a source has left.
-fn read_due<S: Source>(alloc: Global, script: &mut S, turns: Option<u64>) -> Result<Due, RunEnd>
-    ensures due { IfOk result (IsDueText Read (S.left script.old) (seed_of turns)) }
+fn read_due<S: Source>(alloc: Global, turns: Option<u64>, script: &mut S) -> Result<Due, RunEnd>
+    ensures due { IfOk result (IsDueFor (Reads turns) (from_to (S.left script.old) (S.left script.new))) }
     ensures read_fault { IsErrOf result RunEnd.ReadFault → CountRose (S.faults script.old) (S.faults script.new) }
-    ensures limit { IsErrOf result RunEnd.TickLimit → LimitOfSource Read (S.left script.old) (seed_of turns) }
+    ensures limit { IsErrOf result RunEnd.TickLimit → LimitFor (Reads turns) (from_to (S.left script.old) (S.left script.new)) }
     ensures taken { TakesAtMost (SCRIPT_BYTES + 1) (S.left script.old) (S.left script.new) }
+    ensures count { S.faults script.old ≤ S.faults script.new }
 {
     let bytes = match read_all(alloc, script, SCRIPT_BYTES) {
         Ok(bytes) => bytes,
@@ -123,7 +122,7 @@ fn read_due<S: Source>(alloc: Global, script: &mut S, turns: Option<u64>) -> Res
         Err(ReadEnd::NoMemory) => return Err(RunEnd::NoMemory),
     };
     match read_script(alloc, bytes.bytes()) {
-        Ok(read) => run_due(alloc, Origin::Read, &read, turns),
+        Ok(read) => run_due(alloc, Asked::Reads { turns }, &read),
         Err(ScriptFault::Bad { line, cause }) => Ok(Due::Refusal(refusal(alloc, line, cause)?)),
         Err(ScriptFault::NoMemory) => Err(RunEnd::NoMemory),
     }
@@ -131,32 +130,34 @@ fn read_due<S: Source>(alloc: Global, script: &mut S, turns: Option<u64>) -> Res
 
 /// What is due for the script that is generated from a seed.
 fn generated_due(alloc: Global, seed: u64, turns: Option<u64>) -> Result<Due, RunEnd>
-    ensures due { (left : Option (List ℕ)) → IfOk result (IsDueText (Generated seed) left (seed_of turns)) }
+    ensures due { (left : Bytes) → IfOk result (IsDueFor (Generates seed turns) left) }
     ensures no_read_fault { IsErrOf result RunEnd.ReadFault → ⊥ }
-    ensures limit { (left : Option (List ℕ)) → IsErrOf result RunEnd.TickLimit → LimitOfSource (Generated seed) left (seed_of turns) }
+    ensures limit { (left : Bytes) → IsErrOf result RunEnd.TickLimit → LimitFor (Generates seed turns) left }
 {
     let script = generate(alloc, seed)?;
-    run_due(alloc, Origin::Generated(seed), &script, turns)
+    run_due(alloc, Asked::Generates { seed, turns }, &script)
 }
 
 /// What is due for the script that is asked for; a source is read only for one that is not generated.
 fn asked_due<S: Source>(alloc: Global, asked: Asked, script: &mut S) -> Result<Due, RunEnd>
-    ensures due { IfOk result (IsDueText asked.origin (S.left script.old) (seed_of asked.turns)) }
+    ensures due { IfOk result (IsDueFor asked (from_to (S.left script.old) (S.left script.new))) }
     ensures read_fault { IsErrOf result RunEnd.ReadFault → CountRose (S.faults script.old) (S.faults script.new) }
-    ensures read { IsErrOf result RunEnd.ReadFault → asked.origin ≡ Read }
-    ensures limit { IsErrOf result RunEnd.TickLimit → LimitOfSource asked.origin (S.left script.old) (seed_of asked.turns) }
+    ensures read { IsErrOf result RunEnd.ReadFault → IsRead asked }
+    ensures limit { IsErrOf result RunEnd.TickLimit → LimitFor asked (from_to (S.left script.old) (S.left script.new)) }
     ensures taken { TakesAtMost (SCRIPT_BYTES + 1) (S.left script.old) (S.left script.new) }
-    ensures unread { (seed : ℕ) → asked.origin ≡ Generated seed → script.new ≡ script.old }
+    ensures count { S.faults script.old ≤ S.faults script.new }
+    ensures unread { IsUnread asked (over S.left S.faults script.old script.new) }
 {
-    match asked.origin {
-        Origin::Read => read_due(alloc, script, asked.turns),
-        Origin::Generated(seed) => generated_due(alloc, seed, asked.turns),
+    match asked {
+        Asked::Reads { turns } => read_due(alloc, turns, script),
+        Asked::Generates { seed, turns } => generated_due(alloc, seed, turns),
     }
 }
 
 /// Writes a text: the status, or 5 where a write failed.
 fn write_text<O: Sink>(out: &mut O, text: &[u8], status: u8) -> u8
-    ensures either { AddsOrFails result status (from_to (O.held out.old) (O.held out.new)) (O.faults out.old) (O.faults out.new) text.now }
+    ensures either { AddsOrFails (over O.held O.faults out.old out.new) text.now status result }
+    ensures count { O.faults out.old ≤ O.faults out.new }
 {
     match write_all(out, text) {
         Ok(()) => status,
@@ -174,14 +175,15 @@ fn write_run<O: Sink, J: Sink>(
     run: &RunJournal,
 ) -> u8
     ensures status { (result ≡ 0) ⊎ ((result ≡ 5) ⊎ ((result ≡ 6) ⊎ (result ≡ 7))) }
-    ensures told { result ≢ 5 → result ≢ 7 → Adds (O.held out.old) (O.held out.new) text.now }
-    ensures fault { result ≡ 5 → CountRose (O.faults out.old) (O.faults out.new) }
-    ensures text_cut { result ≡ 5 → AppendsPrefix (O.held out.old) (O.held out.new) text.now }
-    ensures no_journal { (result ≡ 5) ⊎ (result ≡ 7) → journal.new ≡ journal.old }
-    ensures nothing_told { result ≡ 7 → out.new ≡ out.old }
-    ensures written { result ≡ 0 → Adds (J.held journal.old) (J.held journal.new) run.now }
-    ensures journal_fault { result ≡ 6 → CountRose (J.faults journal.old) (J.faults journal.new) }
-    ensures lines_cut { result ≡ 6 → AppendsPrefix (J.held journal.old) (J.held journal.new) run.now }
+    ensures told { result ≢ 5 → result ≢ 7 → Adds (over O.held O.faults out.old out.new) text.now }
+    ensures fault { result ≡ 5 → Fails (over O.held O.faults out.old out.new) }
+    ensures text_cut { result ≡ 5 → AddsPart (over O.held O.faults out.old out.new) text.now }
+    ensures no_journal { (result ≡ 5) ⊎ (result ≡ 7) → IsSame (over J.held J.faults journal.old journal.new) }
+    ensures nothing_told { result ≡ 7 → IsSame (over O.held O.faults out.old out.new) }
+    ensures written { result ≡ 0 → Adds (over J.held J.faults journal.old journal.new) run.now }
+    ensures journal_fault { result ≡ 6 → Fails (over J.held J.faults journal.old journal.new) }
+    ensures lines_cut { result ≡ 6 → AddsPart (over J.held J.faults journal.old journal.new) run.now }
+    ensures out_count { O.faults out.old ≤ O.faults out.new }
 {
     let Ok(lines) = run.lines(alloc) else {
         return 7;
@@ -192,6 +194,28 @@ fn write_run<O: Sink, J: Sink>(
     match lines.write(journal) {
         Ok(()) => 0,
         Err(_) => 6,
+    }
+}
+
+/// Runs what the words ask for, and writes what is due: the status.
+fn run_asked<S: Source, O: Sink, J: Sink>(
+    alloc: Global,
+    asked: Asked,
+    script: &mut S,
+    out: &mut O,
+    journal: &mut J,
+) -> u8
+    ensures statuses { IsStatusOf (over S.left S.faults script.old script.new) (over O.held O.faults out.old out.new) (over J.held J.faults journal.old journal.new) result }
+    ensures kept { Promised asked (over S.left S.faults script.old script.new) (over O.held O.faults out.old out.new) (over J.held J.faults journal.old journal.new) result }
+{
+    // So bytes that are a script have no bad line.
+    scripts_have_one_reading();
+    match asked_due(alloc, asked, script) {
+        Ok(Due::Run(text, lines)) => write_run(alloc, out, journal, text.bytes(), &lines),
+        Ok(Due::Refusal(text)) => write_text(out, text.bytes(), 3),
+        Err(RunEnd::ReadFault) => 4,
+        Err(RunEnd::NoMemory) => 7,
+        Err(RunEnd::TickLimit) => 8,
     }
 }
 
@@ -216,57 +240,23 @@ pub fn run_domain<S: Source, O: Sink, J: Sink>(
     out: &mut O,
     journal: &mut J,
 ) -> u8
-    ensures statuses { IsTrue (is_status result) }
+    // Whatever the words are: a status of failure only where the count of faults rose, what stays as it was, and what was taken.
+    ensures statuses { IsStatusOf (over S.left S.faults script.old script.new) (over O.held O.faults out.old out.new) (over J.held J.faults journal.old journal.new) result }
 
-    // The headline: what is written is the report and the journal of one run of the script's nodes, which is planned by its
-    // faults and which the turns of the words pick. All nodes have ended in it. Its history is one of one store without nodes or
-    // caches, and holds each process's commands once and in order, to their end, in phases that never overlap; the report is
-    // exactly its answers, just one for each command. And at each unlock of a held lock every page that the holder modified is
-    // at its home. Where the words ask for the script of a seed it is the generated one, and in place of the report stands the
-    // line that sums up its answers.
-    ensures run { result ≡ 0 → AddsRun (map string_bytes words.now) (S.left script.old)
-        (from_to (O.held out.old) (O.held out.new)) (from_to (J.held journal.old) (J.held journal.new)) }
+    // Words that are not taken: the usage is written, or a first part of it where a write fails, and nothing is read.
+    ensures words_refused { (IsTaken words.now → ⊥) → RefusesWords (over S.left S.faults script.old script.new) (over O.held O.faults out.old out.new) result }
 
-    // Words, and then bytes, that are refused; both yield to a write fault.
-    ensures words_refused { (IsTaken (map string_bytes words.now) → ⊥) → (result ≡ 2) ⊎ (result ≡ 5) }
-    ensures usage { result ≡ 2 → (IsTaken (map string_bytes words.now) → ⊥) × Adds (O.held out.old) (O.held out.new) usage_text }
-    ensures bytes_refused { result ≡ 3 → AskToRead (map string_bytes words.now) × AddsRefusal (S.left script.old) (from_to (O.held out.old) (O.held out.new)) }
-
-    // A node comes to the last tick only where the turns of the words give it that tick.
-    ensures limit { result ≡ 8 → ComesToTheLimit (map string_bytes words.now) (S.left script.old) }
-
-    // Faults of the outside, only where their count rose.
-    ensures read_fault { result ≡ 4 → AskToRead (map string_bytes words.now) × CountRose (S.faults script.old) (S.faults script.new) }
-    ensures write_fault { result ≡ 5 → CountRose (O.faults out.old) (O.faults out.new) }
-    ensures journal_fault { result ≡ 6 → CountRose (J.faults journal.old) (J.faults journal.new) }
-    ensures usage_cut { result ≡ 5 → (IsTaken (map string_bytes words.now) → ⊥) → AppendsPrefix (O.held out.old) (O.held out.new) usage_text }
-    ensures text_cut { result ≡ 5 → IsTaken (map string_bytes words.now) → AddsPart (map string_bytes words.now) (S.left script.old) (from_to (O.held out.old) (O.held out.new)) }
-    ensures journal_cut { result ≡ 6 → AddsPartOfRun (map string_bytes words.now) (S.left script.old)
-        (from_to (O.held out.old) (O.held out.new)) (from_to (J.held journal.old) (J.held journal.new)) }
-
-    // What stays as it was.
-    ensures nothing_written { (result ≡ 4) ⊎ ((result ≡ 7) ⊎ (result ≡ 8)) → out.new ≡ out.old }
-    ensures no_journal { result ≢ 0 → result ≢ 6 → journal.new ≡ journal.old }
-    ensures nothing_read { (IsTaken (map string_bytes words.now) → ⊥) → script.new ≡ script.old }
-    ensures generated_unread { AskToGenerate (map string_bytes words.now) → script.new ≡ script.old }
-    ensures source { TakesAtMost (SCRIPT_BYTES + 1) (S.left script.old) (S.left script.new) }
-
-    // Where nothing outside fails, a script is run to its end or to the last tick, or there was no memory.
-    ensures complete { HasScript words.now (S.left script.old)
-        → NoFault S.faults script.old script.new → NoFault O.faults out.old out.new → NoFault J.faults journal.old journal.new → IsDone result }
-    ensures complete_generated { AskToGenerate (map string_bytes words.now)
-        → NoFault O.faults out.old out.new → NoFault J.faults journal.old journal.new → IsDone result }
+    // The headline: the words ask for this, and so this is promised. At 0 what is written is the report and the journal of one run
+    // of the script's nodes, which is planned by its faults, and the one that the number of turns picks where the words say one. All
+    // nodes have ended in it. Its history is one of one store without nodes or caches, and holds each process's commands once and in
+    // order, to their end, in phases that never overlap; the report is exactly its answers, just one for each command. And at each
+    // unlock of a held lock every page that the holder modified is at its home. Where the words ask for the script of a seed it is
+    // the generated one, and in place of the report stands the line that sums up its answers.
+    ensures kept { (a : Asked) → AskFor words.now a → Promised a (over S.left S.faults script.old script.new)
+        (over O.held O.faults out.old out.new) (over J.held J.faults journal.old journal.new) result }
 {
     let Some(asked) = words_asked(words) else {
         return write_text(out, USAGE, 2);
     };
-    // So bytes that are a script have no bad line.
-    scripts_have_one_reading();
-    match asked_due(alloc, asked, script) {
-        Ok(Due::Run(text, lines)) => write_run(alloc, out, journal, text.bytes(), &lines),
-        Ok(Due::Refusal(text)) => write_text(out, text.bytes(), 3),
-        Err(RunEnd::ReadFault) => 4,
-        Err(RunEnd::NoMemory) => 7,
-        Err(RunEnd::TickLimit) => 8,
-    }
+    run_asked(alloc, asked, script, out, journal)
 }

@@ -1,5 +1,5 @@
 //! Runs a script that was read.
-ghost use Rattle.std.specs.Prelude.{◌≡◌, ◌≤◌, ◌^◌, All, IsSome, map, IfOk, IfErr, option_copied};
+ghost use Rattle.std.specs.Prelude.{◌≡◌, ◌≤◌, ◌^◌, All, IsSome, map, IfOk, IfErr, option_copied, unwrap_or};
 ghost use Rattle.aegis_shell.specs.Shells.{shell_answers, shell_wants, shell_after};
 ghost use Rattle.world_core.specs.Ended.{named};
 ghost use Rattle.world_core.specs.Stands.{IsRunOf};
@@ -7,7 +7,6 @@ ghost use Rattle.script_runs.specs.Setups.{setup_of};
 ghost use Rattle.script_runner.specs.Nodes.{made_shell};
 ghost use Rattle.script_runner.specs.Answered.{row_in};
 ghost use Rattle.journal_text.specs.Lines.{Names};
-ghost use Rattle.script_runner.specs.Words.{seed_of};
 ghost use Rattle.script_runs.specs.Reports.{names_of};
 ghost use Rattle.script_runner.specs.Reports.{RunOf, answers_in};
 ghost use Rattle.script_runner.specs.Faults.{IsFaultOf};
@@ -97,22 +96,23 @@ fn answers(
     Ok(rows)
 }
 
-/// The run of a script's nodes in the turns of a number: its events by rising place, and the shells as they are at its end.
+/// The run of a script's nodes in the turns of a number, those of 0 where none is given: its events by rising place, and the shells as
+/// they are at its end.
 fn run_nodes(
     alloc: Global,
     script: &Script,
-    turns: u64,
+    turns: Option<u64>,
     last_tick: u64,
 ) -> Result<(MergedLogs, Vec<(ProcId, Shell<'_>)>), RunFault>
     requires some { 1 ≤ last_tick }
     requires few { last_tick ≤ 2 ^ 40 }
-    ensures run { IfOk result (λ r. IsRunOf shell_wants shell_after (made_shell script.now) (setup_of script.now) script.now.plan turns last_tick r.0.events r.1.items) }
+    ensures run { IfOk result (λ r. IsRunOf shell_wants shell_after (made_shell script.now) (setup_of script.now) script.now.plan (unwrap_or turns 0) last_tick r.0.events r.1.items) }
     ensures limit { IfErr result (IsFaultOf script.now turns last_tick) }
 {
     let nodes = nodes_of(alloc, script)?;
     let plan = script.plan().copy(alloc)?;
     let world = World::new(alloc, nodes, plan)?;
-    world.run_merged(alloc, turns, last_tick)
+    world.run_merged(alloc, turns.unwrap_or(0), last_tick)
 }
 
 /// Runs a script on nodes, as `run_script` does, and leaves the events in the logs of their nodes.
@@ -125,10 +125,10 @@ pub(crate) fn run_merged(
     requires some { 1 ≤ last_tick }
     requires few { last_tick ≤ 2 ^ 40 }
     ensures named { IfOk result (λ ran. All (Names (names_of script.now)) ran.events.events) }
-    ensures ran { IfOk result (λ ran. RunOf script.now (seed_of turns) last_tick (record { events = ran.events.events; answers = ran.answers })) }
-    ensures limit { IfErr result (IsFaultOf script.now (seed_of turns) last_tick) }
+    ensures ran { IfOk result (λ ran. RunOf script.now turns last_tick (record { events = ran.events.events; answers = ran.answers })) }
+    ensures limit { IfErr result (IsFaultOf script.now turns last_tick) }
 {
-    let (events, shells) = run_nodes(alloc, script, turns.unwrap_or(0), last_tick)?;
+    let (events, shells) = run_nodes(alloc, script, turns, last_tick)?;
     let procs = processes_in(alloc, script.commands())?;
     let answers = answers(alloc, shells.as_slice(), procs.as_slice())?;
     // So the run is planned and has ended, names its own nodes and is as one store would have it, and the shells were answered what its
@@ -142,8 +142,8 @@ pub(crate) fn run_merged(
     Ok(MergedRan { events, answers })
 }
 
-/// Runs a script on nodes, in the turns that a number picks, those of 0 where none is given. TickLimit is answered where
-/// an event gave that node the tick `last_tick`, 1 to 2 ^ 40.
+/// Runs a script on nodes, in the turns that the number picks; where none is given no clause says in which, and they are those of 0.
+/// TickLimit is answered where an event gave that node the tick `last_tick`, 1 to 2 ^ 40.
 pub fn run_script(
     alloc: Global,
     script: &Script,
@@ -153,8 +153,8 @@ pub fn run_script(
     requires some { 1 ≤ last_tick }
     requires few { last_tick ≤ 2 ^ 40 }
     ensures named { IfOk result (λ ran. All (Names (names_of script.now)) ran.events) }
-    ensures ran { IfOk result (RunOf script.now (seed_of turns) last_tick) }
-    ensures limit { IfErr result (IsFaultOf script.now (seed_of turns) last_tick) }
+    ensures ran { IfOk result (RunOf script.now turns last_tick) }
+    ensures limit { IfErr result (IsFaultOf script.now turns last_tick) }
 {
     let ran = run_merged(alloc, script, turns, last_tick)?;
     Ok(Ran {

@@ -1,24 +1,28 @@
 //! The words of the command line.
-ghost use Rattle.std.specs.Prelude.{◌≡◌, map, string_bytes, codes, ◌↔◌, IsTrue, MatchOption, IfSome, None};
+ghost use Rattle.std.specs.Prelude.{◌≡◌, codes, ◌↔◌, IsTrue, MatchOption};
 ghost use Rattle.dom_text.specs.Numbers.{number_spelled};
-ghost use Rattle.script_runner.specs.Words.{AskFor, IsTaken, seed_of};
+ghost use Rattle.script_runner.specs.Words.{AskFor, IsTaken, turns_of};
 
 use dom_text::decimal;
 
-/// Where a script comes from.
+/// What the words ask for; a number of turns stands there if they say one.
 #[derive(Clone, Copy, Debug, PartialEq, Eq)]
-pub(crate) enum Origin {
-    /// It is read from the source.
-    Read,
-    /// It is the one that is generated from this seed.
-    Generated(u64),
+pub(crate) enum Asked {
+    /// A run of the script that the source has.
+    Reads { turns: Option<u64> },
+    /// A run of the script that is generated from this seed.
+    Generates { seed: u64, turns: Option<u64> },
 }
 
-/// What the words ask for: a script, and the number of its turns if one is given.
-#[derive(Clone, Copy, Debug, PartialEq, Eq)]
-pub(crate) struct Asked {
-    pub(crate) origin: Origin,
-    pub(crate) turns: Option<u64>,
+impl Asked {
+    /// The number of the turns, if the words say one.
+    pub(crate) fn turns(self) -> Option<u64>
+        ensures { result ≡ turns_of self }
+    {
+        match self {
+            Asked::Reads { turns } | Asked::Generates { turns, .. } => turns,
+        }
+    }
 }
 
 fn is_run(word: &str) -> bool
@@ -48,42 +52,31 @@ fn number(word: &str) -> Option<u64>
 
 /// What the words ask for; None where they are not taken.
 pub(crate) fn words_asked(words: &[String]) -> Option<Asked>
-    ensures { MatchOption result
-        (IsTaken (map string_bytes words.now) → ⊥)
-        (λ asked. AskFor (map string_bytes words.now) asked.origin (seed_of asked.turns)) }
+    ensures { MatchOption result (IsTaken words.now → ⊥) (AskFor words.now) }
 {
     match words {
-        [run] if is_run(run.as_str()) => Some(Asked {
-            origin: Origin::Read,
-            turns: None,
-        }),
+        [run] if is_run(run.as_str()) => Some(Asked::Reads { turns: None }),
         [run, option, turns] if is_run(run.as_str()) && is_turns(option.as_str()) => {
             let turns = number(turns.as_str())?;
-            Some(Asked {
-                origin: Origin::Read,
-                turns: Some(turns),
-            })
+            Some(Asked::Reads { turns: Some(turns) })
         }
         [word, seed] if is_gen(word.as_str()) => {
             let seed = number(seed.as_str())?;
-            Some(Asked {
-                origin: Origin::Generated(seed),
-                turns: None,
-            })
+            Some(Asked::Generates { seed, turns: None })
         }
         [word, seed, option, turns] if is_gen(word.as_str()) && is_turns(option.as_str()) => {
             let seed = number(seed.as_str())?;
             let turns = number(turns.as_str())?;
-            Some(Asked {
-                origin: Origin::Generated(seed),
+            Some(Asked::Generates {
+                seed,
                 turns: Some(turns),
             })
         }
         [word, option, turns, seed] if is_gen(word.as_str()) && is_turns(option.as_str()) => {
             let seed = number(seed.as_str())?;
             let turns = number(turns.as_str())?;
-            Some(Asked {
-                origin: Origin::Generated(seed),
+            Some(Asked::Generates {
+                seed,
                 turns: Some(turns),
             })
         }

@@ -78,3 +78,12 @@ carries-after fate (Posting.Mark phase tick ∷ xs) =
     let l = wire_after fate xs in
     subst (CarriesFrames (parcels_of xs)) (sym (link-mark phase tick l))
     (mark-carried phase (parcel.Mark tick) (parcels_of xs) (link_in l) (carries-after fate xs))
+
+-- fates that say the same make the same wire
+pub wire-alike : (f g : ℕ → Fate) → ((index : ℕ) → f index ≡ g index) → (xs : List Posting) → wire_after f xs ≡ wire_after g xs
+wire-alike f g alike [] = refl
+wire-alike f g alike (Posting.Frame m ∷ xs) =
+    let l = wire_after f xs in
+    ap (λ (fate : Fate). frame_sent fate m l) (alike (l.frames + 1))
+    ∙ ap (λ (w : Wired). frame_sent (g (w.frames + 1)) m w) (wire-alike f g alike xs)
+wire-alike f g alike (Posting.Mark phase tick ∷ xs) = ap (mark_sent phase tick) (wire-alike f g alike xs)

@@ -1,6 +1,5 @@
 -- A link on which this was sent has its entries.
-use Rattle.std.proofs.Common.{◌≡◌, ℕ, ◌+◌, ◌<◌, ◌≤◌, List, [], ◌∷◌, ◌++◌, refl, ◌∙◌, arith}
-use Rattle.std.specs.Prelude.{◌==◌}
+use Rattle.std.proofs.Common.{ℕ, List, [], ◌∷◌, refl, arith}
 use Rattle.dom_history.specs.declared.plan.Fate.{Fate}
 use Rattle.world_runs.specs.Sendings.{Sending}
 use Rattle.world_runs.specs.Links.{empty_link, link_after}

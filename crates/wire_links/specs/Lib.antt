@@ -1,3 +1,4 @@
+pub mod Rows
 pub mod Carrying
 pub mod Wires
 pub mod Sample

@@ -2,12 +2,12 @@
 #![tactic(auto)]
 
 pub mod carried;
+pub mod fates;
 pub mod laws;
 pub mod spelled;
-#[cfg(test)]
-mod tests;
 pub mod wire;
 
 pub use carried::{Carried, Parcel};
+pub use fates::LinkFates;
 pub use spelled::{Spelled, Tick};
-pub use wire::{WireIn, WireOut, pair};
+pub use wire::{RING_ROOM, WireIn, WireOut, pair, pair_with_room};

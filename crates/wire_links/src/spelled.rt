@@ -72,6 +72,13 @@ impl Spelled {
         })
     }
 
+    /// The bytes. Takes no memory.
+    pub fn bytes(&self) -> &[u8]
+        ensures { result.now ≡ self.now }
+    {
+        self.bytes.bytes()
+    }
+
     /// The frame that has these bytes: there is just one.
     #[tactic(auto, using(crate::proofs::Spelling::spelt_tick))]
     pub fn frame(&self, alloc: Global) -> Result<Frame, NoMemory>

@@ -1,15 +1,15 @@
 //! The two ends of a link.
-ghost use Rattle.std.specs.Prelude.{◌≡◌, ◌≢◌, ◌+◌, ◌<◌, ◌≤◌, ◌^◌, ◌++◌, ◌∷◌, ◌↔◌, [], ℕ, length, OnOk, OnErr, IfOk, IfSome, IfNone, IsSome, Some, None, Option, IsTrue, true, false, map};
-ghost use Rattle.dom_history.specs.Plans.{fate_of};
+ghost use Rattle.std.specs.Prelude.{◌≡◌, ◌≢◌, ◌+◌, ◌<◌, ◌≤◌, ◌^◌, ◌++◌, ◌∷◌, ◌↔◌, [], length, OnOk, IfOk, IfSome, IfNone, IsSome, IsTrue, map};
+ghost use mathlib.Core.List.{IsPrefix};
 ghost use Rattle.ring_messages.specs.Spelling.{spelling};
-ghost use Rattle.ring_messages.specs.Bodies.{is_request};
 ghost use Rattle.ring_links.specs.Carried as links;
 ghost use Rattle.wire_links.specs.declared.carried.Parcel.TheVariants as parcel;
 ghost use Rattle.wire_links.specs.declared.carried.Carried.TheVariants as carried;
-ghost use Rattle.wire_links.specs.Carrying.{empty_wire, frame_sent, mark_sent, told_in_place, told_at_once};
-ghost use Rattle.wire_links.specs.Wires.{wire_of, pushed, outbox, undrained, free, from_of, to_of, plan_of, taken, known, AreEnds, SameOut, SameIn};
+ghost use Rattle.wire_links.specs.Carrying.{frame_sent, mark_sent, told_in_place, told_at_once};
+ghost use Rattle.wire_links.specs.Wires.{wire_of, pushed, outbox, undrained, free, from_of, to_of, next_fate, taken, known, AreEnds, AreUnused, IsOfLink, SameOut, SameIn, OutStays};
 
 use crate::carried::{Carried, Parcel};
+use crate::fates::LinkFates;
 use crate::spelled::{Spelled, Tick};
 use dom_history::{Fate, FaultPlan};
 use ring_links::{Link, is_gone};
@@ -25,9 +25,7 @@ pub const RING_ROOM: usize = 256;
 /// The end from which a link leads.
 #[derive(Drop)]
 pub struct WireOut {
-    from: NodeId,
-    to: NodeId,
-    fates: FaultPlan,
+    fates: LinkFates,
     link: Link<Parcel>,
     outbox: VecDeque<Carried>,
     producer: Producer<Carried>,
@@ -39,22 +37,39 @@ pub struct WireIn {
     consumer: Consumer<Carried>,
 }
 
-/// The two ends of a link on which nothing was sent.
+/// The two ends of a link on which nothing was sent, over a ring that has room for [`RING_ROOM`] entries.
 pub fn pair(
     alloc: Global,
     from: NodeId,
     to: NodeId,
-    fates: FaultPlan,
+    plan: &FaultPlan,
 ) -> Result<(WireOut, WireIn), NoMemory>
     requires { from ≢ to }
     ensures ends { IfOk result (λ r. AreEnds r.0 r.1) }
-    ensures empty { IfOk result (λ r. (wire_of r.0 ≡ empty_wire) × (undrained r.0 ≡ []) × (pushed r.0 ≡ []) × (taken r.1 ≡ [])) }
-    ensures link { IfOk result (λ r. (from_of r.0 ≡ from) × (to_of r.0 ≡ to) × (plan_of r.0 ≡ fates)) }
+    ensures empty { IfOk result (λ r. AreUnused r.0 r.1) }
+    ensures link { IfOk result (λ r. IsOfLink plan.now from to r.0) }
+    ensures room { IfOk result (λ r. free r.0 ≡ RING_ROOM) }
 {
-    let (producer, consumer) = RingBuffer::new(alloc, RING_ROOM)?;
+    pair_with_room(alloc, from, to, plan, RING_ROOM)
+}
+
+/// The same over a ring that has room for so many entries.
+pub fn pair_with_room(
+    alloc: Global,
+    from: NodeId,
+    to: NodeId,
+    plan: &FaultPlan,
+    room: usize,
+) -> Result<(WireOut, WireIn), NoMemory>
+    requires { from ≢ to }
+    ensures ends { IfOk result (λ r. AreEnds r.0 r.1) }
+    ensures empty { IfOk result (λ r. AreUnused r.0 r.1) }
+    ensures link { IfOk result (λ r. IsOfLink plan.now from to r.0) }
+    ensures room { IfOk result (λ r. free r.0 ≡ room) }
+{
+    let fates = LinkFates::of(alloc, plan, from, to)?;
+    let (producer, consumer) = RingBuffer::new(alloc, room)?;
     let out = WireOut {
-        from,
-        to,
         fates,
         link: Link::new(alloc),
         outbox: VecDeque::new(alloc),
@@ -73,28 +88,35 @@ fn put(alloc: Global, link: &mut Link<Parcel>, fate: Fate, frame: &Frame) -> Res
 }
 
 impl WireOut {
-    /// A frame is sent, by its fate; its number, just where it is a request that is lost or late.
+    /// How many frames were sent. Takes no memory.
+    pub fn frames(&self) -> u64
+        ensures { result ≡ (wire_of self.now).frames }
+    {
+        self.link.frames()
+    }
+
+    /// A frame is sent, by its fate; its number, just where it is a request that is lost or late. Nothing is pushed.
     pub fn send(&mut self, alloc: Global, frame: &Frame) -> Result<Option<u64>, NoMemory>
         requires link { (frame.now.from ≡ from_of self.old) × (frame.now.to ≡ to_of self.old) }
         requires few { (wire_of self.old).frames < 2 ^ 63 }
         requires tick { frame.now.tick < 2 ^ 40 }
-        ensures sent { OnOk result (wire_of self.new ≡ frame_sent (fate_of (plan_of self.old) (from_of self.old) (to_of self.old) ((wire_of self.old).frames + 1)) frame.now (wire_of self.old)) }
-        ensures told { IfOk result (λ told. told ≡ told_at_once (fate_of (plan_of self.old) (from_of self.old) (to_of self.old) ((wire_of self.old).frames + 1)) frame.now ((wire_of self.old).frames + 1)) }
+        ensures sent { OnOk result (wire_of self.new ≡ frame_sent (next_fate self.old) frame.now (wire_of self.old)) }
+        ensures told { IfOk result (λ told. told ≡ told_at_once (next_fate self.old) frame.now ((wire_of self.old).frames + 1)) }
         ensures drained { OnOk result (undrained self.new ≡ []) }
         ensures pushed { pushed self.new ≡ pushed self.old }
         ensures same { SameOut self.old self.new }
     {
         self.drain()?;
         let index = self.link.frames() + 1;
-        let fate = self.fates.fate(self.from, self.to, index);
+        let fate = self.fates.fate(index);
         let told = self.tell(fate, frame, index)?;
         put(alloc, &mut self.link, fate, frame)?;
         self.drain()?;
         Ok(told)
     }
 
-    /// The mark of a phase is sent.
-    pub fn send_mark(&mut self, alloc: Global, phase: u32, tick: u64) -> Result<(), NoMemory>
+    /// The mark of a phase is sent. Nothing is pushed.
+    pub fn send_mark(&mut self, phase: u32, tick: u64) -> Result<(), NoMemory>
         requires tick { tick < 2 ^ 40 }
         ensures sent { OnOk result (wire_of self.new ≡ mark_sent phase tick (wire_of self.old)) }
         ensures drained { OnOk result (undrained self.new ≡ []) }
@@ -106,11 +128,12 @@ impl WireOut {
         self.drain()
     }
 
-    /// Pushes while the ring takes; true where nothing is left. Takes no memory.
+    /// Pushes while the ring takes; true where nothing is left, and else the ring is full. Takes no memory.
     pub fn flush(&mut self) -> bool
-        ensures link { wire_of self.new ≡ wire_of self.old }
+        ensures wire { wire_of self.new ≡ wire_of self.old }
         ensures drained { undrained self.new ≡ undrained self.old }
         ensures value { IsTrue result ↔ (outbox self.new ≡ []) }
+        ensures full { outbox self.new ≢ [] → free self.new ≡ 0 }
         ensures room { length (outbox self.old) ≤ free self.old → IsTrue result }
         ensures same { SameOut self.old self.new }
     {
@@ -130,7 +153,7 @@ impl WireOut {
         requires tick { frame.now.tick < 2 ^ 40 }
         ensures put { OnOk result (outbox self.new ≡ outbox self.old ++ told_in_place fate frame.now index) }
         ensures told { IfOk result (λ told. told ≡ told_at_once fate frame.now index) }
-        ensures others { (self.new.producer ≡ self.old.producer) × (self.new.link ≡ self.old.link) × (self.new.from ≡ self.old.from) × (self.new.to ≡ self.old.to) × (self.new.fates ≡ self.old.fates) }
+        ensures others { (self.new.producer ≡ self.old.producer) × (self.new.link ≡ self.old.link) × (self.new.fates ≡ self.old.fates) }
     {
         if !is_gone(fate) {
             return Ok(None);
@@ -153,7 +176,7 @@ impl WireOut {
     fn drain(&mut self) -> Result<(), NoMemory>
         ensures wire { OnOk result (wire_of self.new ≡ wire_of self.old) }
         ensures all { OnOk result (undrained self.new ≡ []) }
-        ensures others { (self.new.producer ≡ self.old.producer) × (self.new.from ≡ self.old.from) × (self.new.to ≡ self.old.to) × (self.new.fates ≡ self.old.fates) }
+        ensures others { (self.new.producer ≡ self.old.producer) × (self.new.fates ≡ self.old.fates) }
     {
         loop {
             self.outbox.reserve(1)?;
@@ -166,10 +189,12 @@ impl WireOut {
 }
 
 impl WireIn {
-    /// The oldest entry that was pushed and not taken. Never None where one is known to wait. Takes no memory.
+    /// The oldest entry that was pushed and not taken: of those that are known to wait the first. Never None where one is
+    /// known. Takes no memory.
     pub fn take(&mut self) -> Option<Carried>
         ensures some { IfSome result (λ x. taken self.new ≡ taken self.old ++ x ∷ []) }
         ensures none { IfNone result (taken self.new ≡ taken self.old) }
+        ensures first { IfSome result (λ x. IsPrefix (known self.old) (x ∷ known self.new)) }
         ensures never { 0 < length (known self.old) → IsSome result }
         ensures nothing { IfNone result (known self.new ≡ []) }
         ensures same { SameIn self.old self.new }
@@ -177,14 +202,16 @@ impl WireIn {
         self.consumer.pop().ok()
     }
 
-    /// How many entries were pushed and not taken, with both ends of one link in one hand; they are known from then on. Takes no memory.
+    /// How many entries were pushed and not taken, with both ends of one link in one hand; they are known from then on. What
+    /// was taken is a first part of what was put. Takes no memory.
     pub fn beside(&mut self, out: &mut WireOut) -> u64
         requires { AreEnds out.old self.old }
         ensures fifo { taken self.new ++ known self.new ≡ pushed out.new }
         ensures prefix { (wire_of out.new).put ≡ taken self.new ++ (known self.new ++ (outbox out.new ++ map carried.Put (undrained out.new))) }
         ensures count { result ≡ length (known self.new) }
-        ensures in_same { (taken self.new ≡ taken self.old) × SameIn self.old self.new }
-        ensures out_same { (wire_of out.new ≡ wire_of out.old) × (undrained out.new ≡ undrained out.old) × (pushed out.new ≡ pushed out.old) × SameOut out.old out.new }
+        ensures taken { taken self.new ≡ taken self.old }
+        ensures same { SameIn self.old self.new }
+        ensures out { OutStays out.old out.new }
     {
         self.consumer.slots_beside(&mut out.producer) as u64
     }

@@ -1,3 +1,4 @@
+pub mod Counted
 pub mod Comings
 pub mod OnOks
 pub mod Found

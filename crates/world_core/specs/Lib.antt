@@ -1,3 +1,4 @@
+pub mod Accounts
 pub mod Stations
 pub mod OldestEntries
 pub mod Listed

@@ -2,6 +2,8 @@
 //! after the other.
 #![tactic(auto)]
 
+pub mod account_row;
+pub mod accounting;
 mod coming;
 pub mod laws;
 mod notices;
@@ -10,4 +12,6 @@ mod sending;
 mod station;
 pub mod world;
 
+pub use account_row::Account;
+pub use accounting::account;
 pub use world::World;

@@ -5,8 +5,9 @@ use Rattle.journal_text.specs.Lines.{Names, journal}
 use Rattle.script_runs.specs.Reports.{names_of}
 use Rattle.script_runs.specs.Histories.{script_history}
 use Rattle.aegis_shell.proofs.Parts.{node_names}
-use Rattle.script_runner.specs.Reports.{answers_in}
-use Rattle.script_runner.specs.DueTexts.{told_of}
+use Rattle.script_runs.specs.Runs.{last_tick}
+use Rattle.script_runner.specs.Reports.{RunOf, answers_in}
+use Rattle.script_runner.specs.DueTexts.{told_for}
 use Rattle.script_runner.proofs.Due.{told_is}
 use Rattle.script_runner.proofs.domain.run_due.Goals as goal
 
@@ -22,7 +23,7 @@ new-requires c =
 pub returns-clause-due : goal.returns-clause-due
 returns-clause-due c = λ left source.
     let s = c.args.script.now in
-    let run = c.in-Ok.ensures.ran in
+    let run = subst (λ turns. RunOf c.args.script.now turns last_tick (record { events = c.in-Ok.ran.events.events; answers = c.in-Ok.ran.answers })) c.turns.ensures c.in-Ok.ensures.ran in
     let names : c.in_ok-names.names ≡ names_of s = c.in_ok-names.ensures ∙ ap (λ rows. map (λ n. n.name) rows) c.nodes.ensures.value in
     let rows = ap (map answers_in) c.items.ensures ∙ run.answered in
     record {
@@ -31,7 +32,7 @@ returns-clause-due c = λ left source.
       ran = record { events = c.in-Ok.ran.events.events; answers = c.in-Ok.ran.answers };
       run = run;
       told = c.in_ok-text.ensures
-          ∙ (ap (λ names. told_of c.args.origin names (map answers_in c.items.result.now)) names
-          ∙ (ap (told_of c.args.origin (names_of s)) rows ∙ told_is c.args.origin s (script_history s run.events)));
+          ∙ (ap (λ names. told_for c.args.asked names (map answers_in c.items.result.now)) names
+          ∙ (ap (told_for c.args.asked (names_of s)) rows ∙ told_is c.args.asked s (script_history s run.events)));
       written = c.new.ensures ∙ (ap (λ names. journal names c.in-Ok.ran.events.events) names ∙ ap (journal (names_of s)) run.by_place);
     }

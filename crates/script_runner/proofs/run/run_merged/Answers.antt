@@ -1,10 +1,9 @@
-use Rattle.std.proofs.Common.{◌≡◌, ◌∙◌, ap, sym, subst}
-use Rattle.std.specs.Prelude.{All, IsSome, map}
+use Rattle.std.proofs.Common.{◌≡◌, ◌∙◌, refl, ap, sym, subst}
+use Rattle.std.specs.Prelude.{All, IsSome, map, unwrap_or}
 use Rattle.uid_names.specs.Openings.{IsStart}
 use Rattle.world_core.specs.Ended.{named}
 use Rattle.script_runs.specs.Processes.{processes_of}
 use Rattle.script_runner.specs.Answered.{row_in}
-use Rattle.script_runner.specs.Reports.{RunOf}
 use Rattle.script_runner.proofs.RanNodes.{shells_there, ran_is, names_are}
 use Rattle.script_runner.proofs.run.run_merged.Goals as goal
 
@@ -13,12 +12,12 @@ answers-requires c =
     let s = c.args.script.now in
     let procs : c.as_slice-2.result.now ≡ processes_of c.args.script.now.commands = c.as_slice-2.ensures.value ∙ (c.in_ok-procs.ensures ∙ ap processes_of c.commands.ensures.value) in
     subst (λ shells. All (λ p. IsSome (named shells p)) c.as_slice-2.result.now) (sym c.as_slice.ensures.value)
-    (shells_there s c.commands.ensures.content c.unwrap_or.result c.args.last_tick c.in_ok-events.events.events c.in_ok-events.shells.items c.in_ok-events.ensures.run c.as_slice-2.result.now procs)
+    (shells_there s c.commands.ensures.content (unwrap_or c.args.turns 0) c.args.last_tick c.in_ok-events.events.events c.in_ok-events.shells.items c.in_ok-events.ensures.run c.as_slice-2.result.now procs)
 
 pub returns-clause-named : goal.returns-clause-named
 returns-clause-named c =
     let s = c.args.script.now in
-    names_are s c.commands.ensures.content (subst IsStart c.opening.ensures.value c.nodes-start.ensures.start) c.unwrap_or.result c.args.last_tick c.requires.few
+    names_are s c.commands.ensures.content (subst IsStart c.opening.ensures.value c.nodes-start.ensures.start) (unwrap_or c.args.turns 0) c.args.last_tick c.requires.few
     c.in_ok-events.events.events c.in_ok-events.shells.items c.in_ok-events.ensures.run
     c.a_seed_picks_one_run_of_a_script.ensures.ended c.ended_runs_of_scripts_name_their_nodes.ensures
 
@@ -26,9 +25,8 @@ pub returns-clause-ran : goal.returns-clause-ran
 returns-clause-ran c =
     let s = c.args.script.now in
     let procs : c.as_slice-2.result.now ≡ processes_of c.args.script.now.commands = c.as_slice-2.ensures.value ∙ (c.in_ok-procs.ensures ∙ ap processes_of c.commands.ensures.value) in
-    subst (λ seed. RunOf c.args.script.now seed c.args.last_tick (record { events = c.in_ok-events.events.events; answers = c.in_ok-answers.answers })) c.unwrap_or.ensures
-    (ran_is s c.commands.ensures.content (subst IsStart c.opening.ensures.value c.nodes-start.ensures.start) c.unwrap_or.result c.args.last_tick c.requires.few
+    ran_is s c.commands.ensures.content (subst IsStart c.opening.ensures.value c.nodes-start.ensures.start) (unwrap_or c.args.turns 0) c.args.last_tick c.requires.few
     c.in_ok-events.events.events c.in_ok-events.shells.items c.in_ok-events.ensures.run c.a_seed_picks_one_run_of_a_script.ensures.ended
-    c.ended_runs_of_scripts_are_as_one_store.ensures c.answers_are_functions_of_histories.ensures.picked (c.shells_go_by_all_they_heard.ensures.answers s)
+    c.args.turns refl c.a_seed_picks_one_run_of_a_script.ensures.not_both c.ended_runs_of_scripts_are_as_one_store.ensures c.answers_are_functions_of_histories.ensures.picked (c.shells_go_by_all_they_heard.ensures.answers s)
     c.as_slice-2.result.now procs c.in_ok-answers.answers
-    (c.in_ok-answers.ensures ∙ ap (λ shells. map (row_in shells) c.as_slice-2.result.now) c.as_slice.ensures.value))
+    (c.in_ok-answers.ensures ∙ ap (λ shells. map (row_in shells) c.as_slice-2.result.now) c.as_slice.ensures.value)

@@ -1,4 +1,4 @@
-use Rattle.std.proofs.Common.{◌≡◌, ◌∙◌}
+use Rattle.std.proofs.Common.{◌∙◌}
 use Rattle.script_runner.proofs.run.run_script.Goals as goal
 
 pub returns-clause-ran : goal.returns-clause-ran
@@ -9,6 +9,7 @@ returns-clause-ran c =
       world = ran.world;
       run = ran.run;
       picked = ran.picked;
+      below = ran.below;
       one_store = ran.one_store;
       recent = ran.recent;
       by_place = c.in_ok-to_list.ensures ∙ ran.by_place;
