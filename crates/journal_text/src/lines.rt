@@ -96,6 +96,7 @@ impl<'a> JournalLines<'a> {
         ensures ok { OnOk result (J.held journal.new ≡ append_known (J.held journal.old) self.entry) }
         ensures fault { OnErr result (CountRose (J.faults journal.old) (J.faults journal.new)) }
         ensures prefix { OnErr result (AppendsPrefix (J.held journal.old) (J.held journal.new) self.entry) }
+        ensures count { J.faults journal.old ≤ J.faults journal.new }
     {
         let JournalLines {
             mut left,

@@ -87,6 +87,7 @@ pub record WritesRun {O J : Type 0} (out : Stream O) (journal : Stream J) (text 
   pub journal_fault : status ≡ 6 → Fails journal
   pub lines_cut : status ≡ 6 → AddsPart journal lines
   pub out_count : NeverFalls out
+  pub journal_count : NeverFalls journal
 
 module _ {S O J : Type 0} (script : Stream S) (out : Stream O) (journal : Stream J) where
   -- what each status says of what is outside
@@ -101,6 +102,7 @@ module _ {S O J : Type 0} (script : Stream S) (out : Stream O) (journal : Stream
     taken = taken;
     script_count = count;
     out_count = writes.out_count;
+    journal_count = writes.journal_count;
   }
     where
       silent : (status ≡ 4) ⊎ ((status ≡ 7) ⊎ (status ≡ 8)) → IsSame out
@@ -125,6 +127,7 @@ module _ {S O J : Type 0} (script : Stream S) (out : Stream O) (journal : Stream
     taken = taken;
     script_count = count;
     out_count = out_count;
+    journal_count = never_falls journal same;
   }
     where
       silent : (result ≡ 4) ⊎ ((result ≡ 7) ⊎ (result ≡ 8)) → IsSame out
@@ -143,6 +146,7 @@ module _ {S O J : Type 0} (script : Stream S) (out : Stream O) (journal : Stream
     taken = taken;
     script_count = count;
     out_count = never_falls out same_out;
+    journal_count = never_falls journal same_journal;
   }
 
   -- a run was due

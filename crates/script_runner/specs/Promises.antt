@@ -28,6 +28,7 @@ pub record IsStatusOf {S O J : Type 0} (script : Stream S) (out : Stream O) (jou
   pub taken : TakesAtMost (SCRIPT_BYTES + 1) (script.tells script.old) (script.tells script.new)
   pub script_count : NeverFalls script
   pub out_count : NeverFalls out
+  pub journal_count : NeverFalls journal
 
 -- words that are not taken: the usage is written, and nothing is read
 pub record RefusesWords {S O : Type 0} (script : Stream S) (out : Stream O) (status : ℕ) : Type 0 where

@@ -184,6 +184,7 @@ fn write_run<O: Sink, J: Sink>(
     ensures journal_fault { result ≡ 6 → Fails (over J.held J.faults journal.old journal.new) }
     ensures lines_cut { result ≡ 6 → AddsPart (over J.held J.faults journal.old journal.new) run.now }
     ensures out_count { O.faults out.old ≤ O.faults out.new }
+    ensures journal_count { J.faults journal.old ≤ J.faults journal.new }
 {
     let Ok(lines) = run.lines(alloc) else {
         return 7;

@@ -21,6 +21,7 @@ returns-in-Ok-Run g c =
       journal_fault = c.write_run.ensures.journal_fault;
       lines_cut = c.write_run.ensures.lines_cut;
       out_count = c.write_run.ensures.out_count;
+      journal_count = c.write_run.ensures.journal_count;
     } in
     record {
       statuses = run_statuses script out journal c.bytes.result.now c.in-Ok-Run.lines c.write_run.result writes c.in-Ok-Run.ensures.taken c.in-Ok-Run.ensures.count;
