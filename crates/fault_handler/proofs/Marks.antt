@@ -5,13 +5,12 @@ use Rattle.std.specs.List.{All, find, list_any}
 use Rattle.std.specs.Option.{option_map, option_or}
 use Rattle.std.proofs.lemmas.Bool.{cases_eq}
 use Rattle.std.proofs.lemmas.Bool.Decides.{nat_tests}
-use Rattle.std.proofs.lemmas.List.{reverse-append}
-use Rattle.std.proofs.lemmas.List.Elements.{All-nil, All-cons, All-head, All-tail, All-push, All-map, All-filter, All-weaker}
+use Rattle.std.proofs.lemmas.List.Elements.{All-nil, All-cons, All-head, All-tail, All-map, All-filter, All-weaker}
 use Rattle.uid_names.specs.Names.{ObjectName}
 use Rattle.page_cache.specs.Caches.{Resident, is_of, is_page, page_at}
 use Rattle.page_cache.specs.Changes.{without_page, without_object, with_front, used, changed_if}
 use Rattle.page_cache.specs.Victims.{is_clean_choice, is_dirty_choice, oldest, victim_of, name_of}
-use Rattle.uid_names.proofs.ListLemmas.{by_cases, find-map}
+use Rattle.uid_names.proofs.ListLemmas.{All-reverse, by_cases, find-map}
 use Rattle.fault_handler.specs.declared.transits.Transit.{Transit}
 use Rattle.fault_handler.specs.Transits.{is_moving, coming, going}
 use Rattle.fault_handler.specs.ShownPages.{fresh_page, changed_page}
@@ -153,11 +152,6 @@ module _ (moving : List (Option Transit)) (pages : List Resident) (marked : AreM
         All-cons (IsMarkedBy (put_at moving p None)) (record (fresh_page u k bytes) { frame = frame }) pages
         (sym (there-left moving p u k four is apart (ap (is_moving u k) comes ∙ own-moves true (fresh_page u k bytes) (grind (arith, nat_tests)))))
         (marked-lost none comes)
-
--- in the other order
-All-reverse : (P : Resident → Type 0) (pages : List Resident) → All P pages → All P (reverse pages)
-All-reverse P [] all = all
-All-reverse P (x ∷ rest) all = subst (All P) (sym (reverse-append (x ∷ []) rest)) (All-push P (reverse rest) x (All-reverse P rest (All-tail P x rest all)) (All-head P x rest all))
 
 -- two tests that say the same of each find the same
 find-alike : (p q : Resident → Bool) (pages : List Resident) → All (λ r. p r ≡ q r) pages → find p pages ≡ find q pages

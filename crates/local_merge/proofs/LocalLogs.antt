@@ -2,8 +2,9 @@
 use Rattle.std.proofs.Common.{◌≡◌, ℕ, true, List, [], ◌∷◌, get_or, reverse, sym, ap, subst}
 use Rattle.std.specs.Prelude.{All}
 use Rattle.std.specs.List.{AllByRecursion}
-use Rattle.std.proofs.lemmas.List.{reverse-append, reverse-reverse}
-use Rattle.std.proofs.lemmas.List.Elements.{All-from_recursion, All-head, All-tail, All-push}
+use Rattle.std.proofs.lemmas.List.{reverse-reverse}
+use Rattle.std.proofs.lemmas.List.Elements.{All-from_recursion}
+use Rattle.uid_names.proofs.ListLemmas.{All-reverse}
 use Rattle.uid_names.specs.declared.ids.Place.{Place}
 use Rattle.dom_history.specs.Events.{Happening}
 use Rattle.dom_history.specs.declared.event.NodeLog.{NodeLog}
@@ -15,11 +16,6 @@ use Rattle.local_runs.specs.LocalRuns.{Own, events_in, IsLocalRun, AreLocalRuns}
 use Rattle.local_runs.proofs.Alone.{last-of}
 use Rattle.local_merge.specs.Logs.{AreLogsOf}
 use Rattle.local_merge.specs.Merges.{AreApart}
-
--- what holds of each holds of each from the last one on
-all-turned : {A : Type 0} (P : A → Type 0) (xs : List A) → All P xs → All P (reverse xs)
-all-turned P [] all = all
-all-turned P (x ∷ xs) all = subst (All P) (sym (reverse-append (x ∷ []) xs)) (All-push P (reverse xs) x (all-turned P xs (All-tail P x xs all)) (All-head P x xs all))
 
 own-node : (n : ℕ) (own : List Own) → AllByRecursion (λ x. x.event.place.node ≡ n) own → AllByRecursion (λ (e : Happening). e.place.node ≡ n) (events_in own)
 own-node n [] all = tt
@@ -38,7 +34,7 @@ own-rising s n (x ∷ older) w is =
 own-log : (s : Setup) (own : List Own) (w : World) (log : NodeLog) → IsLocalRun s log.node own w → log.events ≡ reverse (events_in own) → IsLog log
 own-log s own w log is same = record {
   own = subst (All (λ (e : Happening). e.place.node ≡ log.node)) (sym same)
-      (all-turned (λ (e : Happening). e.place.node ≡ log.node) (events_in own) (All-from_recursion (λ (e : Happening). e.place.node ≡ log.node) (events_in own) (own-node log.node own is.node)));
+      (All-reverse (λ (e : Happening). e.place.node ≡ log.node) (events_in own) (All-from_recursion (λ (e : Happening). e.place.node ≡ log.node) (events_in own) (own-node log.node own is.node)));
   rising = subst (λ (es : List Happening). AreRising (reverse es)) (sym same) (subst AreRising (sym (reverse-reverse (events_in own))) (own-rising s log.node own w is));
 }
 

@@ -1,5 +1,5 @@
-//! Records of directories by words: `f` is the record of a file `f`, `-` a free one; `f@1=0` has the byte 0 at 1, `f*3`
-//! is three of them, and `f/1` the first byte of one.
+//! Records of directories by words: `f` is the record of a file `f`, `-` a free one; `f@1=0` has the byte 0 at 1, and
+//! `f@1=0@2=0` another one at 2; `f*3` is three of them, and `f/1` the first byte of one.
 use anyhow::{Context, Result, bail};
 use dir_records::{DirFault, DirRows, read_dir, write_row};
 use dom_text::{cut, decimal};
@@ -24,21 +24,35 @@ fn split_number(word: &[u8], byte: u8, or: u64) -> Result<(&[u8], u64)> {
     }
 }
 
-/// A record by its name or `-`, with one byte changed or not.
-fn changed(word: &[u8]) -> Result<[u8; 64]> {
-    let (name, change) = match cut(word, b'@') {
-        Some((name, change)) => (name, Some(change)),
-        None => (word, None),
-    };
-    let mut bytes = match name {
-        [b'-'] => [0; 64],
-        [letter] => row(*letter),
+/// A record by its name or `-`.
+fn record_of(name: &[u8]) -> Result<[u8; 64]> {
+    match name {
+        [b'-'] => Ok([0; 64]),
+        [letter] => Ok(row(*letter)),
         _ => bail!("no record"),
+    }
+}
+
+/// Changes the byte of a record that `AT=BYTE` says.
+fn change(bytes: &mut [u8; 64], words: &[u8]) -> Result<()> {
+    let (at, byte) = cut(words, b'=').context("no change")?;
+    let at = usize::try_from(decimal(at)?)?;
+    *bytes.get_mut(at).context("no such byte")? = u8::try_from(decimal(byte)?)?;
+    Ok(())
+}
+
+/// A record by its name or `-`, with no byte, one or two changed.
+fn changed(word: &[u8]) -> Result<[u8; 64]> {
+    let Some((name, changes)) = cut(word, b'@') else {
+        return record_of(word);
     };
-    if let Some(change) = change {
-        let (at, byte) = cut(change, b'=').context("no change")?;
-        let at = usize::try_from(decimal(at)?)?;
-        *bytes.get_mut(at).context("no such byte")? = u8::try_from(decimal(byte)?)?;
+    let mut bytes = record_of(name)?;
+    match cut(changes, b'@') {
+        Some((one, other)) => {
+            change(&mut bytes, one)?;
+            change(&mut bytes, other)?;
+        }
+        None => change(&mut bytes, changes)?,
     }
     Ok(bytes)
 }

@@ -142,7 +142,7 @@ module _ {P G : Type 0} (spent : P → Bool) (wants : P → Want) where
       begins = record { homes = λ home. record { counters = tt; fits = omega arith } };
       frames = is_frames;
       programs = programs-are;
-      wants = λ p heard named. subst IsWant (sym (wanted p)) tt;
+      wants = λ p heard fits named. subst IsWant (sym (wanted p)) tt;
     }
 
     plain-is : plain ≡ given_of m
@@ -212,7 +212,7 @@ module _ {P G : Type 0} (spent : P → Bool) (wants : P → Want) where
         begins = subst (λ (x : Machine P G). CanBegin (given_of x).opening) (sym told.same) kept.given.begins;
         frames = subst (λ (x : Machine P G). IsFrames (given_of x).frames) (sym told.same) kept.given.frames;
         programs = subst ArePrograms (sym told.numbers) kept.given.programs;
-        wants = λ q heard named. told.wanted q;
+        wants = λ q heard fits named. told.wanted q;
       }
 
       -- it was asked

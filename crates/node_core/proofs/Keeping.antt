@@ -60,7 +60,7 @@ module _ {P G : Type 0} (spent : P → Bool) (wants : P → Want) (old : Machine
     within = record {
       four = sym (length-map old.procs proc_seen) ∙ kept.node.four;
       told = kept.told;
-      wanted = λ p. kept.given.wants p [] (All-nil (λ (told : Option Reply). IfSome told IsNamedReply));
+      wanted = λ p. kept.given.wants p [] tt (All-nil (λ (told : Option Reply). IfSome told IsNamedReply));
       earlier = let s = kept.served in omega arith;
       late = late;
       ticked = omega arith;
@@ -97,7 +97,7 @@ module _ {P G : Type 0} (spent : P → Bool) (wants : P → Want) (old : Machine
       begins = record { homes = kept.given.begins.homes };
       frames = subst IsFrames (sym same-frames) kept.given.frames;
       programs = subst ArePrograms (sym led.numbers) kept.given.programs;
-      wants = λ p heard named. led.wanted p;
+      wants = λ p heard fits named. led.wanted p;
     }
 
     pub kept-after : IsKept spent wants new

@@ -23,7 +23,8 @@ use Rattle.fault_handler.specs.Next.{IsOpen, IsRequest, MayGoOn}
 use Rattle.node_runs.specs.Setups.{Given}
 use Rattle.node_runs.specs.NodeStates.{Asked, BegunOp, OpenOp, ProcState, NodeState, first_proc, proc_of}
 use Rattle.node_runs.specs.Agreements.{IsCallOpen, IsCalling, IsOpenCall, Agrees}
-use Rattle.node_runs.specs.Following.{IsWanted, AreFitting, IsFollowed}
+use Rattle.node_runs.specs.Told.{AreFitting}
+use Rattle.node_runs.specs.Following.{IsWanted, IsFollowed}
 use Rattle.node_runs.specs.Dones.{asking, waiting}
 use Rattle.node_runs.specs.NodesKeep.{IsOwnDesk, IsNodeOf, IsCounted}
 use Rattle.node_runs.specs.Alikes.{AreAlikeProcs, AreAlike, forgetting, forgotten, HasHeardNothing, IsGivenAnew}

@@ -127,7 +127,7 @@ module _ (g : Given) (given_is : IsGiven g) (n : NodeState) (is : IsNodeOf g n) 
   event_of-happens (Begin p) Incoming.Nothing frame may =
       let proc = procs p (left-true (has_program g p) _ may) in
       let none = none-is (proc_of n p).doing (left-true (is_none (proc_of n p).doing) _ (right-true _ _ may)) in
-      (begins g n p (g.asks p (proc_of n p).heard), refl, begins-happens p proc (g.asks p (proc_of n p).heard) (agrees-as p proc None none) (given_is.wants p (proc_of n p).heard (is.followed p proc).named))
+      (begins g n p (g.asks p (proc_of n p).heard), refl, begins-happens p proc (g.asks p (proc_of n p).heard) (agrees-as p proc None none) (given_is.wants p (proc_of n p).heard (is.followed p proc).fitting (is.followed p proc).named))
   event_of-happens (Begin p) (Incoming.Frame m) frame may = absurd (cc)
   event_of-happens (Begin p) (Incoming.Gone number tick) frame may = absurd (cc)
   event_of-happens (Begin p) (Incoming.Mark tick) frame may = absurd (cc)

@@ -44,7 +44,8 @@ use Rattle.node_runs.specs.Rooms.{MayMove}
 use Rattle.node_runs.specs.Doings.{begun_at, stage_of, noticed_call, resends, others_marked, in_next_phase}
 use Rattle.node_runs.specs.Dones.{Did, asking, waiting, paused, finished, began, resumed, served, passed_over, heard, ignored, resent, gave_up, got_ready, marked}
 use Rattle.node_runs.specs.Agreements.{Agrees}
-use Rattle.node_runs.specs.Following.{IsWanted, AreFitting, IsFollowed}
+use Rattle.node_runs.specs.Told.{AreFitting}
+use Rattle.node_runs.specs.Following.{IsWanted, IsFollowed}
 use Rattle.node_runs.specs.SentFrames.{IsNamedBody, IsFrame, IsIncoming}
 use Rattle.node_runs.specs.NodesKeep.{IsOwnDesk, IsNodeOf}
 use Rattle.node_runs.proofs.MakingRoom.{always-may}
@@ -150,7 +151,7 @@ module _ (g : Given) (n : NodeState) (is : IsNodeOf g n) (late : 1 ≤ n.tick) (
 
   began-keeps : (op : Op) (to : Moved) → AreWants g → (proc_of n p).doing ≡ None → g.asks p (proc_of n p).heard ≡ Do op → MayMove p (begun g.opening n.desk p op) to → Keeps g (moved g n p (begun_at g n op) Stage.Starts to)
   began-keeps op to wants none want may =
-      let range : IsOp op = subst IsWant want (wants p (proc_of n p).heard (is.followed p proc).named) in
+      let range : IsOp op = subst IsWant want (wants p (proc_of n p).heard (is.followed p proc).fitting (is.followed p proc).named) in
       moved-keeps (begun_at g n op) Stage.Starts to range want (one-way p (IsMoved n.desk p op) (begun g.opening n.desk p op) to (begun-moved n.desk p is.desk proc g.opening op is.own.nodes (agrees-as None none) range) may)
 
   resumed-keeps : (o : BegunOp) (u : ObjectName) (k : ℕ) (accessed : Accessed) (to : Moved) → (proc_of n p).doing ≡ waiting o u k → gone_on n.desk p o.op ≡ Some accessed → MayMove p accessed to → Keeps g (moved g n p o Stage.Resumes to)

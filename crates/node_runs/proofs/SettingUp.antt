@@ -36,5 +36,5 @@ setup-gives s is n node =
       begins = is.begins;
       frames = is.frames (n - 1) 0 (grind (arith, nat_tests, a, c));
       programs = is.programs (n - 1) [] (grind (arith, nat_tests, b, c));
-      wants = λ p heard told. is.wants (record { node = n; number = p }) heard told;
+      wants = λ p. is.wants (record { node = n; number = p });
     }

@@ -1,3 +1,4 @@
+pub mod Told
 pub mod Setups
 pub mod NodeStates
 pub mod Operations
@@ -24,3 +25,4 @@ pub mod NodesKeep
 pub mod FirstRun
 pub mod SecondRun
 pub mod ThirdRun
+pub mod DoubtfulRun

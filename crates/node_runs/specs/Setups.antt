@@ -4,10 +4,10 @@ use Rattle.uid_names.specs.Names.{ProcName}
 use Rattle.uid_names.specs.Openings.{Start, IsStart}
 use Rattle.uid_names.specs.Beginnings.{CanBegin}
 use Rattle.dom_history.specs.declared.op.Want.{Want}
-use Rattle.dom_history.specs.Ranges.{IsWant, AreNamedReplies}
 use Rattle.dom_history.specs.Follows.{Heard}
 use Rattle.page_frames.specs.declared.frame.TheConstants.{FEWEST_FRAMES, MOST_FRAMES}
 use Rattle.fault_handler.specs.Invariant.{IsProc}
+use Rattle.node_runs.specs.Told.{AreWantsInRange}
 
 -- what all nodes are given: the opening, the frames of each node, the number of phases, the processes of each node
 -- that have a program, and what each program wants once it has heard this. The lists begin with node 1
@@ -48,9 +48,9 @@ pub record IsFrames (frames : ℕ) : Type 0 where
   pub few : FEWEST_FRAMES ≤ frames
   pub many : frames ≤ MOST_FRAMES
 
--- the wants of a node's programs are in their ranges, where they were told of no object but real ones
+-- the wants of a node's programs are in their ranges, where they were told what fits, and of no object but real ones
 abbrev pub AreWants : Given → Type 0
-AreWants g = (p : ℕ) (heard : Heard) → AreNamedReplies heard → IsWant (g.asks p heard)
+AreWants g = (p : ℕ) → AreWantsInRange (g.asks p)
 
 -- the conditions on what one node is given
 pub record IsGiven (g : Given) : Type 0 where
@@ -70,4 +70,4 @@ pub record IsSetup (s : Setup) : Type 0 where
   pub phases_high : s.phases ≤ 1000
   pub programs : All ArePrograms s.programs
   pub all_programs : length s.programs ≡ s.opening.nodes
-  pub wants : (p : ProcName) (heard : Heard) → AreNamedReplies heard → IsWant (s.asks p heard)
+  pub wants : (p : ProcName) → AreWantsInRange (s.asks p)

@@ -24,12 +24,9 @@
 //! A head has no line but `spoiled`. The nodes of a script are `a` and `b`.
 #![tactic(auto)]
 
-mod nodes;
-mod play;
-
 use anyhow::{Result, bail};
 use case_files::{FileCase, read_cases};
-use play::{Found, play_case};
+use node_plays::play::{Found, play_case};
 use std::fs;
 
 /// How many cases were tried, how many events their journals have, and how many cases came out otherwise than they are to.

@@ -244,7 +244,7 @@ module _ (g : Given) (given : IsGiven g) (procs : (p : ℕ) → has_program g p 
   did-kept what incoming s frame (finished p has none want) = λ used are. are
   did-kept what incoming s frame (began p op to has none want way) =
       let proc = procs p has in
-      let range : IsOp op = subst IsWant want (given.wants p (proc_of n p).heard (is.followed p proc).named) in
+      let range : IsOp op = subst IsWant want (given.wants p (proc_of n p).heard (is.followed p proc).fitting (is.followed p proc).named) in
       starts-kept g n p (begun_at g n op) to (begun-kept n.desk p is.desk proc to g.opening op (subst (Agrees n.desk p (proc_of n p).last) none (is.agrees p proc)) range way)
   did-kept what incoming s frame (resumed p o u k accessed to has doing come goes way) =
       let proc = procs p has in

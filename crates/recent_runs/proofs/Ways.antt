@@ -97,7 +97,7 @@ module _ (g : Given) (given : IsGiven g) (n : NodeState) (is : IsNodeOf g n) whe
   did-happens what incoming s frame (finished p has none want) = (begins g n p Done, ap (λ w. Some (begins g n p w)) want, refl)
   did-happens what incoming s frame (began p op to has none want way) =
       let proc = given-procs g given.programs p has in
-      let range : IsOp op = subst IsWant want (given.wants p (proc_of n p).heard (is.followed p proc).named) in
+      let range : IsOp op = subst IsWant want (given.wants p (proc_of n p).heard (is.followed p proc).fitting (is.followed p proc).named) in
       (begins g n p (Do op), ap (λ w. Some (begins g n p w)) want, begun-roomy n.desk p is.desk proc g.opening op (agrees-as p proc None none) range)
   did-happens what incoming s frame (resumed p o u k accessed to has doing come goes way) =
       let proc = given-procs g given.programs p has in

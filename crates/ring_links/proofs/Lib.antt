@@ -1,5 +1,9 @@
 pub mod Plain
 pub mod Carrying
+pub mod ByNumber
+pub mod Falling
+pub mod Owning
+pub mod Sent
 pub mod Coming
 pub mod FirstSoFar
 pub mod Places

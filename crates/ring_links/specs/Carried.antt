@@ -36,6 +36,14 @@ falling j later = map (λ c. copy_of c.received c.index) (filter (λ c. c.behind
 abbrev pub staying : {A : Type 0} → ℕ → List (Later A) → List (Later A)
 staying j later = filter (λ c. not (c.behind == j)) later
 
+-- a copy of the next frame, where so many were sent, that falls behind so many later ones
+abbrev pub own_copy : {A : Type 0} → ℕ → ℕ → A → Later A
+own_copy frames after x = record { index = frames + 1; behind = frames + 1 + after; received = x }
+
+-- one frame more was sent: the copies that fall behind it wait
+abbrev pub fallen : {A : Type 0} → Carrying A → Carrying A
+fallen l = record { frames = l.frames + 1; queue = l.queue ++ falling (l.frames + 1) l.later; later = staying (l.frames + 1) l.later }
+
 -- a frame of this fate is sent
 abbrev pub frame_sent : {A : Type 0} → Fate → A → Carrying A → Carrying A
 frame_sent fate x l =

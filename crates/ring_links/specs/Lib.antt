@@ -1,3 +1,4 @@
 pub mod Carried
+pub mod Later
 pub mod Merged
 pub mod Notices

@@ -21,3 +21,4 @@ pub mod Phased
 pub mod Ending
 pub mod DecisionOrder
 pub mod PacedSample
+pub mod ItemViews

@@ -268,7 +268,7 @@ did-desk g given procs n is what incoming s frame (paused p has none want) = sti
 did-desk g given procs n is what incoming s frame (finished p has none want) = still refl (put-same g n incoming is.four p (procs p has) _ _ refl (same-doing (proc_of n p).doing)) tt refl
 did-desk g given procs n is what incoming s frame (began p op to has none want way) =
     let proc = procs p has in
-    let range : IsOp op = subst IsWant want (given.wants p (proc_of n p).heard (is.followed p proc).named) in
+    let range : IsOp op = subst IsWant want (given.wants p (proc_of n p).heard (is.followed p proc).fitting (is.followed p proc).named) in
     turned-node g n incoming is.four p proc (begun_at g n op) Stage.Starts to (subst (λ x. IsAt x (begun_at g n op) Stage.Starts) (sym none) tt)
     (begun-turn g.opening incoming (proc_of n p).doing n.desk p is.desk proc op to (subst (Agrees n.desk p (proc_of n p).last) none (is.agrees p proc)) range way)
 did-desk g given procs n is what incoming s frame (resumed p o u k accessed to has doing come goes way) =

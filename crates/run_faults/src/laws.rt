@@ -9,7 +9,7 @@ ghost use Rattle.node_runs.specs.RunHistories.{history_of};
 ghost use Rattle.node_runs.specs.Deliveries.{IsPlanned};
 ghost use Rattle.world_runs.specs.Faults.{faults_in};
 ghost use Rattle.world_runs.specs.EveryRunBy.{InEveryRunBy};
-ghost use Rattle.run_moves.specs.DoubtfulRun as doubtful;
+ghost use Rattle.node_runs.specs.DoubtfulRun as doubtful;
 ghost use Rattle.run_faults.specs.LinkFaults.{fault_entries, link_faults, notices, marked};
 ghost use Rattle.run_faults.specs.EightNotices.{HasEightNotices, HaveOwnCalls};
 

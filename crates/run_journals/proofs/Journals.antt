@@ -3,7 +3,7 @@ use Rattle.std.proofs.Common.{◌≡◌, ℕ, ◌-◌, ◌≤◌, true, List, []
 use Rattle.std.specs.Prelude.{◌^◌, All, reverse, IsSome}
 use Rattle.std.specs.List.{AllByRecursion}
 use Rattle.std.proofs.lemmas.List.{reverse-reverse}
-use Rattle.std.proofs.lemmas.List.Elements.{All-from_recursion, All-push, All-head, All-tail}
+use Rattle.std.proofs.lemmas.List.Elements.{All-from_recursion}
 use Rattle.uid_names.specs.Names.{ObjectName}
 use Rattle.uid_names.proofs.ListLemmas.{get-within}
 use Rattle.dom_history.specs.Events.{Happening, IsEvent}
@@ -57,11 +57,6 @@ module _ (names : List (List ℕ)) (nodes : ℕ) (few : nodes ≤ 8) (enough : n
   pub events-written : (es : List Happening) → AllByRecursion (NamesNodes nodes) es → EachOf IsEvent es → EachOf IsSpelt es → AllByRecursion (IsWritten names) es
   events-written [] node event is = tt
   events-written (e ∷ es) node event is = (event-written e node.0 event.0 is.0, events-written es node.1 event.1 is.1)
-
--- each of a list, from its end on
-pub each-reverse : {X : Type 0} (P : X → Type 0) (xs : List X) → All P xs → All P (reverse xs)
-each-reverse P [] all = all
-each-reverse P (x ∷ xs) all = subst (All P) (sym (reverse-cons x xs)) (All-push P (reverse xs) x (each-reverse P xs (All-tail P x xs all)) (All-head P x xs all))
 
 -- places that rise, the last one first
 last-reverse : (e : Happening) (es : List Happening) → last_from None (reverse (e ∷ es)) ≡ Some e.place

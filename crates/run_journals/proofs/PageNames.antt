@@ -239,7 +239,7 @@ module _ (g : Given) (n : NodeState) (is : IsNodeOf g n) (kept : (p : ℕ) → I
     did-drop what incoming s frame (finished p has none want) = tt
     did-drop what incoming s frame (began p op to has none want way) =
         let proc = given-procs g given.programs p has in
-        let range : IsOp op = subst IsWant want (given.wants p (proc_of n p).heard (is.followed p proc).named) in
+        let range : IsOp op = subst IsWant want (given.wants p (proc_of n p).heard (is.followed p proc).fitting (is.followed p proc).named) in
         begun-drop p proc op to (subst (Agrees n.desk p (proc_of n p).last) none (is.agrees p proc)) range way
     did-drop what incoming s frame (resumed p o u k accessed to has doing come goes way) =
         let proc = given-procs g given.programs p has in

@@ -285,7 +285,7 @@ module _ (reads : (s : Setup) → IsSetup s → (cs : List Choice) (w : World) �
   did-so what incoming step (began p op to has none want way) is move =
       let own = setup-gives s setup node ev.next.is.node in
       let proc = given-procs g own.programs p has in
-      let range : IsOp op = subst IsWant want (own.wants p (proc_of n p).heard (node-is.followed p proc).named) in
+      let range : IsOp op = subst IsWant want (own.wants p (proc_of n p).heard (node-is.followed p proc).fitting (node-is.followed p proc).named) in
       let idle : IsIdle n.desk p = subst (Agrees n.desk p (proc_of n p).last) none (node-is.agrees p proc) in
       subst IsReply (sym (moved-note g n p (begun_at g n op) Stage.Starts to)) (turn-so p proc Stage.Starts (proc_of n p).phase (begun_at g n op) to.turn (begun-so p proc op to idle range way))
   did-so what incoming step (resumed p o u k accessed to has doing come goes way) is move =

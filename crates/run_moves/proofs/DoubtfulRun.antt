@@ -31,7 +31,7 @@ use Rattle.world_runs.specs.SampleTurns.{events_by, enabled_after}
 use Rattle.world_runs.specs.Turns.{enabled_events}
 use Rattle.world_runs.proofs.Turning.{IsTurn, every-turn, node-after}
 use Rattle.world_runs.proofs.Picking.{picked-planned}
-use Rattle.run_moves.specs.DoubtfulRun as doubtful
+use Rattle.node_runs.specs.DoubtfulRun as doubtful
 
 -- what there is at the start
 abbrev object : Object
@@ -80,7 +80,7 @@ setup-is = record {
   phases_high = omega arith;
   programs = All-cons ArePrograms (1 ∷ []) ([] ∷ []) one-program (All-cons ArePrograms [] [] no-programs (All-nil ArePrograms));
   all_programs = refl;
-  wants = λ q heard named. wants heard;
+  wants = λ q heard fits named. wants heard;
 }
 
 -- the plan: frame by frame

@@ -69,7 +69,7 @@ use Rattle.run_moves.proofs.Answers.{faults-are}
 use Rattle.run_moves.proofs.Cuts.{AreCut, all-of, pending-each, pending-cut}
 use Rattle.run_moves.proofs.Events.{after, moved-history}
 use Rattle.run_moves.proofs.InOrder.{told-op, acts-in-order}
-use Rattle.run_moves.proofs.ItemViews.{IsAmong, found, absent, decided-last, found-call}
+use Rattle.run_calls.proofs.ItemViews.{IsAmong, found, absent, decided-last, found-call}
 use Rattle.run_moves.proofs.Orders.{ended-is}
 use Rattle.run_moves.proofs.SameItems.{items-same, untold-same, SettlingOpen, open-settling}
 use Rattle.run_moves.proofs.Standing.{items-at, home-is, since-of, no-act}

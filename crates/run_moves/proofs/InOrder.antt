@@ -39,7 +39,7 @@ use Rattle.run_desks.specs.ToldAnswers.{IsLockRefusal, IsLocalReply, IsAtDesk, I
 use Rattle.run_desks.proofs.ToldAnswers.{told-are}
 use Rattle.run_homes.proofs.HomeEffects.{same-home}
 use Rattle.run_moves.proofs.Alone.{alone-are}
-use Rattle.run_moves.proofs.ItemViews.{IsAmong, IsItemAt, did, faulted, answered, left_open, opened, each-item, decided-last}
+use Rattle.run_calls.proofs.ItemViews.{IsAmong, IsItemAt, did, faulted, answered, left_open, opened, each-item, decided-last}
 use Rattle.run_moves.proofs.Orders.{once-each, told-earlier, told-before-begin}
 use Rattle.run_moves.proofs.Refusals.{IsRefusal, IsNoteRefusal, refusals-are}
 use Rattle.run_moves.proofs.Standing.{home-is, told-less}

@@ -13,7 +13,6 @@ pub mod CameTurns
 pub mod DeskReplies
 pub mod Cuts
 pub mod Alone
-pub mod ItemViews
 pub mod SameItems
 pub mod Refusals
 pub mod Orders

@@ -25,7 +25,7 @@ use Rattle.run_calls.proofs.HearingRuns.{SomeOf-both}
 use Rattle.run_calls.specs.DecisionOrder.{IsDecidedBelow, IsDecidedAbove, AreDecisionsRising}
 use Rattle.run_calls.specs.SingleActs.{IsToldLater, AreToldRising}
 use Rattle.run_effects.specs.NotedDeeds.{note_deeds}
-use Rattle.run_moves.proofs.ItemViews.{IsAmong}
+use Rattle.run_calls.proofs.ItemViews.{IsAmong}
 use Rattle.run_moves.proofs.Alone.{Alone, here, later, IsAloneEnd, AreAloneEnds}
 
 -- notes that are cut at one of them

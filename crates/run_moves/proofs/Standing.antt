@@ -31,7 +31,7 @@ use Rattle.run_desks.proofs.AskedHomes.{calls-at-homes}
 use Rattle.run_homes.proofs.HistoryHomes.{meant-at}
 use Rattle.run_homes.proofs.HomeRows.{IsMeantAt}
 use Rattle.run_calls.specs.DecisionOrder.{IsDecidedBelow}
-use Rattle.run_moves.proofs.ItemViews.{IsAmong, IsItemAt, did, faulted, answered, left_open, opened, each-item}
+use Rattle.run_calls.proofs.ItemViews.{IsAmong, IsItemAt, did, faulted, answered, left_open, opened, each-item}
 use Rattle.run_moves.proofs.Orders.{IsDecidedAfter}
 
 settled-at : (home : ℕ) (ask : Ask) (op : Op) → IsAtHome home ask → settled_op home ask ≡ Some op → home_of op ≡ Some home

@@ -70,7 +70,7 @@ use Rattle.run_moves.proofs.Begins.{BeginSplit, begin-split, WritesKept, fault-m
 use Rattle.run_moves.proofs.Cuts.{AreCut, all-of, pending-each}
 use Rattle.run_moves.proofs.Events.{after, items-cut, moved-history}
 use Rattle.run_moves.proofs.InOrder.{told-op}
-use Rattle.run_moves.proofs.ItemViews.{IsAmong}
+use Rattle.run_calls.proofs.ItemViews.{IsAmong}
 use Rattle.run_moves.proofs.Orders.{NoteSplit, note-split, each-middle, each-front, once-around, once-each, rising-around, above-around}
 use Rattle.run_moves.proofs.SameItems.{items-same, told-same, fault-was, fault-is, answer-was, answer-is}
 use Rattle.run_moves.proofs.TellsThen.{ToldThen, alone-quiet}

@@ -37,7 +37,7 @@ use Rattle.run_calls.proofs.ToldRising.{told-rises}
 use Rattle.run_moves.specs.KnownRuns.{IsKnown, IsAlwaysKnown}
 use Rattle.run_moves.proofs.Alone.{alone-are}
 use Rattle.run_moves.proofs.Events.{after}
-use Rattle.run_moves.proofs.ItemViews.{IsAmong}
+use Rattle.run_calls.proofs.ItemViews.{IsAmong}
 use Rattle.run_moves.proofs.Moving.{others-doing, cut-at, kept-next, was_timely, e_after, timely_after, legal-runs}
 use Rattle.run_moves.proofs.Orders.{each-middle, once-each, rising-around, told-before-begin}
 use Rattle.run_moves.proofs.Standing.{since-of}

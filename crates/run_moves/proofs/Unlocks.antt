@@ -53,7 +53,7 @@ use Rattle.run_moves.specs.KnownRuns.{IsAlwaysKnown}
 use Rattle.run_moves.specs.HomesAtUnlocks.{HomesHaveAll}
 use Rattle.run_moves.proofs.Alone.{alone-are}
 use Rattle.run_moves.proofs.InOrder.{told-op}
-use Rattle.run_moves.proofs.ItemViews.{IsAmong, IsItemAt, did, faulted, answered, left_open, opened, each-item}
+use Rattle.run_calls.proofs.ItemViews.{IsAmong, IsItemAt, did, faulted, answered, left_open, opened, each-item}
 use Rattle.run_moves.proofs.Orders.{each-middle, each-front, once-each, rising-around}
 use Rattle.run_moves.proofs.SameItems.{items-append}
 use Rattle.run_moves.proofs.Standing.{items-at}

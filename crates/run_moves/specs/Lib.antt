@@ -3,4 +3,3 @@ pub mod HomeReplies
 pub mod KnownRuns
 pub mod MovedHistories
 pub mod HomesAtUnlocks
-pub mod DoubtfulRun

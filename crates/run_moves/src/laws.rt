@@ -12,7 +12,7 @@ ghost use Rattle.run_moves.specs.MovedHistories.{IsHistoryMoved};
 ghost use Rattle.run_moves.specs.HomesAtUnlocks.{HomesHaveAll};
 ghost use Rattle.run_moves.specs.DeskReplies.{AreDeskReplies};
 ghost use Rattle.run_moves.specs.HomeReplies.{AreHomeReplies};
-ghost use Rattle.run_moves.specs.DoubtfulRun as doubtful;
+ghost use Rattle.node_runs.specs.DoubtfulRun as doubtful;
 
 /// In every run in which no tick is above 2^40: what is done at a desk is answered as one store answers it, over what was done and told
 /// before; and an operation that begins and is not done is one that its home may be asked, or an access that one store would do.

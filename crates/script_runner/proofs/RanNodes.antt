@@ -2,9 +2,10 @@
 use Rattle.std.proofs.Common.{◌≡◌, ℕ, ◌-◌, ◌<◌, ◌≤◌, Option, Some, None, Result, Ok, Err, List, [], length, map, reverse, slice_index_or, refl, sym, ◌∙◌, ap, subst, arith}
 use Rattle.std.specs.Prelude.{◌^◌, All, IsSome, IfSome, IfOk, IfErr, IsErrOf, unwrap_or}
 use Rattle.std.specs.Option.{option_map}
-use Rattle.std.proofs.lemmas.List.{length-map, length-reverse, get_or-reverse}
-use Rattle.std.proofs.lemmas.List.Elements.{All-weaker, All-get_or}
+use Rattle.std.proofs.lemmas.List.{length-map}
+use Rattle.std.proofs.lemmas.List.Elements.{All-weaker}
 use Rattle.std.proofs.lemmas.Option.{slice_get-get_or}
+use Rattle.uid_names.proofs.ListLemmas.{All-reverse}
 use Rattle.uid_names.specs.Names.{ProcName}
 use Rattle.uid_names.specs.Openings.{IsStart}
 use Rattle.dom_history.specs.Events.{Happening}
@@ -54,12 +55,6 @@ processes_named s content = processes_of-All (λ p. IsNode (length s.nodes) p.no
 -- the shell of each process of a script is made
 shells_made : (s : Content) → All (λ p. made_shell s p.node p.number ≡ Some (shell_of s p)) (processes_of s.commands)
 shells_made s i d below = shell_found s (processes_of s.commands) (slice_index_or (processes_of s.commands) i d) i d below refl
-
--- an element of a list that is turned round holds what holds of all
-All-reverse : {X : Type 0} (P : X → Type 0) (xs : List X) → All P xs → All P (reverse xs)
-All-reverse P xs all i d below =
-    let short : i < length xs = omega (arith, below, length-reverse xs) in
-    subst P (sym (get_or-reverse xs i d short)) (All-get_or P xs (length xs - 1 - i) d (omega arith) all)
 
 -- a node of so many has a name
 named_node : (s : Content) (n : ℕ) → IsNode (length s.nodes) n → IsNamed (names_of s) n
@@ -153,9 +148,6 @@ module _ (s : Content) (content : IsContent s) (seed last : ℕ) (events : List 
       ap (λ (texts : List (List ℕ)). record { proc = p; answers = texts }) (ap answers_by (shells_are i d below) ∙ law p (heard_in ended.world p)))
 
 -- laws of a script's runs
-abbrev pub PickEnded : Type 0
-PickEnded = (s : Content) (seed last : ℕ) → IsContent s → IsStart s.opening → last ≤ 2 ^ 40 → (events : List Happening) (picked : IsPickedRunOf s seed last events) → (w : World) × IsEndedRunOf s events w × IsLike picked.world w
-
 abbrev pub NameTheirNodes : Type 0
 NameTheirNodes = (s : Content) → IsContent s → IsStart s.opening → (events : List Happening) (w : World) → IsEndedRunOf s events w → All (NamesNodes (length s.nodes)) events
 
@@ -165,7 +157,7 @@ AreAsOneStore = (s : Content) → IsContent s → IsStart s.opening → (events 
 abbrev pub AnswerByHistory : Type 0
 AnswerByHistory = (s : Content) (seed last : ℕ) → IsContent s → IsStart s.opening → last ≤ 2 ^ 40 → (events : List Happening) (picked : IsPickedRunOf s seed last events) → rows_of s (heard_in picked.world) ≡ history_rows s (script_history s events)
 
-module _ (s : Content) (content : IsContent s) (start : IsStart s.opening) (seed last : ℕ) (most : last ≤ 2 ^ 40) (events : List Happening) (programs : List (ProcName × Shelled)) (ended : worlds.IsRunOf shell_wants shell_after (made_shell s) (setup_of s) s.plan seed last events programs) (pick : PickEnded) where
+module _ (s : Content) (content : IsContent s) (start : IsStart s.opening) (seed last : ℕ) (most : last ≤ 2 ^ 40) (events : List Happening) (programs : List (ProcName × Shelled)) (ended : worlds.IsRunOf shell_wants shell_after (made_shell s) (setup_of s) s.plan seed last events programs) where
   abbrev by_turns : List Happening
   by_turns = by_place ended.world.done
 
@@ -173,7 +165,7 @@ module _ (s : Content) (content : IsContent s) (start : IsStart s.opening) (seed
   picks = picked s content seed last events programs ended
 
   abbrev run : (w : World) × IsEndedRunOf s by_turns w × IsLike picks.world w
-  run = pick s seed last content start most by_turns picks
+  run = let alike = ended.so_far.ended ended.ended in (alike.0, record { run = alike.1; timely = alike.2 }, alike.3)
 
   -- what came of the script
   pub ran_is : (turns : Option ℕ) → seed ≡ unwrap_or turns 0 → NeverBoth → AreAsOneStore → AnswerByHistory → ((p : ProcName) (heard : Heard) → shell_answers (program_after shell_after (shell_of s p) heard) ≡ answers s p heard)
@@ -186,7 +178,7 @@ module _ (s : Content) (content : IsContent s) (start : IsStart s.opening) (seed
         picked = picked_for s turns seed last by_turns is picks;
         below = below_for never s turns seed last by_turns is picks;
         one_store = one_store s content start by_turns run.0 run.1;
-        recent = ended.recent;
+        recent = ended.so_far.recent;
         by_place = ended.events_are;
         answered = same ∙ (rows_are s content seed last events programs ended answered procs are ∙ by_history s seed last content start most by_turns picks);
       }

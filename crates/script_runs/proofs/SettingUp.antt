@@ -107,5 +107,5 @@ setup_is law s content start = record {
   all_programs =
       length-map (take (length s.nodes) node_numbers) (numbers_at (processes_of s.commands))
       ∙ (omega (arith, length-take (length s.nodes) node_numbers, content.draft.few_nodes) ∙ sym content.draft.opening_nodes);
-  wants = λ p heard named. ranged law s content p heard named;
+  wants = λ p heard fits named. ranged law s content p heard named;
 }

@@ -1,9 +1,10 @@
 -- Lemmas on tests over lists: what is found, what a filter leaves, how many pass.
-use Rattle.std.proofs.Common.{◌≡◌, ℕ, zero, suc, ◌+◌, ◌<◌, ◌≤◌, Bool, true, false, not, cond, List, [], ◌∷◌, ◌++◌, map, filter, length, get_or, Option, Some, None, MatchOption, count_by, nat_lt, length-append, replicate, refl, subst, sym, ap, ◌∙◌, arith}
+use Rattle.std.proofs.Common.{◌≡◌, ℕ, zero, suc, ◌+◌, ◌<◌, ◌≤◌, Bool, true, false, not, cond, List, [], ◌∷◌, ◌++◌, map, filter, length, get_or, Option, Some, None, MatchOption, count_by, nat_lt, length-append, replicate, reverse, refl, subst, sym, ap, ◌∙◌, arith}
 use Rattle.std.proofs.lemmas.Bool.Decides.{nat_tests}
+use Rattle.std.proofs.lemmas.List.{reverse-append}
 use Rattle.std.proofs.lemmas.List.Sums.{sum_by-cons, length-filter}
 use Rattle.std.proofs.lemmas.List.Filters.{length-filter_both}
-use Rattle.std.proofs.lemmas.List.Elements.{All-head, All-tail}
+use Rattle.std.proofs.lemmas.List.Elements.{All-head, All-tail, All-push}
 use Rattle.std.specs.Prelude.{IsSome, All, ◌==◌, slice_get, slice_index_or}
 use Rattle.std.specs.List.{find, list_any, list_all, remove, position, position_or_len}
 use Rattle.std.specs.Option.{option_map, option_or}
@@ -13,6 +14,11 @@ use Rattle.uid_names.proofs.Passed.{left-true, right-true, equal}
 pub by_cases : (b : Bool) (P : Type 0) → (b ≡ true → P) → (b ≡ false → P) → P
 by_cases true P yes_case no_case = yes_case refl
 by_cases false P yes_case no_case = no_case refl
+
+-- what holds of each holds of each from the last one on
+pub All-reverse : {X : Type 0} (P : X → Type 0) (xs : List X) → All P xs → All P (reverse xs)
+All-reverse P [] all = all
+All-reverse P (x ∷ xs) all = subst (All P) (sym (reverse-append (x ∷ []) xs)) (All-push P (reverse xs) x (All-reverse P xs (All-tail P x xs all)) (All-head P x xs all))
 
 module _ {X : Type 0} (p : X → Bool) where
   -- one more to count where the first passes

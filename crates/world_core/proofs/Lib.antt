@@ -1,4 +1,3 @@
-pub mod Counted
 pub mod Comings
 pub mod OnOks
 pub mod Found
@@ -34,4 +33,3 @@ pub mod Picked
 pub mod Sendable
 pub mod Turned
 pub mod Programs
-pub mod OneStore

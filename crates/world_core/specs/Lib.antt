@@ -1,8 +1,7 @@
-pub mod Accounts
 pub mod Stations
 pub mod OldestEntries
 pub mod Listed
-pub mod OneStore
+pub mod SoFar
 pub mod Before
 pub mod Stands
 pub mod Starts

@@ -26,7 +26,6 @@ use Rattle.world_runs.specs.OpenNotices.{open_notices}
 use Rattle.world_runs.specs.Turns.{Act, after_turns, enabled_events, turn}
 use Rattle.world_runs.specs.Draws.{EndsIn}
 use Rattle.world_runs.specs.ByPlace.{by_place, events_of}
-use Rattle.recent_runs.specs.Recent.{IsRecent}
 use Rattle.world_core.specs.declared.coming.Coming.{Coming}
 use Rattle.ring_links.specs.declared.notice.Notice.{Notice}
 use Rattle.world_core.specs.declared.station.LinkFrom.{LinkFrom}
@@ -34,7 +33,7 @@ use Rattle.world_core.specs.declared.station.Station.{Station}
 use Rattle.world_core.specs.declared.world.World.{World}
 use Rattle.ring_links.specs.Notices.{notice_what, notice_incoming}
 use Rattle.world_core.specs.Listed.{IsListed}
-use Rattle.world_core.specs.OneStore.{IsOneStore}
+use Rattle.world_core.specs.SoFar.{IsRightSoFar}
 use Rattle.world_core.specs.Ended.{named}
 
 -- a listed event, as one of a node
@@ -111,14 +110,13 @@ module _ {P : Type 0} (wants : P → Want) (becomes : P → Option Reply → P) 
         → named programs p ≡ option_map (λ y. program_after becomes y (proc_of (w.nodes p.node) p.number).heard) (made p.node p.number)
     pub only : (p : ProcName) → IsSome (named programs p) → IsNode s.opening.nodes p.node
 
-  -- the turns of a seed end in a world in which all nodes have ended and which is as one store would have it, with these events by place and these
-  -- programs; each page that was dropped for another was the clean one used longest ago
+  -- the turns of a seed end in a world in which all nodes have ended, with these events by place and these programs; by place they are a run by the
+  -- plan, as one store would have it, and each page that was dropped for another was the clean one used longest ago
   pub record IsRunOf (plan : List FateRow) (seed last : ℕ) (events : List Happening) (programs : List (ProcName × P)) : Type 0 where
     pub world : runs.World
     pub ends : EndsIn s plan seed last world
     pub ended : runs.HasEnded s world
-    pub one_store : IsOneStore s world
-    pub recent : IsRecent s (by_place world.done)
+    pub so_far : IsRightSoFar s plan world
     pub events_are : events ≡ reverse (by_place world.done)
     pub programs_are : AreEnded world programs
 

@@ -1,10 +1,11 @@
 //! An account of the link faults of a run.
 ghost use Rattle.std.specs.Prelude.{◌≡◌};
-ghost use Rattle.run_faults.specs.LinkFaults.{is_fault_end, link_faults as faults_of, notices as notices_of};
-ghost use Rattle.world_core.specs.Accounts.{is_notice as is_notice_what, is_marked as is_marked_event, marked as marked_of};
+ghost use Rattle.run_accounts.specs.Accounts.{is_fault_end, link_faults as faults_of, notices as notices_of, is_notice as is_notice_what, is_marked as is_marked_event, marked as marked_of};
+ghost use Rattle.run_accounts.specs.AccountsOfRuns.{AccountsFor};
 
 use crate::account_row::Account;
 use dom_history::{EndWord, Event, EventList, Fate, FaultPlan, What};
+use run_accounts::laws::an_account_is_of_its_run;
 
 /// Whether an event ended an operation by a link fault.
 fn is_fault(event: &Event) -> bool
@@ -36,8 +37,8 @@ fn is_marked(plan: &FaultPlan, event: &Event) -> bool
     }
 }
 
-/// An account of the events of a run by a plan. Takes no memory.
-pub fn account(events: &EventList, plan: &FaultPlan) -> Account
+/// The three numbers, each counted by itself.
+fn counted(events: &EventList, plan: &FaultPlan) -> Account
     ensures link_faults { result.link_faults ≡ faults_of events.now }
     ensures notices { result.notices ≡ notices_of events.now }
     ensures marked { result.marked ≡ marked_of plan.now events.now }
@@ -48,4 +49,15 @@ pub fn account(events: &EventList, plan: &FaultPlan) -> Account
         notices: events.iter().filter(|event| is_notice(event)).count() as u64,
         marked: events.iter().filter(|event| is_marked(plan, event)).count() as u64,
     }
+}
+
+/// An account of the events of a run by a plan, in the order in which they happened. Takes no memory.
+pub fn account(events: &EventList, plan: &FaultPlan) -> Account
+    ensures link_faults { result.link_faults ≡ faults_of events.now }
+    ensures notices { result.notices ≡ notices_of events.now }
+    ensures marked { result.marked ≡ marked_of plan.now events.now }
+    ensures of_a_run { AccountsFor plan.now events.now result.link_faults result.notices result.marked }
+{
+    an_account_is_of_its_run();
+    counted(events, plan)
 }

@@ -9,18 +9,16 @@ ghost use Rattle.node_core.specs.Nodes.{state_of};
 ghost use Rattle.world_core.specs.Ended.{named, with_name, own_of, or_else, program_at, AreNumbered};
 ghost use Rattle.node_core.specs.declared.fault.RunFault.TheVariants as faults;
 
+use crate::laws::turns_are_right_so_far;
 use crate::world::World;
 use dom_history::{EventList, MergedLogs, NodeLog, Program};
 use drawn_numbers::Draws;
 use node_core::{Node, RunFault};
 use page_store::Pages;
-use recent_runs::laws::turns_are_recent;
 use ring_links::by_place;
 use run_ends::laws::no_turn_is_stuck;
-use run_moves::laws::{a_home_has_all_at_an_unlock, each_history_is_one_of_one_store};
 use std::alloc::Global;
 use uid_names::{NoMemory, NodeId, ProcId};
-use world_runs::laws::turns_are_a_run_by_place;
 
 /// Puts a program last, under the name of its process.
 fn put_program<P: Program>(
@@ -74,8 +72,8 @@ impl<P: Program, G: Pages> World<P, G> {
     ghost use Rattle.world_core.specs.Stands.{Stands, IsRunOf};
     ghost use Rattle.world_core.specs.Starts.{OfEachStart};
 
-    /// Turns by the draws of a seed, until all nodes have ended: all events by rising place, and the programs as they are
-    /// then, by node and number. TickLimit is answered where an event gave that node the tick `last_tick`.
+    /// Turns by the draws of a seed, until all nodes have ended: all events by rising place, which are a right and recent run by the
+    /// plan, and the programs as they are then, by node and number. TickLimit is answered where an event gave that node the tick `last_tick`.
     pub fn run_turns(
         self,
         alloc: Global,
@@ -107,12 +105,9 @@ impl<P: Program, G: Pages> World<P, G> {
         ensures run { IfOk result (λ r. OfEachStart P.wants P.becomes self (λ made s. IsRunOf P.wants P.becomes made s self.plan seed last_tick r.0.events r.1.items)) }
         ensures limit { (n : ℕ) → IsErrOf result (faults.TickLimit n) → OfEachStart P.wants P.becomes self (λ made s. ComesToLast s self.plan seed last_tick n) }
     {
-        // So where no event is enabled all nodes have ended, and what was done is as one store would have it, and recent.
+        // So where no event is enabled all nodes have ended, and what was done is a run by the plan, right and recent.
         no_turn_is_stuck();
-        turns_are_a_run_by_place();
-        each_history_is_one_of_one_store();
-        a_home_has_all_at_an_unlock();
-        turns_are_recent();
+        turns_are_right_so_far();
         let mut world = self;
         let mut draws = Draws::new(seed);
         for turn in 0..u64::MAX {

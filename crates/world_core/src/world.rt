@@ -2,20 +2,16 @@
 ghost use Rattle.std.specs.Prelude.{◌≡◌, ◌<◌, ◌≤◌, ◌^◌, ℕ, true, false, Option, MatchOption, IfOk, OnErr, length, sum};
 ghost use Rattle.node_runs.specs.Setups.{Setup};
 ghost use Rattle.node_runs.specs.Runs.{World as Done, first_world};
-ghost use Rattle.world_runs.specs.ByPlace.{by_place};
-ghost use Rattle.recent_runs.specs.Recent.{IsRecent};
 ghost use Rattle.world_core.specs.Places.{enabled_counts, IsPlace};
 
+use crate::laws::turns_are_right_so_far;
 use crate::station::Station;
 use dom_history::{FaultPlan, Program};
 use node_core::Node;
 use page_store::Pages;
-use recent_runs::laws::turns_are_recent;
 use run_ends::laws::no_turn_is_stuck;
-use run_moves::laws::{a_home_has_all_at_an_unlock, each_history_is_one_of_one_store};
 use std::alloc::Global;
 use uid_names::NoMemory;
-use world_runs::laws::turns_are_a_run_by_place;
 
 /// All nodes on one thread, with what waits on their links by a fault plan.
 ///
@@ -28,7 +24,7 @@ pub struct World<P: Program, G: Pages> {
 }
 
 impl<P: Program, G: Pages> World<P, G> {
-    ghost use Rattle.world_core.specs.OneStore.{IsOneStore};
+    ghost use Rattle.world_core.specs.SoFar.{IsRightSoFar};
     ghost use Rattle.world_core.specs.Stands.{AreNodes, Stands, IsTurn, IsTurnAt, TellsEnd, IsBelow};
 
     /// The world of these nodes, which are all, by number, as they were made.
@@ -86,8 +82,10 @@ impl<P: Program, G: Pages> World<P, G> {
     }
 
     /// Does the enabled event at the place `choice`, counted on from the first behind the last; false where none is
-    /// enabled, which is just where all nodes have ended. What was done so far, ended or not, is as one store would have it, and each
-    /// page that was dropped for another was the clean one used longest ago. Without memory the world is spent.
+    /// enabled, which is just where all nodes have ended. What was done so far, ended or not, is by place a run by the plan, and all is right
+    /// after each of its events: the history is one of one store, keeps the phases apart, and has what each program asked, once and in order,
+    /// with the replies that it heard; no home refused an open call for a page, a length or a removal; at each unlock of a held lock the home
+    /// has all; and each page that was dropped for another was the clean one used longest ago. Without memory the world is spent.
     pub fn turn(&mut self, alloc: Global, choice: u64) -> Result<bool, NoMemory>
         requires stands { (made : ℕ → ℕ → Option P) × (s : Setup) × (w : Done) × Stands P.wants P.becomes made s self.old w }
         requires below { IsBelow (2 ^ 40) self.old }
@@ -95,18 +93,13 @@ impl<P: Program, G: Pages> World<P, G> {
             IsTurn P.wants P.becomes made s self.old self.new w choice done) }
         ensures ended { IfOk result (λ done. (made : ℕ → ℕ → Option P) (s : Setup) (w : Done) → Stands P.wants P.becomes made s self.old w →
             TellsEnd s w done) }
-        ensures one_store { IfOk result (λ done. (made : ℕ → ℕ → Option P) (s : Setup) (w : Done) → Stands P.wants P.becomes made s self.new w →
-            IsOneStore s w) }
-        ensures recent { IfOk result (λ done. (made : ℕ → ℕ → Option P) (s : Setup) (w : Done) → Stands P.wants P.becomes made s self.new w →
-            IsRecent s (by_place w.done)) }
+        ensures so_far { IfOk result (λ done. (made : ℕ → ℕ → Option P) (s : Setup) (w : Done) → Stands P.wants P.becomes made s self.new w →
+            IsRightSoFar s self.new.plan w) }
         ensures plan { self.new.plan ≡ self.old.plan }
         ensures spent { OnErr result (self.new.spent ≡ true) }
     {
         no_turn_is_stuck();
-        turns_are_a_run_by_place();
-        each_history_is_one_of_one_store();
-        a_home_has_all_at_an_unlock();
-        turns_are_recent();
+        turns_are_right_so_far();
         Ok(self.take_turn(alloc, choice)?.is_some())
     }
 

@@ -160,7 +160,7 @@ module _ (g : Given) (given_is : IsGiven g) (n : NodeState) (is : IsNodeOf g n) 
   faultless-begun : (p : ℕ) (op : Op) (to : Moved) → IsProc p → (proc_of n p).doing ≡ None → g.asks p (proc_of n p).heard ≡ Do op → MayMove p (begun g.opening n.desk p op) to → IsFaultless to
   faultless-begun p op to proc none wants may =
       always-may p IsFaultless (begun g.opening n.desk p op) to
-      (begun-faultless n.desk p is.desk proc g.opening op (agrees-at p proc None none) (subst IsWant wants (given_is.wants p (proc_of n p).heard (is.followed p proc).named))) may
+      (begun-faultless n.desk p is.desk proc g.opening op (agrees-at p proc None none) (subst IsWant wants (given_is.wants p (proc_of n p).heard (is.followed p proc).fitting (is.followed p proc).named))) may
 
   faultless-resumed : (p : ℕ) (o : BegunOp) (u : ObjectName) (k : ℕ) (accessed : Accessed) (to : Moved) → IsProc p → (proc_of n p).doing ≡ waiting o u k → gone_on n.desk p o.op ≡ Some accessed → MayMove p accessed to → IsFaultless to
   faultless-resumed p o u k accessed to proc doing goes may =

@@ -55,7 +55,7 @@ next-emits : (b : Bool) (n : NodeState) → (in_next_phase b n).emitted ≡ n.em
 next-emits true n = refl
 next-emits false n = refl
 
-did-emits : (g : Given) (n : NodeState) (what : What) (incoming : Incoming) (s : Stepped) → Did g n what incoming s → EmitsAt n s.node s.effects.sent
+pub did-emits : (g : Given) (n : NodeState) (what : What) (incoming : Incoming) (s : Stepped) → Did g n what incoming s → EmitsAt n s.node s.effects.sent
 did-emits g n what incoming s (paused p has none is) = refl
 did-emits g n what incoming s (finished p has none is) = refl
 did-emits g n what incoming s (began p op to has none is may) = moved-emits g n p (begun_at g n op) Stage.Starts to
@@ -145,7 +145,7 @@ other-frames n to e es differs =
     omega (arith, a, b)
 
 -- the count of one link after an event
-counted-after : (nodes : ℕ) → nodes ≤ 8 → (n after : NodeState) (x : Option Sent) (to : ℕ) → length n.emitted ≡ 8 → IsNode nodes to → EmitsAt n after x → IfSome x (λ y. IsNode nodes y.to)
+pub counted-after : (nodes : ℕ) → nodes ≤ 8 → (n after : NodeState) (x : Option Sent) (to : ℕ) → length n.emitted ≡ 8 → IsNode nodes to → EmitsAt n after x → IfSome x (λ y. IsNode nodes y.to)
     → emitted_to after to ≡ frames_in (frame_to to x) + emitted_to n to
 counted-after nodes few n after None to many node emits reaches = let e = ap (λ (xs : List ℕ). at xs to 0) emits in omega (arith, e)
 counted-after nodes few n after (Some x) to many node emits reaches =
@@ -163,7 +163,8 @@ counted-after nodes few n after (Some x) to many node emits reaches =
           omega (arith, none, now))
     ]
 
-many-after : (n after : NodeState) (x : Option Sent) → length n.emitted ≡ 8 → EmitsAt n after x → length after.emitted ≡ 8
+-- eight links are counted
+pub many-after : (n after : NodeState) (x : Option Sent) → length n.emitted ≡ 8 → EmitsAt n after x → length after.emitted ≡ 8
 many-after n after None many emits = ap (λ (xs : List ℕ). length xs) emits ∙ many
 many-after n after (Some x) many emits = ap (λ (xs : List ℕ). length xs) emits.0 ∙ rw length-set many
 
@@ -172,7 +173,8 @@ reaches nodes n t None x sent leads = subst (λ (o : Option Sent). IfSome o (λ 
 reaches nodes n t (Some m) None sent leads = absurd sent
 reaches nodes n t (Some m) (Some x) sent leads = subst (IsNode nodes) (sym sent.1) leads.1
 
-next-index : (nodes : ℕ) (n after : NodeState) (k : ℕ) (es : List Happening) (x : Option Sent) → EmitsAt n after x → IfSome x (λ y. IsNode nodes y.to)
+-- so a frame that is sent says the next number of its link
+pub next-index : (nodes : ℕ) (n after : NodeState) (k : ℕ) (es : List Happening) (x : Option Sent) → EmitsAt n after x → IfSome x (λ y. IsNode nodes y.to)
     → ((to : ℕ) → IsNode nodes to → emitted_to n to ≡ frames_on k to es) → IfSome x (λ y. y.index ≡ frames_on k y.to es + 1)
 next-index nodes n after k es None emits node counts = tt
 next-index nodes n after k es (Some x) emits node counts = let e = counts x.to node in let f = emits.1 in omega (arith, e, f)

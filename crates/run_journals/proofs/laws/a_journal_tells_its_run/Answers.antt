@@ -1,5 +1,6 @@
 use Rattle.std.proofs.Common.{◌≡◌, ℕ, ◌≤◌, List, length, map, refl, sym, ap, subst, arith}
 use Rattle.std.specs.Prelude.{reverse}
+use Rattle.uid_names.proofs.ListLemmas.{All-reverse}
 use Rattle.uid_names.proofs.Somes.{map-some}
 use Rattle.dom_history.specs.Events.{Happening}
 use Rattle.journal_text.specs.Written.{IsJournal, IsWritten}
@@ -7,7 +8,7 @@ use Rattle.node_runs.specs.Setups.{Setup, IsSetup}
 use Rattle.node_runs.specs.Runs.{AreRising, World, choice_of, world_of}
 use Rattle.world_runs.proofs.LostFrames.{done-is}
 use Rattle.run_journals.specs.Journals.{IsTimelyRun, journal_of}
-use Rattle.run_journals.proofs.Journals.{each-reverse, reverse-rises, same-reverse}
+use Rattle.run_journals.proofs.Journals.{reverse-rises, same-reverse}
 use Rattle.run_journals.proofs.laws.a_journal_tells_its_run.Goals as goal
 
 pub returns : goal.returns
@@ -15,7 +16,7 @@ returns c =
     let spelled : (s : Setup) → IsSetup s → (names : List (List ℕ)) → s.opening.nodes ≤ length names → (events : List Happening) → IsTimelyRun s events → IsJournal names (journal_of names events) (reverse events) =
     λ s setup names enough events is. record {
       text = refl;
-      written = each-reverse (IsWritten names) events (c.each_event_can_be_spelled.ensures s setup names enough events is);
+      written = All-reverse (IsWritten names) events (c.each_event_can_be_spelled.ensures s setup names enough events is);
       rising = reverse-rises events (subst AreRising (done-is s events is.world is.run is.leads) (c.places_rise.ensures.places s (map choice_of events) is.world is.leads));
     } in
     record {

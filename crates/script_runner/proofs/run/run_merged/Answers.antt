@@ -19,14 +19,14 @@ returns-clause-named c =
     let s = c.args.script.now in
     names_are s c.commands.ensures.content (subst IsStart c.opening.ensures.value c.nodes-start.ensures.start) (unwrap_or c.args.turns 0) c.args.last_tick c.requires.few
     c.in_ok-events.events.events c.in_ok-events.shells.items c.in_ok-events.ensures.run
-    c.a_seed_picks_one_run_of_a_script.ensures.ended c.ended_runs_of_scripts_name_their_nodes.ensures
+    c.ended_runs_of_scripts_name_their_nodes.ensures
 
 pub returns-clause-ran : goal.returns-clause-ran
 returns-clause-ran c =
     let s = c.args.script.now in
     let procs : c.as_slice-2.result.now ≡ processes_of c.args.script.now.commands = c.as_slice-2.ensures.value ∙ (c.in_ok-procs.ensures ∙ ap processes_of c.commands.ensures.value) in
     ran_is s c.commands.ensures.content (subst IsStart c.opening.ensures.value c.nodes-start.ensures.start) (unwrap_or c.args.turns 0) c.args.last_tick c.requires.few
-    c.in_ok-events.events.events c.in_ok-events.shells.items c.in_ok-events.ensures.run c.a_seed_picks_one_run_of_a_script.ensures.ended
+    c.in_ok-events.events.events c.in_ok-events.shells.items c.in_ok-events.ensures.run
     c.args.turns refl c.a_seed_picks_one_run_of_a_script.ensures.not_both c.ended_runs_of_scripts_are_as_one_store.ensures c.answers_are_functions_of_histories.ensures.picked (c.shells_go_by_all_they_heard.ensures.answers s)
     c.as_slice-2.result.now procs c.in_ok-answers.answers
     (c.in_ok-answers.ensures ∙ ap (λ shells. map (row_in shells) c.as_slice-2.result.now) c.as_slice.ensures.value)

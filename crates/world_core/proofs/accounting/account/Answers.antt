@@ -1,21 +1,7 @@
-use Rattle.std.proofs.Common.{◌≡◌, ◌∙◌, sym, rules}
-use Rattle.std.specs.Prelude.{count_by}
-use Rattle.std.proofs.lemmas.List.Sums.{length-filter}
-use Rattle.dom_history.specs.Events.{Happening}
-use Rattle.run_faults.specs.LinkFaults.{is_fault_end}
-use Rattle.world_core.specs.Accounts.{is_notice}
-use Rattle.world_core.proofs.Counted.{notices-counted}
+use Rattle.run_accounts.proofs.Accounted.{accounts-same}
 use Rattle.world_core.proofs.accounting.account.Goals as goal
 
-pub returns-clause-link_faults : goal.returns-clause-link_faults
-returns-clause-link_faults c =
-    let counted : _ ≡ count_by (λ (e : Happening). is_fault_end e.effects.ended) c.args.events.now = search rules in
-    counted ∙ sym (length-filter (λ (e : Happening). is_fault_end e.effects.ended) c.args.events.now)
-
-pub returns-clause-notices : goal.returns-clause-notices
-returns-clause-notices c =
-    let counted : _ ≡ count_by (λ (e : Happening). is_notice e.what) c.args.events.now = search rules in
-    counted ∙ notices-counted c.args.events.now
-
-pub returns-clause-marked : goal.returns-clause-marked
-returns-clause-marked c = search rules
+pub returns-clause-of_a_run : goal.returns-clause-of_a_run
+returns-clause-of_a_run c =
+    accounts-same c.args.plan.now c.args.events.now _ _ _ _ _ _ c.counted.ensures.link_faults c.counted.ensures.notices c.counted.ensures.marked
+    (c.an_account_is_of_its_run.ensures c.args.plan.now c.args.events.now)

@@ -7,7 +7,7 @@ use Rattle.node_core.proofs.Beginning.{asked-first, on-told}
 use Rattle.node_core.proofs.machine.Machine.ask_first.Goals as goal
 
 pub tell_program-requires-clause-wanted : goal.tell_program-requires-clause-wanted
-tell_program-requires-clause-wanted g c p = c.requires.kept.given.wants p [] (All-nil (λ (told : Option Reply). IfSome told IsNamedReply))
+tell_program-requires-clause-wanted g c p = c.requires.kept.given.wants p [] tt (All-nil (λ (told : Option Reply). IfSome told IsNamedReply))
 
 pub returns : goal.returns
 returns g c =

@@ -6,12 +6,12 @@ use Rattle.world_runs.specs.Draws.{EndsIn, ComesToLast}
 use Rattle.node_core.specs.Nodes.{state_of}
 use Rattle.node_core.specs.declared.fault.RunFault.{RunFault}
 use Rattle.node_core.specs.declared.fault.RunFault.TheVariants as faults
+use Rattle.world_core.specs.SoFar.{IsRightSoFar}
 use Rattle.world_core.specs.Stands.{IsTurnAt}
 use Rattle.world_core.proofs.OnOks.{same_fault}
 use Rattle.world_core.proofs.Running.{IsRunning, starts, stations-below, few-turns, goes-on, comes-to-last, ends-in}
 use Rattle.world_core.proofs.Logs.{are-logs, merged-is}
 use Rattle.world_core.proofs.Ending.{are-numbered, are-ended}
-use Rattle.world_core.proofs.OneStore.{one-store}
 use Rattle.world_core.proofs.world.World.run_merged.Goals as goal
 
 pub loop-turn-init : goal.loop-turn-init
@@ -89,10 +89,9 @@ returns-in-None-clause-run g c = λ made s stands.
       world = is.world;
       ends = subst (λ (plan : List FateRow). EndsIn s plan c.args.seed c.args.last_tick is.world) c.loop-turn.invariant.0 ends;
       ended = c.no_turn_is_stuck.ensures.ended s c.loop-turn.world.plan is.stands.setup is.stands.choices is.world is.stands.turns is.stands.timely ended.0;
-      one_store =
-          one-store c.turns_are_a_run_by_place.ensures.leads c.each_history_is_one_of_one_store.ensures c.a_home_has_all_at_an_unlock.ensures
-          s c.loop-turn.world.plan is.stands.setup is.stands.choices is.world is.stands.turns is.stands.timely;
-      recent = c.turns_are_recent.ensures.turns s is.stands.setup c.loop-turn.world.plan is.stands.choices is.world is.stands.turns is.stands.timely;
+      so_far =
+          subst (λ (plan : List FateRow). IsRightSoFar s plan is.world) c.loop-turn.invariant.0
+          (c.turns_are_right_so_far.ensures s c.loop-turn.world.plan is.stands.setup is.stands.plan is.stands.choices is.world is.stands.turns is.stands.timely);
       events_are = merged-is g.P.Program.wants g.P.Program.becomes made s c.take_turn.new.self is.world ended.1 c.args.seed c.args.last_tick c.requires.greatest here c.in_ok-end-in-None.field-0.0.events c.in_ok-end-in-None.ensures.events;
       programs_are = are-ended g.P.Program.wants g.P.Program.becomes made s c.take_turn.new.self is.world ended.1 c.in_ok-end-in-None.field-0.1.items c.in_ok-end-in-None.ensures.programs;
     })

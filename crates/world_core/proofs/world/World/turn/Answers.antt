@@ -10,7 +10,6 @@ use Rattle.world_runs.specs.Turns.{enabled_events, turn, after_turns}
 use Rattle.world_runs.proofs.Happening.{none-turn, none-some}
 use Rattle.world_core.specs.declared.world.World.{World}
 use Rattle.world_core.specs.Stands.{Stands, IsTurn, IsTurnAt, TellsEnd}
-use Rattle.world_core.proofs.OneStore.{one-store}
 use Rattle.world_core.proofs.world.World.turn.Goals as goal
 
 -- a turn of some node is one
@@ -42,10 +41,5 @@ returns-clause-turn g c = λ made s w stands.
     subst (λ (b : Bool). IsTurn g.P.Program.wants g.P.Program.becomes made s c.args.self.now c.take_turn.new.self w c.args.choice b) (sym c.is_some.ensures)
     (turn-at g.P.Program.wants g.P.Program.becomes made s c.args.self.now c.take_turn.new.self w c.args.choice c.in_ok-take_turn.field-0 (c.in_ok-take_turn.ensures.turn made s w stands))
 
-pub returns-clause-one_store : goal.returns-clause-one_store
-returns-clause-one_store g c = λ made s w stands.
-    one-store c.turns_are_a_run_by_place.ensures.leads c.each_history_is_one_of_one_store.ensures c.a_home_has_all_at_an_unlock.ensures
-    s c.take_turn.new.self.plan stands.setup stands.choices w stands.turns stands.timely
-
-pub returns-clause-recent : goal.returns-clause-recent
-returns-clause-recent g c = λ made s w stands. c.turns_are_recent.ensures.turns s stands.setup c.take_turn.new.self.plan stands.choices w stands.turns stands.timely
+pub returns-clause-so_far : goal.returns-clause-so_far
+returns-clause-so_far g c = λ made s w stands. c.turns_are_right_so_far.ensures s c.take_turn.new.self.plan stands.setup stands.plan stands.choices w stands.turns stands.timely

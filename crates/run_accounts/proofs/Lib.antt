@@ -1,0 +1,5 @@
+pub mod Counted
+pub mod Numbers
+pub mod Reversed
+pub mod Marked
+pub mod Accounted
