@@ -6,14 +6,10 @@
 //! it into a file of `data/`, and its name into `stdout`.
 #![tactic(auto)]
 
-mod case;
-mod trial;
-
 use anyhow::Result;
-use case::Case;
 use case_files::{FileCase, read_cases};
+use case_trials::{Case, Tried, try_case};
 use std::fs;
-use trial::{Tried, try_case};
 
 /// How many cases were tried, in how many runs, and how many of them came out otherwise than they are to.
 #[derive(Clone, Copy)]

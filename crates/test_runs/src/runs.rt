@@ -1,4 +1,4 @@
-//! What no case of run_cases tries: calls in memory that find what they want, streams that fail, and the last tick.
+//! What no case of run_cases tries: calls in memory that find what they want, streams in memory that fail, and the last tick.
 use dom_io::{MemSink, MemSource};
 use node_core::RunFault;
 use script_reader::read_script;
@@ -6,7 +6,6 @@ use script_runner::{run_domain, run_script};
 use std::alloc::Global;
 use std::test::Fail;
 use uid_names::NodeId;
-use world_core::{Account, account};
 
 const FIRST_RUN: &[u8] =
     b"node a\na.1 new x 1\na.1 lock x w\na.1 store x 0 \"hi\"\na.1 load x 0 2\na.1 unlock x\n";
@@ -68,57 +67,5 @@ fn the_last_tick_ends_a_run(rt: HostRuntime) -> Result<(), Fail> {
     assert_eq!(rt; last, Err(RunFault::TickLimit(node)));
     let whole = run_script(rt.alloc(), &script, Some(0), 20).map(|_| ());
     assert_eq!(rt; whole, Ok(()));
-    Ok(())
-}
-
-/// The account of a run in the turns of 3.
-fn account_of(alloc: Global, text: &[u8]) -> Result<Account, Fail> {
-    let script = read_script(alloc, text)?;
-    match run_script(alloc, &script, Some(3), 1_000_000) {
-        Ok(ran) => Ok(account(&ran.events, script.plan())),
-        Err(_) => Err("no run".into()),
-    }
-}
-
-#[test]
-fn an_account_has_faults_notices_and_frames(rt: HostRuntime) -> Result<(), Fail> {
-    let rows: [(&[u8], u64, u64, u64); 4] = [
-        // Eight answers to a lock are lost.
-        (
-            b"node a\nnode b\nobject x 1 b\nfault b a 1 lose\nfault b a 2 lose\nfault b a 3 lose\nfault b a 4 lose\nfault b a 5 lose\nfault b a 6 lose\nfault b a 7 lose\nfault b a 8 lose\na.1 lock x w\n",
-            1,
-            8,
-            8,
-        ),
-        // Eight requests for a new object are late.
-        (
-            b"node a\nnode b\nfault a b 1 late 8\nfault a b 2 late 8\nfault a b 3 late 8\nfault a b 4 late 8\nfault a b 5 late 8\nfault a b 6 late 8\nfault a b 7 late 8\nfault a b 8 late 8\na.1 new y 1 b\n",
-            1,
-            8,
-            8,
-        ),
-        // One that is late is asked again.
-        (
-            b"node a\nnode b\nobject x 1 b\nfault a b 1 late 1\na.1 lock x w\na.1 store x 0 \"s\"\na.1 unlock x\n",
-            0,
-            1,
-            1,
-        ),
-        // One that comes twice is told to nobody.
-        (
-            b"node a\nnode b\nobject x 1 b\nfault a b 1 twice 1\na.1 lock x w\na.1 store x 0 \"s\"\na.1 unlock x\n",
-            0,
-            0,
-            0,
-        ),
-    ];
-    for (text, link_faults, notices, marked) in rows {
-        let expected = Account {
-            link_faults,
-            notices,
-            marked,
-        };
-        assert_eq!(rt; account_of(rt.alloc(), text)?, expected, "{text:?}");
-    }
     Ok(())
 }

@@ -3,19 +3,65 @@ use dom_io::{
     MemSink, MemSource, ReadEnd, RealSink, RealSource, Sink, Source, Took, WriteFault, read_all,
     write_all,
 };
+use std::alloc::Global;
 use std::io;
-use std::io::Read;
+use std::io::{Read, Write};
 use std::test::Fail;
 
-/// A reader whose every read fails.
+/// A reader whose every read fails so.
 #[derive(Drop)]
-struct Broken;
+struct Broken(io::ErrorKind);
 
 impl Read for Broken {
     fn read(&mut self, _buf: &mut [u8]) -> io::Result<usize> {
-        Err(io::Error::from(io::ErrorKind::BrokenPipe))
+        Err(io::Error::from(self.0))
     }
 }
+
+/// A writer that takes one byte at a time. Its call of this number fails so, where writes and flushes are counted from 1 in turn.
+#[derive(Drop)]
+struct Frail {
+    written: Vec<u8>,
+    calls: u8,
+    bad_call: u8,
+    kind: io::ErrorKind,
+}
+
+impl Frail {
+    fn new(alloc: Global, bad_call: u8, kind: io::ErrorKind) -> Frail {
+        Frail {
+            written: Vec::new(alloc),
+            calls: 0,
+            bad_call,
+            kind,
+        }
+    }
+
+    /// Fails at the call that is to fail.
+    fn call(&mut self) -> io::Result<()> {
+        self.calls = self.calls.saturating_add(1);
+        if self.calls == self.bad_call {
+            return Err(io::Error::from(self.kind));
+        }
+        Ok(())
+    }
+}
+
+impl Write for Frail {
+    fn write(&mut self, buf: &[u8]) -> io::Result<usize> {
+        self.call()?;
+        let count = buf.len().min(1);
+        self.written.extend_from_slice(&buf[..count])?;
+        Ok(count)
+    }
+
+    fn flush(&mut self) -> io::Result<()> {
+        self.call()
+    }
+}
+
+/// The ways in which calls of readers and writers fail here: one is no fault to std, which would call again.
+const KINDS: [io::ErrorKind; 2] = [io::ErrorKind::BrokenPipe, io::ErrorKind::Interrupted];
 
 #[test]
 fn a_long_text_is_read_in_pieces(rt: HostRuntime) -> Result<(), Fail> {
@@ -74,9 +120,11 @@ fn a_reader_is_read_to_its_end(rt: HostRuntime) -> Result<(), Fail> {
     let mut source = RealSource::new(b"short ".as_slice().chain(b"reads".as_slice()));
     let list = read_all(rt.alloc(), &mut source, 100)?;
     assert_eq!(rt; list.bytes(), b"short reads".as_slice());
-    let mut broken = RealSource::new(b"short ".as_slice().chain(Broken));
-    let fault = read_all(rt.alloc(), &mut broken, 100).err();
-    assert_eq!(rt; fault, Some(ReadEnd::ReadFault));
+    for kind in KINDS {
+        let mut broken = RealSource::new(b"short ".as_slice().chain(Broken(kind)));
+        let fault = read_all(rt.alloc(), &mut broken, 100).err();
+        assert_eq!(rt; fault, Some(ReadEnd::ReadFault));
+    }
     Ok(())
 }
 
@@ -92,5 +140,28 @@ fn a_writer_gets_every_byte(rt: HostRuntime) -> Result<(), Fail> {
     let mut sink = RealSink::new(small.as_mut_slice());
     assert_eq!(rt; write_all(&mut sink, b"abcd"), Err(WriteFault));
     assert_eq!(rt; small, *b"abc");
+    Ok(())
+}
+
+#[test]
+fn a_writer_that_fails_is_a_fault(rt: HostRuntime) -> Result<(), Fail> {
+    // A write, its flush, the next write: the byte that was taken before stays.
+    let rows: [(u8, &[u8]); 4] = [(1, b""), (2, b"a"), (3, b"a"), (6, b"abc")];
+    for (bad_call, written) in rows {
+        for kind in KINDS {
+            let mut writer = Frail::new(rt.alloc(), bad_call, kind);
+            let mut sink = RealSink::new(&mut writer);
+            assert_eq!(rt;
+                write_all(&mut sink, b"abc"),
+                Err(WriteFault),
+                "at call {bad_call}"
+            );
+            assert_eq!(rt; writer.written.as_slice(), written, "at call {bad_call}");
+        }
+    }
+    let mut writer = Frail::new(rt.alloc(), 7, io::ErrorKind::BrokenPipe);
+    let mut sink = RealSink::new(&mut writer);
+    assert_eq!(rt; write_all(&mut sink, b"abc"), Ok(()));
+    assert_eq!(rt; writer.written.as_slice(), b"abc".as_slice());
     Ok(())
 }
