@@ -1,5 +1,5 @@
 //! How the machines of commands go on.
-ghost use Rattle.std.specs.Prelude.{◌≡◌, Some, None, IfOk, IfSome, IsSome, option_map};
+ghost use Rattle.std.specs.Prelude.{◌≡◌, Some, None, IfOk, OnErr, IfSome, IsSome, option_map};
 ghost use Rattle.std.specs.Option.{option_copied};
 ghost use Rattle.command_talks.specs.FileTalks.{over_turn};
 ghost use Rattle.command_talks.specs.FileTurns.{file_says, Asks as FileAsks};
@@ -110,12 +110,19 @@ impl Talk {
 }
 
 impl Machine {
-    /// Tells it the reply to its operation; nothing at the first call.
+    /// Tells it the reply to its operation; nothing at the first call. Where there is no memory it is over.
     pub fn next(&mut self, alloc: Global, last: Option<&Reply>) -> Result<TalkStep, NoMemory>
         requires { MayBeTold self.old (option_copied last) }
         ensures turn { IfOk result (λ step. Some (turn_by step self.new) ≡ talk_turn self.old (option_copied last.entry)) }
         ensures asks { IfOk result (λ step. AsksThere (turn_by step self.new)) }
+        ensures memory { OnErr result (self.new ≡ File None) }
     {
-        self.talk.next(alloc, last)
+        match self.talk.next(alloc, last) {
+            Ok(step) => Ok(step),
+            Err(error) => {
+                *self.talk = Talk::File(None);
+                Err(error)
+            }
+        }
     }
 }

@@ -1,5 +1,5 @@
 //! Names that are looked up one after the other.
-ghost use Rattle.std.specs.Prelude.{◌≡◌, ◌++◌, ◌∷◌, [], drop, List, ℕ, Some, None, MatchOption, IfOk, OnOk};
+ghost use Rattle.std.specs.Prelude.{◌≡◌, ◌++◌, ◌∷◌, [], drop, List, ℕ, Some, None, MatchOption, OnOk, OnErr};
 ghost use Rattle.dir_records.specs.LastNames.{last_of};
 
 use crate::component::Component;
@@ -35,9 +35,10 @@ impl Names {
         }
     }
 
-    /// Puts a name last.
+    /// Puts a name last; without memory the names stay as they were.
     pub fn push(&mut self, name: Component) -> Result<(), NoMemory>
-        ensures { OnOk result (self.new ≡ self.old ++ name ∷ []) }
+        ensures ok { OnOk result (self.new ≡ self.old ++ name ∷ []) }
+        ensures err { OnErr result (self.new ≡ self.old) }
     {
         self.items.push(name)?;
         Ok(())
@@ -85,9 +86,10 @@ impl Names {
         &self.items[self.passed..]
     }
 
-    /// Puts names last.
+    /// Puts names last; without memory the names stay as they were.
     pub fn extend(&mut self, more: &Names) -> Result<(), NoMemory>
-        ensures { OnOk result (self.new ≡ self.old ++ more.now) }
+        ensures ok { OnOk result (self.new ≡ self.old ++ more.now) }
+        ensures err { OnErr result (self.new ≡ self.old) }
     {
         self.items.extend_from_slice(more.items())?;
         Ok(())

@@ -1,5 +1,5 @@
 //! Reads a line's tokens from the left.
-ghost use Rattle.std.specs.Prelude.{◌≡◌, ◌≢◌, ◌<◌, ◌≤◌, false, ℕ, All, IsTrue, length, take, slice_index, List, [], ◌∷◌, ◌++◌, Ok, IfOk, IfErr, IfSome, IfNone};
+ghost use Rattle.std.specs.Prelude.{◌≡◌, ◌≢◌, ◌<◌, ◌≤◌, false, ℕ, All, IsTrue, length, take, slice_index, List, [], ◌∷◌, ◌++◌, Ok, IfOk, IfErr, OnErr, IfSome, IfNone};
 ghost use Rattle.dom_text.specs.Answers.{Gives, text_answer, text_refusal};
 ghost use Rattle.dom_text.specs.Lent.{lent_answer, owned_token};
 ghost use Rattle.dom_text.specs.Tokens.{tokens_of, fault_at as fault_of_byte, is_blank as is_blank_byte};
@@ -57,18 +57,37 @@ pub fn tokens(alloc: Global, line: &[u8]) -> Result<ItemList<Token>, TextFault>
     Ok(found)
 }
 
-/// Makes a list hold the tokens of a line without its end, whatever it held. The first fault from the left decides.
+/// Makes a list hold the tokens of a line without its end, whatever it held; none where the line has a fault, or there is no
+/// memory. The first fault from the left decides.
 pub fn lend_tokens<'a>(
     list: &mut Vec<TokenRef<'a>>,
     alloc: Global,
     line: &'a [u8],
 ) -> Result<(), TextFault>
-    ensures { Gives (lent_answer list.new.items result) (tokens_of line.now) }
+    ensures tokens { Gives (lent_answer list.new.items result) (tokens_of line.now) }
+    ensures refused { OnErr result (list.new.items ≡ []) }
 {
-    list.clear();
+    match put_tokens(list, alloc, line) {
+        Ok(()) => Ok(()),
+        Err(fault) => {
+            list.clear();
+            Err(fault)
+        }
+    }
+}
+
+/// Makes a list hold the tokens of a line without its end, whatever it held; those in front of a fault where it has one.
+fn put_tokens<'a>(
+    found: &mut Vec<TokenRef<'a>>,
+    alloc: Global,
+    line: &'a [u8],
+) -> Result<(), TextFault>
+    ensures { Gives (lent_answer found.new.items result) (tokens_of line.now) }
+{
+    found.clear();
     let mut rest = line;
     while let Some((token, behind)) = next_token(alloc, rest)? {
-        list.push(token)?;
+        found.push(token)?;
         rest = behind;
     }
     Ok(())

@@ -1,8 +1,6 @@
 -- The parts of a line are short.
-use Rattle.std.proofs.Common.{◌≡◌, ℕ, ◌+◌, ◌-◌, ◌*◌, ◌^◌, ◌<◌, ◌≤◌, Option, Some, None, List, [], ◌++◌, codes, decimal, length, take, get_or, refl, sym, ap, subst, length-append, arith}
-use Rattle.std.specs.Prelude.{slice_get, unwrap_or}
+use Rattle.std.proofs.Common.{◌≡◌, ℕ, ◌+◌, ◌*◌, ◌^◌, ◌<◌, ◌≤◌, List, [], ◌++◌, codes, decimal, length, take, get_or, refl, sym, ap, subst, length-append, arith}
 use Rattle.std.proofs.lemmas.Fmt.{length-decimal-le}
-use Rattle.std.proofs.lemmas.Option.{slice_get_within, get_or_from_slice_get}
 use Rattle.hex.specs.Hex.{encode_with}
 use Rattle.uid_names.specs.FrameKinds.{kind_name}
 use Rattle.uid_names.specs.declared.frame_kind.FrameKind.{FrameKind}
@@ -14,21 +12,13 @@ use Rattle.uid_names.specs.declared.ids.Place.{Place}
 use Rattle.dom_history.specs.Events.{IsKindNumber}
 use Rattle.dom_history.specs.NodeTexts.{AreNodeNames}
 use Rattle.node_texts.specs.Texts.{node_text}
+use Rattle.node_texts.proofs.Short.{name_short}
 use Rattle.journal_text.specs.Lines.{numbered_text, place_text, kind_text, drop_text}
 use Rattle.journal_text.proofs.Drops.{one_more}
 use Rattle.journal_text.proofs.KindNames.{kind_text_of}
 
 pub digits_short : (n : ℕ) → n < 2 ^ 64 → length (decimal n) ≤ 20
 digits_short n fits = length-decimal-le 20 n (omega arith) (omega arith) fits
-
-name-in-short : (names : List (List ℕ)) (k : ℕ) (found : Option (List ℕ)) → AreNodeNames names → slice_get names k ≡ found → length (unwrap_or found []) ≤ 32
-name-in-short names k None are is = omega arith
-name-in-short names k (Some name) are is =
-    subst (λ (n : List ℕ). length n ≤ 32) (get_or_from_slice_get names k name [] is) (are.texts k [] (slice_get_within names k name is)).few
-
--- the name of a node
-pub name_short : (names : List (List ℕ)) (n : ℕ) → AreNodeNames names → length (node_text names n) ≤ 32
-name_short names n are = name-in-short names (n - 1) (slice_get names (n - 1)) are refl
 
 pub numbered_short : (names : List (List ℕ)) (node n : ℕ) → AreNodeNames names → length (decimal n) ≤ 20 → length (numbered_text names node n) ≤ 53
 numbered_short names node n are digits =

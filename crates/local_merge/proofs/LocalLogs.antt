@@ -17,12 +17,12 @@ use Rattle.local_runs.proofs.Alone.{last-of}
 use Rattle.local_merge.specs.Logs.{AreLogsOf}
 use Rattle.local_merge.specs.Merges.{AreApart}
 
-own-node : (n : ℕ) (own : List Own) → AllByRecursion (λ x. x.event.place.node ≡ n) own → AllByRecursion (λ (e : Happening). e.place.node ≡ n) (events_in own)
+pub own-node : (n : ℕ) (own : List Own) → AllByRecursion (λ x. x.event.place.node ≡ n) own → AllByRecursion (λ (e : Happening). e.place.node ≡ n) (events_in own)
 own-node n [] all = tt
 own-node n (x ∷ own) all = (all.0, own-node n own all.1)
 
 -- the events of a node alone rise
-own-rising : (s : Setup) (n : ℕ) (own : List Own) (w : World) → IsLocalRun s n own w → AreRising (events_in own)
+pub own-rising : (s : Setup) (n : ℕ) (own : List Own) (w : World) → IsLocalRun s n own w → AreRising (events_in own)
 own-rising s n [] w is = tt
 own-rising s n (x ∷ older) w is =
     let after = last-of s n x older w is in

@@ -1,6 +1,6 @@
 -- Copies that stand in another order, by their numbers.
 use Rattle.std.proofs.Common.{◌≡◌, ◌∙◌, Bool, true, false, cond, List, [], ◌∷◌, ◌++◌, get_or, refl, sym, ap, arith}
-use Rattle.std.specs.Prelude.{nat_lt, filter, if◌then◌else◌, All}
+use Rattle.std.specs.Prelude.{filter, if◌then◌else◌, All}
 use Rattle.std.proofs.lemmas.Bool.Decides.{nat_tests}
 use Rattle.std.proofs.lemmas.List.Elements.{All-nil, All-cons, All-head, All-tail, All-filter}
 use Rattle.uid_names.specs.InOrder.{put_in_order}

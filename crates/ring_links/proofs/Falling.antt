@@ -1,13 +1,13 @@
 -- Copies in the order in which they fall: those that fall behind the next frame come first.
 use Rattle.std.proofs.Common.{◌≡◌, ◌∙◌, ◌≢◌, ℕ, ◌+◌, ◌<◌, ◌≤◌, Bool, true, false, cond, List, [], ◌∷◌, ◌++◌, map, get_or, drop, refl, sym, ap, subst, append-nil, eq-eqb, ne_eqb, arith}
-use Rattle.std.specs.Prelude.{◌==◌, nat_lt, not, ◌&&◌, ◌||◌, filter, Option, IfSome, IfNone, slice_get, All, AllPairs, IsTrue}
+use Rattle.std.specs.Prelude.{◌==◌, not, filter, Option, IfSome, IfNone, slice_get, All, IsTrue}
 use Rattle.std.proofs.lemmas.Bool.{eqb-true}
 use Rattle.std.proofs.lemmas.Bool.Decides.{nat_tests}
 use Rattle.std.proofs.lemmas.List.{append_assoc}
 use Rattle.std.proofs.lemmas.List.Elements.{All-nil, All-cons, All-head, All-tail, All-filter, All-weaker, filter_passes}
 use Rattle.uid_names.specs.InOrder.{AreInOrder}
 use Rattle.uid_names.proofs.Finds.{filter-all, filter-none}
-use Rattle.uid_names.proofs.InOrder.{AllPairs-head, AllPairs-tail, AllPairs-nil}
+use Rattle.uid_names.proofs.InOrder.{AllPairs-head, AllPairs-tail}
 use Rattle.ring_links.specs.declared.entry.Entry.{Entry}
 use Rattle.ring_links.specs.declared.link.Later.{Later}
 use Rattle.ring_links.specs.Carried.{copy_of, falling, staying}
@@ -106,9 +106,9 @@ module _ {A : Type 0} where
   pub record AreFalling (frames : ℕ) (before : List (Entry A)) (old : List (Later A)) (waiting : List (Entry A)) (later : List (Later A)) : Type 0 where
     pub falls : waiting ++ falling (frames + 1) later ≡ before ++ falling (frames + 1) old
     pub stays : staying (frames + 1) later ≡ staying (frames + 1) old
-    pub are : AreLater frames frames later
+    pub are : AreLater (frames + 1) frames later
 
-  pub none-fell : (frames : ℕ) (before : List (Entry A)) (old : List (Later A)) → AreLater frames frames old → AreFalling frames before old before old
+  pub none-fell : (frames : ℕ) (before : List (Entry A)) (old : List (Later A)) → AreLater (frames + 1) frames old → AreFalling frames before old before old
   none-fell frames before old are = record { falls = refl; stays = refl; are = are }
 
   -- one more fell
@@ -122,14 +122,14 @@ module _ {A : Type 0} where
             ∙ ap (λ (es : List (Entry A)). waiting ++ es) (sym (first-falls (frames + 1) c rest same))
             ∙ here.falls;
         stays = sym (first-goes (frames + 1) c rest same) ∙ here.stays;
-        are = less-later frames frames c rest here.are;
+        are = less-later (frames + 1) frames c rest here.are;
       }
 
   -- all fell where the first does not fall
   pub all-fell : (frames : ℕ) (before : List (Entry A)) (old : List (Later A)) (waiting : List (Entry A)) (later : List (Later A))
       → AreInOrder falls_before old → AreFalling frames before old waiting later → is_behind (frames + 1) (slice_get later 0) ≡ false → HaveFallen frames before waiting old later
   all-fell frames before old waiting later order fell none =
-      let ahead : All (λ (c : Later A). frames + 1 < c.behind) later = later-ahead frames frames later fell.are none in
+      let ahead : All (λ (c : Later A). frames + 1 < c.behind) later = later-ahead (frames + 1) frames later fell.are none in
       record {
         waits =
             sym (append-nil waiting)
@@ -146,18 +146,4 @@ module _ {A : Type 0} where
     rising = are.rising;
     numbers = All-weaker (λ (c : Later A). c.index ≤ sent) (λ (c : Later A). c.index ≤ sent + 1) (λ c h. omega (arith, h)) cs are.numbers;
     ahead = are.ahead;
-  }
-
-  pub still_later : (sent past : ℕ) (cs : List (Later A)) → AreLater sent (past + 1) cs → AreLater sent past cs
-  still_later sent past cs are = record {
-    rising = are.rising;
-    numbers = are.numbers;
-    ahead = All-weaker (λ (c : Later A). past + 1 < c.behind) (λ (c : Later A). past < c.behind) (λ c h. omega (arith, h)) cs are.ahead;
-  }
-
-  pub none_later : (sent past : ℕ) → AreLater {A = A} sent past []
-  none_later sent past = record {
-    rising = AllPairs-nil Before;
-    numbers = All-nil (λ (c : Later A). c.index ≤ sent);
-    ahead = All-nil (λ (c : Later A). past < c.behind);
   }

@@ -1,5 +1,5 @@
 -- A link whose entries carry what is received of them.
-use Rattle.std.specs.Prelude.{◌≡◌, ℕ, ◌+◌, ◌==◌, not, Some, List, [], ◌∷◌, ◌++◌, map, filter, length, All}
+use Rattle.std.specs.Prelude.{◌≡◌, ℕ, ◌+◌, ◌==◌, Bool, true, false, not, Some, List, [], ◌∷◌, ◌++◌, map, filter, length, All}
 use Rattle.dom_history.specs.declared.plan.Fate.{Fate}
 use Rattle.node_runs.specs.Deliveries.{in_place}
 use Rattle.node_runs.specs.Runs.{numbered}
@@ -26,6 +26,14 @@ copy_of x index = record { waiting = Copy index; received = x }
 abbrev pub mark_of : {A : Type 0} → A → ℕ → Entry A
 mark_of x phase = record { waiting = Mark phase; received = x }
 
+-- it is a mark
+abbrev pub is_mark_name : Waiting → Bool
+is_mark_name (Copy index) = false
+is_mark_name (Mark phase) = true
+
+abbrev pub is_mark : {A : Type 0} → Entry A → Bool
+is_mark e = is_mark_name e.waiting
+
 abbrev pub later_copy : {A : Type 0} → A → links.Later → Later A
 later_copy x c = record { index = c.index; behind = c.behind; received = x }
 
@@ -39,10 +47,6 @@ staying j later = filter (λ c. not (c.behind == j)) later
 -- a copy of the next frame, where so many were sent, that falls behind so many later ones
 abbrev pub own_copy : {A : Type 0} → ℕ → ℕ → A → Later A
 own_copy frames after x = record { index = frames + 1; behind = frames + 1 + after; received = x }
-
--- one frame more was sent: the copies that fall behind it wait
-abbrev pub fallen : {A : Type 0} → Carrying A → Carrying A
-fallen l = record { frames = l.frames + 1; queue = l.queue ++ falling (l.frames + 1) l.later; later = staying (l.frames + 1) l.later }
 
 -- a frame of this fate is sent
 abbrev pub frame_sent : {A : Type 0} → Fate → A → Carrying A → Carrying A

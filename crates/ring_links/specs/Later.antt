@@ -3,7 +3,7 @@ use Rattle.std.specs.Prelude.{◌≡◌, ℕ, ◌+◌, ◌<◌, ◌≤◌, ◌==
 use Rattle.uid_names.specs.InOrder.{AreInOrder, put_in_order}
 use Rattle.ring_links.specs.declared.entry.Entry.{Entry}
 use Rattle.ring_links.specs.declared.link.Later.{Later}
-use Rattle.ring_links.specs.Carried.{falling, staying, own_copy}
+use Rattle.ring_links.specs.Carried.{falling, staying}
 
 -- the copy falls before one of this number that falls behind this frame: behind an earlier frame, or behind the same with a lower number
 abbrev pub is_before : {A : Type 0} → ℕ → ℕ → Later A → Bool
@@ -32,14 +32,8 @@ pub record AreLater {A : Type 0} (sent past : ℕ) (later : List (Later A)) : Ty
   pub numbers : All (λ c. c.index ≤ sent) later
   pub ahead : All (λ c. past < c.behind) later
 
--- so many frames were sent, and those of the copies that fall behind the next one wait: of what waited before and of the old copies
+-- a frame more than so many was sent, and those of the copies that fall behind it wait: of what waited before and of the old copies
 pub record HaveFallen {A : Type 0} (frames : ℕ) (before waiting : List (Entry A)) (old later : List (Later A)) : Type 0 where
   pub waits : waiting ≡ before ++ falling (frames + 1) (by_number old)
   pub stays : by_number later ≡ staying (frames + 1) (by_number old)
-  pub ahead : AreLater frames (frames + 1) later
-
--- and then the next frame's own copy, which falls behind so many later ones, waits or stays
-pub record HasOwn {A : Type 0} (frames after : ℕ) (x : A) (before waiting : List (Entry A)) (old later : List (Later A)) : Type 0 where
-  pub waits : waiting ≡ before ++ falling (frames + 1) (own_copy frames after x ∷ [])
-  pub stays : by_number later ≡ by_number old ++ staying (frames + 1) (own_copy frames after x ∷ [])
   pub ahead : AreLater (frames + 1) (frames + 1) later

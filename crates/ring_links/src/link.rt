@@ -1,12 +1,12 @@
 //! A link from a node to a node, or to itself: what was sent there and waits to be taken, by the fates of frames.
-ghost use Rattle.std.specs.Prelude.{◌≡◌, ◌+◌, ◌^◌, ◌<◌, ◌≤◌, ◌++◌, ◌∷◌, [], drop, slice_get, OnOk, OnErr, IfSome, IfNone, false};
-ghost use Rattle.std.specs.List.{prefix_len};
+ghost use Rattle.std.specs.Prelude.{◌≡◌, ◌+◌, ◌^◌, ◌<◌, ◌≤◌, ◌++◌, ◌∷◌, [], drop, length, slice_get, OnOk, OnErr, IfSome, IfNone, false};
+ghost use Rattle.std.specs.List.{prefix_len, list_any};
 ghost use Rattle.std.specs.Option.{option_copied};
-ghost use Rattle.std.specs.VecDeque.{deque_len};
+ghost use Rattle.std.specs.VecDeque.{deque_len, deque_capacity};
 ghost use Rattle.dom_history.specs.declared.plan.Fate.TheVariants as fates;
 ghost use Rattle.uid_names.specs.InOrder.{AreInOrder, put_in_order};
-ghost use Rattle.ring_links.specs.Carried.{empty_link, frame_sent, mark_sent, fallen};
-ghost use Rattle.ring_links.specs.Later.{is_before as falls_sooner, falls_before, is_behind, AreLater, HaveFallen, HasOwn};
+ghost use Rattle.ring_links.specs.Carried.{empty_link, copy_of, own_copy, is_mark as is_mark_entry, frame_sent, mark_sent};
+ghost use Rattle.ring_links.specs.Later.{is_before as falls_sooner, falls_before, is_behind, AreLater, HaveFallen};
 
 use crate::entry::{Entry, Waiting};
 use dom_history::Fate;
@@ -44,6 +44,7 @@ fn count_before<T>(later: &VecDeque<Later<T>>, behind: u64, index: u64) -> usize
 fn put_later<T: Drop>(later: &mut VecDeque<Later<T>>, copy: Later<T>) -> Result<(), NoMemory>
     requires { AreInOrder falls_before later.old.items }
     ensures ok { OnOk result (later.new.items ≡ put_in_order falls_before copy later.old.items) }
+    ensures len { OnOk result (deque_len later.new ≡ deque_len later.old + 1) }
     ensures err { OnErr result (later.new.items ≡ later.old.items) }
 {
     let place = count_before(later, copy.behind, copy.index);
@@ -66,6 +67,7 @@ fn falls_first<T>(later: &VecDeque<Later<T>>, frame: u64) -> bool
 fn pop_first<T>(later: &mut VecDeque<Later<T>>) -> Option<Later<T>>
     ensures first { result ≡ slice_get later.old.items 0 }
     ensures rest { later.new.items ≡ drop 1 later.old.items }
+    ensures fewer { IfSome result (λ _. deque_len later.new + 1 ≡ deque_len later.old) }
 {
     later.pop_front()
 }
@@ -74,6 +76,7 @@ fn pop_first<T>(later: &mut VecDeque<Later<T>>) -> Option<Later<T>>
 fn pop_behind<T>(later: &mut VecDeque<Later<T>>, frame: u64) -> Option<Later<T>>
     ensures some { IfSome result (λ copy. (copy.behind ≡ frame) × (later.old.items ≡ copy ∷ later.new.items)) }
     ensures none { IfNone result ((later.new.items ≡ later.old.items) × (is_behind frame (slice_get later.old.items 0) ≡ false)) }
+    ensures fewer { IfSome result (λ _. deque_len later.new + 1 ≡ deque_len later.old) }
 {
     if falls_first(later, frame) {
         pop_first(later)
@@ -82,77 +85,54 @@ fn pop_behind<T>(later: &mut VecDeque<Later<T>>, frame: u64) -> Option<Later<T>>
     }
 }
 
-/// The copies that fall behind the next frame, where so many were sent, wait from now on: they are the first ones. Not inlined:
-/// copies that fall are few.
+/// A copy of the frame of this number waits from now on. There is room for it.
+#[inline(always)]
+fn put_copy<T>(queue: &mut VecDeque<Entry<T>>, index: u64, received: T)
+    requires room { deque_len queue.old < deque_capacity queue.old }
+    ensures waits { queue.new.items ≡ queue.old.items ++ copy_of received index ∷ [] }
+    ensures len { deque_len queue.new ≡ deque_len queue.old + 1 }
+    ensures capacity { deque_capacity queue.new ≡ deque_capacity queue.old }
+{
+    let waiting = Waiting::Copy(index);
+    queue.push_back_reserved(Entry { waiting, received });
+}
+
+/// The copies that fall behind the next frame, where so many were sent, wait from now on: they are the first ones. There is room for
+/// all that fall later. Not inlined: copies that fall are few.
 #[inline(never)]
-fn fall_some<T: Drop>(
-    queue: &mut VecDeque<Entry<T>>,
-    later: &mut VecDeque<Later<T>>,
-    frames: u64,
-) -> Result<(), NoMemory>
+fn fall_some<T: Drop>(queue: &mut VecDeque<Entry<T>>, later: &mut VecDeque<Later<T>>, frames: u64)
     requires few { frames < 2 ^ 63 }
-    requires later { AreLater frames frames later.old.items }
-    ensures ok { OnOk result (HaveFallen frames queue.old.items queue.new.items later.old.items later.new.items) }
-    ensures err { OnErr result (AreLater frames frames later.new.items) }
+    requires room { deque_len queue.old + deque_len later.old ≤ deque_capacity queue.old }
+    requires later { AreLater (frames + 1) frames later.old.items }
+    ensures { HaveFallen frames queue.old.items queue.new.items later.old.items later.new.items }
 {
     loop {
-        queue.reserve(1)?;
         match pop_behind(later, frames + 1) {
-            None => return Ok(()),
-            Some(copy) => {
-                let waiting = Waiting::Copy(copy.index);
-                let received = copy.received;
-                queue.push_back_reserved(Entry { waiting, received });
-            }
+            None => return,
+            Some(copy) => put_copy(queue, copy.index, copy.received),
         }
     }
 }
 
-/// The same, where it may be that none falls.
-#[inline(always)]
-fn fall_behind<T: Drop>(
-    queue: &mut VecDeque<Entry<T>>,
-    later: &mut VecDeque<Later<T>>,
-    frames: u64,
-) -> Result<(), NoMemory>
+/// A copy of the next frame, where so many were sent, that falls behind so many later ones.
+fn own_later<T>(frames: u64, received: T, after: u32) -> Later<T>
     requires few { frames < 2 ^ 63 }
-    requires later { AreLater frames frames later.old.items }
-    ensures ok { OnOk result (HaveFallen frames queue.old.items queue.new.items later.old.items later.new.items) }
-    ensures err { OnErr result (AreLater frames frames later.new.items) }
-{
-    if falls_first(later, frames + 1) {
-        return fall_some(queue, later, frames);
-    }
-    Ok(())
-}
-
-/// A copy of the next frame, where so many were sent, falls behind so many later ones: behind none, it waits from now on.
-fn put_own<T: Drop>(
-    queue: &mut VecDeque<Entry<T>>,
-    later: &mut VecDeque<Later<T>>,
-    frames: u64,
-    received: T,
-    after: u32,
-) -> Result<(), NoMemory>
-    requires few { frames < 2 ^ 63 }
-    requires later { AreLater frames (frames + 1) later.old.items }
-    ensures ok { OnOk result (HasOwn frames after received queue.old.items queue.new.items later.old.items later.new.items) }
-    ensures err { OnErr result (later.new.items ≡ later.old.items) }
+    ensures { result ≡ own_copy frames after received }
 {
     let index = frames + 1;
-    if after == 0 {
-        queue.reserve(1)?;
-        let waiting = Waiting::Copy(index);
-        queue.push_back_reserved(Entry { waiting, received });
-        return Ok(());
-    }
     let behind = index + u64::from(after);
-    let copy = Later {
+    Later {
         index,
         behind,
         received,
-    };
-    put_later(later, copy)
+    }
+}
+
+/// Whether an entry is the mark of a phase.
+fn is_mark<T>(entry: &Entry<T>) -> bool
+    ensures { result ≡ is_mark_entry entry.now }
+{
+    matches!(entry.waiting, Waiting::Mark(_))
 }
 
 /// A link: how many frames were sent there, what waits, the oldest first, and the copies that fall behind a later frame,
@@ -201,6 +181,21 @@ impl<T: Drop> Link<T> {
         self.queue.front()
     }
 
+    /// How many entries wait. Takes no memory.
+    pub fn waiting(&self) -> usize
+        ensures count { result ≡ length self.now.queue }
+        ensures small { result < 2 ^ 63 }
+    {
+        self.queue.len()
+    }
+
+    /// Whether a mark waits. Takes no memory.
+    pub fn holds_mark(&self) -> bool
+        ensures { result ≡ list_any is_mark_entry self.now.queue }
+    {
+        self.queue.iter().any(is_mark)
+    }
+
     /// The oldest is taken. Takes no memory.
     pub fn take(&mut self)
         ensures { self.new ≡ record self.old { queue = drop 1 self.old.queue } }
@@ -216,55 +211,86 @@ impl<T: Drop> Link<T> {
         self.queue.pop_front()
     }
 
-    /// The mark of a phase is sent.
+    /// The mark of a phase is sent. Without memory nothing has changed.
     pub fn mark(&mut self, phase: u32, received: T) -> Result<(), NoMemory>
-        ensures { OnOk result (self.new ≡ mark_sent phase received self.old) }
-    {
-        self.put(Waiting::Mark(phase), received)
-    }
-
-    /// Puts last what waits.
-    #[inline(always)]
-    fn put(&mut self, waiting: Waiting, received: T) -> Result<(), NoMemory>
-        ensures { OnOk result (self.new ≡ record self.old { queue = self.old.queue ++ record { waiting = waiting; received = received } ∷ [] }) }
+        ensures sent { OnOk result (self.new ≡ mark_sent phase received self.old) }
+        ensures err { OnErr result (self.new ≡ self.old) }
     {
         // A `push_back` hands the entry back where there is no memory: it is moved twice more for that.
         self.queue.reserve(1)?;
+        let waiting = Waiting::Mark(phase);
         self.queue.push_back_reserved(Entry { waiting, received });
         Ok(())
     }
 
-    /// The next frame is sent: the copies that fall behind it wait from now on.
+    /// A frame is sent that is delivered in its place.
     #[inline(always)]
-    fn fall(&mut self) -> Result<(), NoMemory>
+    fn pass(&mut self, frame: T) -> Result<(), NoMemory>
         requires few { self.old.frames < 2 ^ 63 }
-        ensures { OnOk result (self.new ≡ fallen self.old) }
+        ensures sent { OnOk result (self.new ≡ frame_sent fates.Pass frame self.old) }
+        ensures err { OnErr result (self.new ≡ self.old) }
     {
-        fall_behind(&mut self.queue, &mut self.later, self.frames)?;
+        if falls_first(&self.later, self.frames + 1) {
+            return self.pass_before(frame);
+        }
+        self.queue.reserve(1)?;
+        put_copy(&mut self.queue, self.frames + 1, frame);
+        self.frames += 1;
+        Ok(())
+    }
+
+    /// The same, where copies fall behind it.
+    // Not inlined, as `lose`, `late` and `twice`: such frames are few, and where frames pass nothing is made ready for them. Each takes
+    // room for all that may fall before it changes anything.
+    #[inline(never)]
+    fn pass_before(&mut self, frame: T) -> Result<(), NoMemory>
+        requires few { self.old.frames < 2 ^ 63 }
+        ensures sent { OnOk result (self.new ≡ frame_sent fates.Pass frame self.old) }
+        ensures err { OnErr result (self.new ≡ self.old) }
+    {
+        self.queue.reserve(self.later.len() + 1)?;
+        put_copy(&mut self.queue, self.frames + 1, frame);
+        fall_some(&mut self.queue, &mut self.later, self.frames);
+        self.frames += 1;
+        Ok(())
+    }
+
+    /// A frame is sent that is never delivered.
+    #[inline(never)]
+    fn lose(&mut self) -> Result<(), NoMemory>
+        requires few { self.old.frames < 2 ^ 63 }
+        ensures sent { (frame : T) → OnOk result (self.new ≡ frame_sent fates.Lose frame self.old) }
+        ensures err { OnErr result (self.new ≡ self.old) }
+    {
+        self.queue.reserve(self.later.len())?;
+        fall_some(&mut self.queue, &mut self.later, self.frames);
         self.frames += 1;
         Ok(())
     }
 
     /// A frame is sent that is delivered behind so many later frames.
-    // Not inlined, as `lose` and `twice`: such frames are few, and where frames pass nothing is made ready for them.
     #[inline(never)]
     fn late(&mut self, frame: T, after: u32) -> Result<(), NoMemory>
         requires few { self.old.frames < 2 ^ 63 }
-        ensures { OnOk result (self.new ≡ frame_sent (fates.Late after) frame self.old) }
+        ensures sent { OnOk result (self.new ≡ frame_sent (fates.Late after) frame self.old) }
+        ensures err { OnErr result (self.new ≡ self.old) }
     {
-        fall_behind(&mut self.queue, &mut self.later, self.frames)?;
-        put_own(&mut self.queue, &mut self.later, self.frames, frame, after)?;
+        self.queue.reserve(self.later.len() + 1)?;
+        put_later(&mut self.later, own_later(self.frames, frame, after))?;
+        fall_some(&mut self.queue, &mut self.later, self.frames);
         self.frames += 1;
         Ok(())
     }
 }
 
 impl<T: Copied> Link<T> {
-    /// A frame of this fate is sent: those of its copies wait from now on that fall in its place, and behind it.
+    /// A frame of this fate is sent: those of its copies wait from now on that fall in its place, and behind it. Without memory nothing
+    /// has changed.
     #[inline(always)]
     pub fn send(&mut self, alloc: Global, fate: Fate, frame: T) -> Result<(), NoMemory>
         requires few { self.old.frames < 2 ^ 63 }
-        ensures { OnOk result (self.new ≡ frame_sent fate frame self.old) }
+        ensures sent { OnOk result (self.new ≡ frame_sent fate frame self.old) }
+        ensures err { OnErr result (self.new ≡ self.old) }
     {
         match fate {
             Fate::Pass => self.pass(frame),
@@ -274,33 +300,19 @@ impl<T: Copied> Link<T> {
         }
     }
 
-    /// A frame is sent that is delivered in its place.
-    #[inline(always)]
-    fn pass(&mut self, frame: T) -> Result<(), NoMemory>
-        requires few { self.old.frames < 2 ^ 63 }
-        ensures { OnOk result (self.new ≡ frame_sent fates.Pass frame self.old) }
-    {
-        self.put(Waiting::Copy(self.frames + 1), frame)?;
-        self.fall()
-    }
-
-    /// A frame is sent that is never delivered.
-    #[inline(never)]
-    fn lose(&mut self) -> Result<(), NoMemory>
-        requires few { self.old.frames < 2 ^ 63 }
-        ensures { (frame : T) → OnOk result (self.new ≡ frame_sent fates.Lose frame self.old) }
-    {
-        self.fall()
-    }
-
     /// A frame is sent that is delivered in its place, and again behind so many later frames.
     #[inline(never)]
     fn twice(&mut self, alloc: Global, frame: T, after: u32) -> Result<(), NoMemory>
         requires few { self.old.frames < 2 ^ 63 }
-        ensures { OnOk result (self.new ≡ frame_sent (fates.Twice after) frame self.old) }
+        ensures sent { OnOk result (self.new ≡ frame_sent (fates.Twice after) frame self.old) }
+        ensures err { OnErr result (self.new ≡ self.old) }
     {
         let again = frame.copy(alloc)?;
-        self.put(Waiting::Copy(self.frames + 1), frame)?;
-        self.late(again, after)
+        self.queue.reserve(self.later.len() + 2)?;
+        put_later(&mut self.later, own_later(self.frames, again, after))?;
+        put_copy(&mut self.queue, self.frames + 1, frame);
+        fall_some(&mut self.queue, &mut self.later, self.frames);
+        self.frames += 1;
+        Ok(())
     }
 }

@@ -328,21 +328,22 @@ impl Draft {
         Ok(())
     }
 
-    /// Declares a node.
+    /// Declares a node; without memory nothing changes.
     pub fn add_node(&mut self, alloc: Global, name: &[u8], frames: u16) -> Result<(), NoMemory>
         requires name { is_name name.now ≡ true }
         requires few { 5 ≤ frames }
         requires many { frames ≤ 256 }
         requires new { is_node_name self.old.nodes name.now ≡ false }
         requires room { length self.old.nodes < MAX_NODES }
-        ensures { OnOk result (self.new ≡ with_node self.old name.now frames) }
+        ensures ok { OnOk result (self.new ≡ with_node self.old name.now frames) }
+        ensures err { OnErr result (self.new ≡ self.old) }
     {
         let name = ByteList::from_slice(alloc, name)?;
         self.nodes.push(NodeRow { name, frames })?;
         Ok(())
     }
 
-    /// Declares an object. Where there is no memory for all that is noted of it, nothing is noted.
+    /// Declares an object; without memory for all that is noted of it nothing changes.
     pub fn add_object(
         &mut self,
         alloc: Global,
@@ -356,7 +357,8 @@ impl Draft {
         requires new { is_declared self.old.objects var.now ≡ false }
         requires first { self.old.commands ≡ [] }
         requires fits { pages_at home self.old.opening.objects + room ≤ VOLUME_ROOM }
-        ensures { OnOk result (self.new ≡ with_declared self.old var.now (declared_at self.old home room)) }
+        ensures ok { OnOk result (self.new ≡ with_declared self.old var.now (declared_at self.old home room)) }
+        ensures err { OnErr result (self.new ≡ self.old) }
     {
         let at = home_index(home);
         let uid = Uid::from_parts(self.counts[at] as u64 + FIRST_COUNTER, home);
@@ -381,7 +383,7 @@ impl Draft {
         Ok(())
     }
 
-    /// Adds a command of the last phase. Where there is no memory for all that is noted of it, nothing is noted.
+    /// Adds a command of the last phase; without memory for all that is noted of it nothing changes.
     pub fn add_command(
         &mut self,
         alloc: Global,
@@ -392,7 +394,8 @@ impl Draft {
         requires range { IsCommand (length self.old.nodes) command }
         requires spoken { IsSpoken self.old.objects self.old.commands proc command }
         requires room { length self.old.commands < 20000 }
-        ensures { OnOk result (self.new ≡ with_command self.old proc command) }
+        ensures ok { OnOk result (self.new ≡ with_command self.old proc command) }
+        ensures err { OnErr result (self.new ≡ self.old) }
     {
         let _range = (proc.node().number(), proc.number());
         self.commands.reserve(1)?;

@@ -1,4 +1,5 @@
 pub mod Draining
+pub mod Outboxes
 pub mod Placing
 pub mod Linking
 pub mod Keeping

@@ -3,3 +3,4 @@ pub mod Carrying
 pub mod Wires
 pub mod Sample
 pub mod Spelt
+pub mod Outboxes

@@ -1,4 +1,4 @@
-use Rattle.std.proofs.Common.{◌≡◌, ◌≤◌, true, length, sym, rules, arith}
+use Rattle.std.proofs.Common.{◌≤◌, length, sym, rules, arith}
 use Rattle.std.specs.Prelude.{IsTrue}
 use Rattle.std.proofs.lemmas.List.Sorted.{IsPartitionPoint-from_clause}
 use Rattle.uid_names.proofs.InOrder.{partitioned, prefix_len-point}

@@ -14,8 +14,8 @@ add_command-requires-clause-spoken c =
 
 pub returns-clause-begun : goal.returns-clause-begun
 returns-clause-begun c =
-    on_ok_weaker c.add_command.result (λ said. subst HasBegun (sym said) (begun_more c.args.draft.now c.args.proc c.args.command c.requires.begun)) c.add_command.ensures
+    on_ok_weaker c.add_command.result (λ said. subst HasBegun (sym said) (begun_more c.args.draft.now c.args.proc c.args.command c.requires.begun)) c.add_command.ensures.ok
 
 pub returns-clause-one_more : goal.returns-clause-one_more
 returns-clause-one_more c =
-    on_ok_weaker c.add_command.result (λ said. ap (λ (s : Content). length s.commands) said ∙ one_command c.args.draft.now c.args.proc c.args.command) c.add_command.ensures
+    on_ok_weaker c.add_command.result (λ said. ap (λ (s : Content). length s.commands) said ∙ one_command c.args.draft.now c.args.proc c.args.command) c.add_command.ensures.ok

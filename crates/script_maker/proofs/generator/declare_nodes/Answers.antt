@@ -14,4 +14,4 @@ pub add_node-requires-clause-room : goal.add_node-requires-clause-room
 add_node-requires-clause-room c = node_room c.loop-at.draft c.loop-at.at c.loop-at.invariant c.loop-at-test.true
 
 pub loop-at-preserved : goal.loop-at-preserved
-loop-at-preserved c = node_added c.loop-at.draft c.add_node.new.self c.loop-at.at c.bytes.result.now c.loop-at.invariant (c.bytes.ensures ∙ c.in_ok-name.ensures) c.in_ok-add_node.ensures
+loop-at-preserved c = node_added c.loop-at.draft c.add_node.new.self c.loop-at.at c.bytes.result.now c.loop-at.invariant (c.bytes.ensures ∙ c.in_ok-name.ensures) c.in_ok-add_node.ensures.ok

@@ -18,4 +18,4 @@ add_object-requires-clause-fits c =
 pub loop-at-preserved : goal.loop-at-preserved
 loop-at-preserved c =
     let home : c.node-home.result ≡ c.loop-at.at % 8 + 1 = omega arith in
-    object_added c.loop-at.draft c.add_object.new.self c.loop-at.at c.node-home.result c.bytes.result.now c.loop-at.invariant (c.bytes.ensures ∙ c.in_ok-name.ensures) home c.in_ok-add_object.ensures c.loop-at-test.true
+    object_added c.loop-at.draft c.add_object.new.self c.loop-at.at c.node-home.result c.bytes.result.now c.loop-at.invariant (c.bytes.ensures ∙ c.in_ok-name.ensures) home c.in_ok-add_object.ensures.ok c.loop-at-test.true

@@ -1,10 +1,23 @@
-use Rattle.std.proofs.Common.{◌∙◌, ap}
+use Rattle.std.proofs.Common.{◌+◌, ◌∙◌, sym, ap, subst, append-nil}
 use Rattle.dom_history.specs.declared.plan.Fate.TheVariants.{Late}
+use Rattle.uid_names.specs.InOrder.{put_in_order}
 use Rattle.ring_links.specs.Carried.{frame_sent}
-use Rattle.ring_links.proofs.Sent.{link-late}
+use Rattle.ring_links.specs.Later.{falls_before, by_number, AreLater}
+use Rattle.ring_links.proofs.Owning.{own-last, own-later}
+use Rattle.ring_links.proofs.Sent.{link-sent}
 use Rattle.ring_links.proofs.link.Link.late.Goals as goal
 
-pub returns : goal.returns
-returns g c =
-    link-late c.self.inside.frames c.args.after c.args.frame c.self.inside.queue.items c.fall_behind.new.queue.items c.put_own.new.queue.items c.self.inside.later.items c.fall_behind.new.later.items c.put_own.new.later.items c.in_ok-fall_behind.ensures.ok c.in_ok-put_own.ensures.ok
+pub fall_some-requires-clause-later : goal.fall_some-requires-clause-later
+fall_some-requires-clause-later g c =
+    let l = c.self.inside in
+    let put = c.in_ok-put_later.ensures.ok ∙ ap (λ copy. put_in_order falls_before copy l.later.items) c.own_later.ensures in
+    subst (λ cs. AreLater (l.frames + 1) l.frames cs) (sym put) (own-later l.frames c.args.after c.args.frame l.later.items c.self.invariant)
+
+pub returns-clause-sent : goal.returns-clause-sent
+returns-clause-sent g c =
+    let l = c.self.inside in
+    let put = c.in_ok-put_later.ensures.ok ∙ ap (λ copy. put_in_order falls_before copy l.later.items) c.own_later.ensures in
+    link-sent (Late c.args.after) c.args.frame l.frames l.queue.items c.reserve.new.self.items c.fall_some.new.queue.items l.later.items c.put_later.new.later.items c.fall_some.new.later.items
+    (c.reserve.ensures.items ∙ sym (append-nil l.queue.items))
+    (ap by_number put ∙ own-last l.frames c.args.after c.args.frame l.later.items c.self.invariant) c.fall_some.ensures
     ∙ ap (frame_sent (Late c.args.after) c.args.frame) c.self.view_is

@@ -60,4 +60,4 @@ pub returns-in-Object : goal.returns-in-Object
 returns-in-Object c =
     let found = subst (λ l. AreNodesOf c.args.self.now.nodes (seen l) c.args.nodes.now) c.in-Object.is c.requires.found in
     let home = node_is c.args.self.now.nodes c.in-Object.home.now c.args.nodes.now.first c.known-home.result found c.known-home.ensures in
-    rw (c.in-Object.is, ← c.unwrap_or-in-Object.ensures, ← home.0) c.add_object.ensures
+    rw (c.in-Object.is, ← c.unwrap_or-in-Object.ensures, ← home.0) c.add_object.ensures.ok

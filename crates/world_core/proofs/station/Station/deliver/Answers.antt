@@ -19,7 +19,7 @@ returns-then-own-clause-listed g c =
     let there = slice_get-get_or x.ins.items at l c.requires.within ∙ ap Some (sym c.index_mut.ensures.value) in
     let waits = if_some (λ (k : LinkFrom). c.waits-waits.result ≡ is_some (slice_get k.link.queue 0)) (slice_get x.ins.items at) l there c.waits-waits.ensures in
     let y : Station g.row.P.Denot g.row.G.Denot = record { node = x.node; notices = x.notices; ins = with_item x.ins at (record l { link = c.send.new.self }); enabled = x.enabled } in
-    let ins = ap (λ k. slice_set x.ins.items at (record l { link = k })) c.in_ok-send.ensures in
+    let ins = ap (λ k. slice_set x.ins.items at (record l { link = k })) c.in_ok-send.ensures.sent in
     λ other listed. elim c.then-own.branch [
       | then-own-via-then-own w ↦ absurd (false≢true (sym other ∙ w.if-own.true))
       | then-own-via-else-own+then-waits w ↦ still-listed at c.args.fate c.args.frame x y l there refl refl refl ins listed (sym waits ∙ w.if-waits.true)
@@ -33,7 +33,7 @@ returns-clause-listed g c =
     let there = slice_get-get_or x.ins.items at l c.requires.within ∙ ap Some (sym c.index_mut.ensures.value) in
     let waits = if_some (λ (k : LinkFrom). c.waits-waits.result ≡ is_some (slice_get k.link.queue 0)) (slice_get x.ins.items at) l there c.waits-waits.ensures in
     let y : Station g.row.P.Denot g.row.G.Denot = record { node = x.node; notices = x.notices; ins = with_item x.ins at (record l { link = c.send.new.self }); enabled = x.enabled } in
-    let ins = ap (λ k. slice_set x.ins.items at (record l { link = k })) c.in_ok-send.ensures in
+    let ins = ap (λ k. slice_set x.ins.items at (record l { link = k })) c.in_ok-send.ensures.sent in
     on_ok c.list_oldest.result
     (λ listed other was. listed (listed-without at c.args.fate c.args.frame x y l there refl refl refl ins was (sym waits ∙ c.if-waits.false)))
     c.list_oldest.ensures.listed
@@ -45,6 +45,6 @@ returns-clause-ins g c =
     let l = c.index_mut.result.now in
     let there = slice_get-get_or x.ins.items at l c.requires.within ∙ ap Some (sym c.index_mut.ensures.value) in
     on_ok c.list_oldest.result
-    (λ _. ap (λ v. v.items) c.list_oldest.ensures.others.ins ∙ ap (λ k. slice_set x.ins.items at (record l { link = k })) c.in_ok-send.ensures
+    (λ _. ap (λ v. v.items) c.list_oldest.ensures.others.ins ∙ ap (λ k. slice_set x.ins.items at (record l { link = k })) c.in_ok-send.ensures.sent
     ∙ delivered-there at c.args.fate c.args.frame x.ins.items l there)
     c.list_oldest.ensures.listed

@@ -1,0 +1,4 @@
+pub mod RightTexts
+pub mod Entries
+pub mod Lists
+pub mod Decisions

@@ -1,0 +1,6 @@
+-- Serving went on so far.
+use Rattle.node_posts.specs.Posts.{GoesOn}
+use Rattle.node_posts.proofs.post.Post.take_all.Given as goal
+
+abbrev pub invariant-loop-at : goal.invariant-loop-at
+invariant-loop-at g l = GoesOn g.P.Program.wants g.P.Program.becomes l.last_tick l.fn.self l.self

@@ -1,0 +1,9 @@
+pub mod Ends
+pub mod Sending
+pub mod Sendable
+pub mod Owns
+pub mod Reading
+pub mod Posts
+pub mod Ended
+pub mod Turns
+pub mod Starts

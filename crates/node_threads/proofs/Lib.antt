@@ -1,0 +1,7 @@
+pub mod Slots
+pub mod Groups
+pub mod Beside
+pub mod Chosen
+pub mod Ending
+pub mod Together
+pub mod Recent
