@@ -1,9 +1,12 @@
 //! What the events of a run say of link faults, and what its processes answered, as a call that runs scripts has them.
 use anyhow::{Context, Result};
 use dom_text::decimal;
+use node_threads::OpenGate;
 use script_reader::{Script, read_script};
 use script_runner::{AnswerRow, run_script};
 use std::alloc::Global;
+use std::sync::Wait;
+use std::thread::Threads;
 use uid_names::ByteList;
 use world_core::{Account, account};
 
@@ -37,7 +40,8 @@ fn put_lines(alloc: Global, script: &Script, row: &AnswerRow, report: &mut ByteL
 }
 
 /// What of a run of a script with the words of a line is otherwise than this account and this report say.
-pub(crate) fn account_otherwise(
+pub(crate) fn account_otherwise<R: Threads + Wait + Sync>(
+    rt: &R,
     alloc: Global,
     bytes: &[u8],
     line: &str,
@@ -45,7 +49,7 @@ pub(crate) fn account_otherwise(
     report: &[u8],
 ) -> Result<Option<&'static str>> {
     let script = read_script(alloc, bytes)?;
-    let Ok(ran) = run_script(alloc, &script, turns_of(line)?, LAST_TICK) else {
+    let Ok(ran) = run_script(rt, alloc, &script, turns_of(line)?, LAST_TICK, &OpenGate) else {
         return Ok(Some("its run"));
     };
     if account(&ran.events, script.plan()) != expected {

@@ -310,6 +310,7 @@ impl Case {
     fn end_head(&mut self, alloc: Global) -> Result<()> {
         if self.words.is_empty() {
             self.words.push(String::from_str(alloc, "run")?)?;
+            self.words.push(String::from_str(alloc, "run --turns 3")?)?;
         }
         if !self.order.is_empty() {
             let order = mem::replace(&mut self.order, Vec::new(alloc));

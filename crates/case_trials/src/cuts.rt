@@ -3,6 +3,8 @@ use crate::running::{Outcome, Streams, run};
 use anyhow::{Context, Result, bail};
 use script_reader::{ScriptFault, read_script};
 use std::alloc::Global;
+use std::sync::Wait;
+use std::thread::Threads;
 use uid_names::ByteList;
 
 /// What is said of a run of the first bytes of a script.
@@ -75,8 +77,9 @@ impl Cut {
     }
 
     /// Tries them with the words of this line: how many there are, and whether each came to what is said.
-    pub(crate) fn try_all(
+    pub(crate) fn try_all<R: Threads + Wait + Sync>(
         &self,
+        rt: &R,
         alloc: Global,
         streams: Streams<'_>,
         line: &str,
@@ -88,7 +91,7 @@ impl Cut {
                 .script
                 .get(..length)
                 .context("a script that ends before it is cut")?;
-            let outcome = run(alloc, Streams { script, ..streams }, line)?;
+            let outcome = run(rt, alloc, Streams { script, ..streams }, line)?;
             count = count.saturating_add(1);
             if !self.is_so(alloc, script, report, &outcome)? {
                 return Ok((count, false));

@@ -2,8 +2,11 @@
 use crate::streams::{Calls, Feed, Tray, Written};
 use anyhow::Result;
 use dom_io::{RealSink, RealSource};
+use node_threads::OpenGate;
 use script_runner::run_domain;
 use std::alloc::Global;
+use std::sync::Wait;
+use std::thread::Threads;
 
 /// What a stream that is written to takes: so many bytes, and no call of these numbers.
 #[derive(Clone, Copy)]
@@ -64,7 +67,8 @@ fn words_of(alloc: Global, line: &str) -> Result<Vec<String>> {
 }
 
 /// The status with which `domain` ends over these streams.
-fn status_of(
+fn status_of<R: Threads + Wait + Sync>(
+    rt: &R,
     alloc: Global,
     words: &[String],
     feed: &mut Feed<'_>,
@@ -74,17 +78,37 @@ fn status_of(
     let mut source = RealSource::new(feed);
     let mut sink = RealSink::new(out);
     let mut lines = RealSink::new(journal);
-    run_domain(alloc, words, &mut source, &mut sink, &mut lines)
+    run_domain(
+        rt,
+        alloc,
+        words,
+        &mut source,
+        &mut sink,
+        &mut lines,
+        &OpenGate,
+    )
 }
 
 /// Runs `domain` with the words of this line.
-pub(crate) fn run(alloc: Global, streams: Streams<'_>, line: &str) -> Result<Outcome> {
+pub(crate) fn run<R: Threads + Wait + Sync>(
+    rt: &R,
+    alloc: Global,
+    streams: Streams<'_>,
+    line: &str,
+) -> Result<Outcome> {
     let words = words_of(alloc, line)?;
     let calls = streams.calls(streams.failing_reads);
     let mut feed = Feed::new(streams.script, streams.endless, calls);
     let mut out = streams.tray(alloc, streams.out);
     let mut journal = streams.tray(alloc, streams.journal);
-    let status = status_of(alloc, words.as_slice(), &mut feed, &mut out, &mut journal);
+    let status = status_of(
+        rt,
+        alloc,
+        words.as_slice(),
+        &mut feed,
+        &mut out,
+        &mut journal,
+    );
     let (reads, taken) = feed.counts();
     Ok(Outcome {
         status: u64::from(status),

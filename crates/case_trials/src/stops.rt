@@ -3,6 +3,8 @@ use crate::running::{Limits, Outcome, Streams, run};
 use crate::streams::Written;
 use anyhow::Result;
 use std::alloc::Global;
+use std::sync::Wait;
+use std::thread::Threads;
 
 /// What makes a run stop.
 #[derive(Clone, Copy)]
@@ -111,8 +113,9 @@ impl Stops {
     }
 
     /// Tries them with the words of this line: how many there are, and whether each came to what is due there. There is one at least.
-    pub(crate) fn try_all(
+    pub(crate) fn try_all<R: Threads + Wait + Sync>(
         self,
+        rt: &R,
         alloc: Global,
         streams: Streams<'_>,
         line: &str,
@@ -121,7 +124,7 @@ impl Stops {
         let count = self.count(whole);
         for at in 0..count {
             let fails = [(at as u64).wrapping_add(1)];
-            let stopped = run(alloc, self.streams(streams, at, &fails), line)?;
+            let stopped = run(rt, alloc, self.streams(streams, at, &fails), line)?;
             if !self.is_due(whole, &stopped, at) {
                 return Ok((count as u64, false));
             }

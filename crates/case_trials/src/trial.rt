@@ -4,6 +4,8 @@ use crate::case::{Case, Journals};
 use crate::running::{Limits, Outcome, Streams, run};
 use anyhow::Result;
 use std::alloc::Global;
+use std::sync::Wait;
+use std::thread::Threads;
 
 /// In how many runs a case was tried, and the part of one that is otherwise than the case says.
 #[derive(Clone, Copy)]
@@ -63,7 +65,13 @@ fn journal_otherwise(case: &Case, journal: &[u8]) -> Option<&'static str> {
 }
 
 /// Whether the journal that was cut is how that of the whole run begins.
-fn is_first_part(alloc: Global, case: &Case, line: &str, journal: &[u8]) -> Result<bool> {
+fn is_first_part<R: Threads + Wait + Sync>(
+    rt: &R,
+    alloc: Global,
+    case: &Case,
+    line: &str,
+    journal: &[u8],
+) -> Result<bool> {
     let streams = case.streams();
     if streams.journal.room == usize::MAX || case.status != 6 {
         return Ok(true);
@@ -76,7 +84,7 @@ fn is_first_part(alloc: Global, case: &Case, line: &str, journal: &[u8]) -> Resu
         journal: wide,
         ..streams
     };
-    let whole = run(alloc, journals, line)?;
+    let whole = run(rt, alloc, journals, line)?;
     Ok(journal == first_of(whole.journal.bytes.as_slice(), streams.journal))
 }
 
@@ -90,7 +98,8 @@ fn go_together(case: &Case, before: &Option<Outcome>, journal: &[u8]) -> bool {
 }
 
 /// What is otherwise in a run with the words of a line.
-fn run_otherwise(
+fn run_otherwise<R: Threads + Wait + Sync>(
+    rt: &R,
     alloc: Global,
     case: &Case,
     line: &str,
@@ -104,20 +113,23 @@ fn run_otherwise(
     if let Some(part) = journal_otherwise(case, journal) {
         return Ok(Some(part));
     }
-    if !is_first_part(alloc, case, line, journal)? {
+    if !is_first_part(rt, alloc, case, line, journal)? {
         return Ok(Some("where its journal is cut"));
     }
     if !go_together(case, before, journal) {
         return Ok(Some("how its journals go together"));
     }
     match case.account {
-        Some(account) => { account_otherwise(alloc, case.source(), line, account, case.report()) }
+        Some(account) => {
+            account_otherwise(rt, alloc, case.source(), line, account, case.report())
+        }
         None => Ok(None),
     }
 }
 
 /// Tries the runs that stop early, and those of first bytes of the script, with the words of a line.
-fn try_parts(
+fn try_parts<R: Threads + Wait + Sync>(
+    rt: &R,
     alloc: Global,
     case: &Case,
     line: &str,
@@ -127,18 +139,18 @@ fn try_parts(
     let streams = case.streams();
     let mut tried = before;
     for stops in case.stops.as_slice() {
-        let stopped = stops.try_all(alloc, streams, line, whole)?;
+        let stopped = stops.try_all(rt, alloc, streams, line, whole)?;
         tried = tried.and(stopped, "a run that stops early");
     }
     for cut in case.cuts.as_slice() {
-        let short = cut.try_all(alloc, streams, line, case.report())?;
+        let short = cut.try_all(rt, alloc, streams, line, case.report())?;
         tried = tried.and(short, "what first bytes come to");
     }
     Ok(tried)
 }
 
 /// Tries a case: its runs, up to the first in which something is otherwise.
-pub fn try_case(alloc: Global, case: &Case) -> Result<Tried> {
+pub fn try_case<R: Threads + Wait + Sync>(rt: &R, alloc: Global, case: &Case) -> Result<Tried> {
     let mut tried = Tried {
         runs: 0,
         otherwise: None,
@@ -146,11 +158,11 @@ pub fn try_case(alloc: Global, case: &Case) -> Result<Tried> {
     let mut before = None;
     for words in case.words.as_slice() {
         let line = words.as_str();
-        let outcome = run(alloc, case.streams(), line)?;
+        let outcome = run(rt, alloc, case.streams(), line)?;
         tried.runs = tried.runs.saturating_add(1);
-        tried.otherwise = run_otherwise(alloc, case, line, &before, &outcome)?;
+        tried.otherwise = run_otherwise(rt, alloc, case, line, &before, &outcome)?;
         if tried.otherwise.is_none() {
-            tried = try_parts(alloc, case, line, &outcome, tried)?;
+            tried = try_parts(rt, alloc, case, line, &outcome, tried)?;
         }
         if tried.otherwise.is_some() {
             return Ok(tried);

@@ -2,6 +2,7 @@
 #![tactic(auto)]
 
 use dom_io::{RealSink, RealSource};
+use node_threads::OpenGate;
 use script_runner::run_domain;
 use std::process::ExitCode;
 use std::rt::Runtime;
@@ -35,11 +36,13 @@ fn main(rt: HostRuntime) -> ExitCode {
     let mut out = RealSink::new(io::writer(&rt));
     let mut journal = RealSink::new(rt.stderr());
     let status = run_domain(
+        &rt,
         rt.alloc(),
         words.as_slice(),
         &mut script,
         &mut out,
         &mut journal,
+        &OpenGate,
     );
     ExitCode::from(status)
 }

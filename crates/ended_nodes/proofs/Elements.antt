@@ -1,5 +1,5 @@
 -- Elements of lists, by their places.
-use Rattle.std.proofs.Common.{◌≡◌, ℕ, zero, suc, ◌<◌, Option, Some, List, [], ◌∷◌, ◌++◌, map, length, get_or, append-nil, refl, sym, ap, subst, ◌∙◌, arith}
+use Rattle.std.proofs.Common.{◌≡◌, ℕ, zero, suc, Option, Some, None, List, [], ◌∷◌, ◌++◌, map, length, get_or, append-nil, refl, sym, ap, subst, ◌∙◌, arith}
 use Rattle.std.specs.Iterator.{Yields}
 use Rattle.std.specs.Vec.Iter.{into_iter_items, into_iter_len, into_iter_steps}
 use Rattle.std.specs.declared.vec.IntoIter.{IntoIter}
@@ -17,6 +17,10 @@ all_at T xs each k d within = each k (get_or xs k d) (slice_get-get_or xs k d wi
 
 pub at_all : {A : Type 0} (T : A → Type 0) (xs : List A) (k : ℕ) (x : A) → All T xs → slice_get xs k ≡ Some x → T x
 at_all T xs k x all e = subst T (get_or_from_slice_get xs k x x e) (all k x (slice_get_within xs k x e))
+
+pub some_if : {A : Type 0} (T : A → Type 0) (o : Option A) → ((x : A) → o ≡ Some x → T x) → IfSome o T
+some_if T None each = tt
+some_if T (Some x) each = each x refl
 
 pub if_some : {A : Type 0} (T : A → Type 0) (o : Option A) (x : A) → o ≡ Some x → IfSome o T → T x
 if_some T o x e holds = subst (λ r. IfSome r T) e holds

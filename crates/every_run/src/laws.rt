@@ -21,7 +21,7 @@ ghost use Rattle.world_runs.specs.Picked.{IsPicked};
 ghost use Rattle.run_calls.specs.Paced.{IsPacedTo, ArePaced};
 ghost use Rattle.run_calls.specs.DonePrograms.{AreProgramsDone};
 ghost use Rattle.every_run.specs.EveryRun.{IsRightAt, IsRightRun};
-ghost use Rattle.every_run.specs.EndedRuns.{IsEndedRun, EndsAlike};
+ghost use Rattle.world_runs.specs.EndedRuns.{IsEndedRun, EndsAlike};
 ghost use Rattle.every_run.specs.HeardOf.{heard_by_phase, heard_of, AsksForEachEntry};
 ghost use Rattle.every_run.specs.HeardByHistories.{heard_by_history, AreHeardByPhase, AreHeardByAsks, AreHeardAsSaid};
 ghost use Rattle.every_run.specs.HeardSamples as sample;

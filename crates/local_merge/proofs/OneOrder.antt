@@ -1,8 +1,8 @@
 -- There is a merge of runs of nodes alone.
-use Rattle.std.proofs.Common.{◌≡◌, ◌≢◌, ℕ, zero, suc, ◌+◌, ◌<◌, ◌≤◌, Bool, true, false, cond, List, [], ◌∷◌, map, inl, inr, refl, sym, ap, subst, ◌∙◌, arith}
-use Rattle.std.specs.Prelude.{◌==◌, ◌&&◌, nat_le}
+use Rattle.std.proofs.Common.{◌≡◌, ◌≢◌, ℕ, zero, suc, ◌<◌, ◌≤◌, Bool, true, false, cond, List, [], ◌∷◌, inl, inr, refl, sym, ap, subst, ◌∙◌, arith}
+use Rattle.std.specs.Prelude.{◌==◌}
 use Rattle.std.specs.List.{AllByRecursion}
-use Rattle.std.proofs.lemmas.Bool.{cases_eq, cases_lt, eq-eqb, ne_eqb}
+use Rattle.std.proofs.lemmas.Bool.{cases_eq, cases_lt}
 use Rattle.std.proofs.lemmas.Bool.Decides.{nat_tests}
 use Rattle.uid_names.proofs.ListLemmas.{by_cases}
 use Rattle.uid_names.specs.declared.ids.Place.{Place}
@@ -13,21 +13,10 @@ use Rattle.dom_history.proofs.Places.{place_lt-trans}
 use Rattle.node_runs.specs.Setups.{Setup}
 use Rattle.node_runs.specs.Runs.{World, is_above, AreRising}
 use Rattle.world_runs.specs.ByPlace.{behind_if, put_in_place, events_of}
+use Rattle.world_runs.proofs.Inserting.{place-turn, above-both}
 use Rattle.world_runs.proofs.Sorting.{own-first, other-first}
-use Rattle.local_runs.specs.LocalRuns.{Own, events_in, IsLocalRun, AreLocalRuns, IsMergeOf}
+use Rattle.local_runs.specs.LocalRuns.{Own, events_in, AreLocalRuns, IsMergeOf}
 use Rattle.local_merge.proofs.LocalLogs.{own-node, own-rising}
-
-place-turn : (a b : Place) → place_lt a b ≡ false → a.node ≢ b.node → place_lt b a ≡ true
-place-turn a b h differs = grind (arith, nat_tests, h, differs)
-
--- a place above the first of events and above the event that goes among them
-above-both : (p : Place) (e : Happening) (es : List Happening) → is_above p es ≡ true → place_lt e.place p ≡ true → is_above p (put_in_place e es) ≡ true
-above-both p e [] above later = later
-above-both p e (x ∷ older) above later = of-two (place_lt x.place e.place) (put_in_place e older)
-  where
-    of-two : (b : Bool) (rest : List Happening) → is_above p (behind_if b e x older rest) ≡ true
-    of-two true rest = later
-    of-two false rest = above
 
 -- each event of this node comes before that place
 abbrev pub AreBelow : ℕ → Place → List Happening → Type 0

@@ -62,7 +62,7 @@ taken-own from to (e ∷ older) = either (e.place.node == to) refl (taken-own fr
         ∙ append-nil (entries_taken from to older) ∙ before
 
 -- a node alone counts what it sent
-local-frames : (s : Setup) (n : ℕ) (own : List Own) (w : World) → IsLocalRun s n own w → (from to : ℕ) → length (w.frames from to) ≡ frames_on from to (events_in own)
+pub local-frames : (s : Setup) (n : ℕ) (own : List Own) (w : World) → IsLocalRun s n own w → (from to : ℕ) → length (w.frames from to) ≡ frames_on from to (events_in own)
 local-frames s n [] w is from to = ap (λ (o : Option World). sent_on o from to) (sym is.run)
 local-frames s n (x ∷ older) w is from to =
     let after = last-of s n x older w is in

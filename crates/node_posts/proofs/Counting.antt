@@ -1,10 +1,9 @@
 -- No more frames were sent on a link than the node's tick.
-use Rattle.std.proofs.Common.{◌≡◌, ℕ, ◌+◌, ◌<◌, ◌≤◌, Bool, true, false, cond, List, [], ◌∷◌, length, map, Option, Some, None, refl, sym, ap, subst, ◌∙◌, arith}
+use Rattle.std.proofs.Common.{◌≡◌, ℕ, ◌+◌, ◌≤◌, Bool, true, false, cond, List, [], ◌∷◌, length, Option, Some, None, sym, ap, subst, ◌∙◌, arith}
 use Rattle.std.specs.Prelude.{◌==◌}
 use Rattle.std.proofs.lemmas.List.{length-map}
 use Rattle.std.proofs.lemmas.Option.{same_Some}
 use Rattle.dom_history.specs.declared.plan.Fate.{Fate}
-use Rattle.dom_history.specs.Events.{Happening}
 use Rattle.ring_messages.specs.Frames.{Message}
 use Rattle.ring_messages.specs.Spelling.{spelling}
 use Rattle.node_runs.specs.Setups.{Setup, given}
@@ -13,10 +12,7 @@ use Rattle.node_runs.specs.Runs.{World, first_world}
 use Rattle.node_runs.proofs.Calls.{put-same}
 use Rattle.node_runs.proofs.Ticks.{step_of-tick}
 use Rattle.world_runs.proofs.Alike.{added, frames-added}
-use Rattle.world_runs.specs.Sendings.{frames_on}
-use Rattle.world_runs.proofs.Sent.{step-sent}
-use Rattle.world_runs.proofs.Taking.{frames-counted}
-use Rattle.local_runs.specs.LocalRuns.{Own, events_in, IsLocalRun}
+use Rattle.local_runs.specs.LocalRuns.{Own, IsLocalRun}
 use Rattle.local_runs.proofs.Alone.{last-of}
 use Rattle.wire_links.specs.declared.carried.Parcel.TheVariants as parcel
 use Rattle.wire_links.specs.Carrying.{Posting, wire_after, frames_of}
@@ -46,20 +42,6 @@ frames-low s n (x ∷ older) w is to =
     ap (λ (v : World). length (v.frames n to)) after.next.world ∙ ap (λ (xs : List Message). length xs) (frames-added after.before m after.next.step.frame n to) in
     let few = added-few m after.next.step.frame n to (after.before.frames n to) in
     omega (arith, low, tick, own_tick, now, frames, few)
-
--- a node alone counts what it sent
-pub frames-sent : (s : Setup) (n : ℕ) (own : List Own) (w : World) → IsLocalRun s n own w → (from to : ℕ) → length (w.frames from to) ≡ frames_on from to (events_in own)
-frames-sent s n [] w is from to = ap (λ (v : World). length (v.frames from to)) (sym (same_Some (first_world s) w is.run))
-frames-sent s n (x ∷ older) w is from to =
-    let after = last-of s n x older w is in
-    let m = x.event.place.node in
-    let it : Happening = record { place = record { tick = after.next.step.node.tick; node = m }; what = x.event.what; effects = after.next.step.effects } in
-    ap (λ (v : World). length (v.frames from to)) after.next.world
-    ∙ (ap (λ (xs : List Message). length xs) (frames-added after.before m after.next.step.frame from to)
-    ∙ (frames-counted after.next.step.node.tick m from to after.next.step.frame it (events_in older) (after.before.frames from to) refl
-    (step-sent (given s m) (after.before.nodes m) x.event.what x.received x.event.effects.dropped after.next.step after.next.steps)
-    (frames-sent s n older after.before after.run from to)
-    ∙ ap (λ (e : Happening). frames_on from to (e ∷ events_in older)) after.event))
 
 -- a wire counts its frames
 pub wire-counts : (fate : ℕ → Fate) (xs : List Posting) → (wire_after fate xs).frames ≡ length (frames_of xs)

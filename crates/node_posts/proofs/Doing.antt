@@ -1,12 +1,9 @@
 -- A post is kept as an event of its node is done, whatever the event comes from.
-use Rattle.std.proofs.Common.{◌≡◌, ◌≢◌, ℕ, ◌+◌, ◌<◌, ◌≤◌, List, [], ◌∷◌, ◌++◌, length, map, drop, Option, Some, None, IfSome, inl, inr, refl, sym, ap, subst, ◌∙◌, append-nil, arith}
+use Rattle.std.proofs.Common.{◌≡◌, ◌≢◌, ℕ, ◌+◌, ◌<◌, ◌≤◌, List, [], ◌∷◌, length, map, Option, Some, None, IfSome, inl, inr, refl, sym, ap, subst, ◌∙◌, append-nil, arith}
 use Rattle.std.specs.Prelude.{◌^◌, ◌⊎◌, slice_get}
-use Rattle.std.specs.List.{AllZip}
 use Rattle.dom_history.specs.declared.op.Reply.{Reply}
 use Rattle.dom_history.specs.declared.op.Want.{Want}
 use Rattle.dom_history.specs.declared.event.What.{What}
-use Rattle.dom_history.specs.declared.event.NodeLog.{NodeLog}
-use Rattle.dom_history.specs.declared.event.Sent.{Sent}
 use Rattle.dom_history.specs.declared.plan.FateRow.{FateRow}
 use Rattle.dom_history.specs.Plans.{fate_of}
 use Rattle.ring_messages.specs.Frames.{Message}
@@ -19,9 +16,10 @@ use Rattle.world_runs.specs.NamedNodes.{NamesNodesIn}
 use Rattle.world_runs.specs.Sendings.{frames_on}
 use Rattle.world_runs.specs.Waiting.{Entry}
 use Rattle.ring_links.specs.declared.entry.Entry as link-entry
-use Rattle.ring_links.specs.declared.notice.Notice as notice
 use Rattle.ring_links.specs.Carried as links
 use Rattle.local_runs.specs.LocalRuns.{events_in, own_event, own_world}
+use Rattle.local_runs.proofs.Planning.{local-frames}
+use Rattle.ended_nodes.proofs.Elements.{some_if}
 use Rattle.node_core.specs.declared.fault.RunFault.{RunFault}
 use Rattle.node_core.specs.declared.fault.RunFault.TheVariants as faults
 use Rattle.node_core.specs.declared.setup.Emitted.{Emitted}
@@ -31,30 +29,26 @@ use Rattle.node_core.specs.Receivings.{emitted_by}
 use Rattle.wire_links.specs.declared.carried.Carried.{Carried}
 use Rattle.wire_links.specs.declared.wire.WireIn.{WireIn}
 use Rattle.wire_links.specs.declared.wire.WireOut.{WireOut}
-use Rattle.wire_links.specs.Carrying.{Wired, Posting, frames_of, wire_after}
-use Rattle.wire_links.specs.Wires.{wire_of, taken, from_of, to_of}
+use Rattle.wire_links.specs.Carrying.{Wired}
+use Rattle.wire_links.specs.Wires.{taken}
 use Rattle.wire_joined.specs.Posts.{Serving, IsServed}
 use Rattle.node_posts.specs.declared.post.Post.{Post}
 use Rattle.node_posts.specs.Ends.{other_at, place_of}
-use Rattle.node_posts.specs.Sendable.{CanTake, CanSendFrame, CanSend}
-use Rattle.node_posts.specs.Sending.{IsUnpushed, AreUnpushed, posted, own_after, told_after}
+use Rattle.node_posts.specs.Sendable.{CanTake, CanSendFrame}
+use Rattle.node_posts.specs.Sending.{IsUnpushed, posted, told_after}
 use Rattle.node_posts.specs.Owns.{IsOwn}
-use Rattle.node_posts.specs.Posts.{IsOut, AreOuts, AreIns, IsOwnLink, IsPushed, IsCome, IsKnown, IsLastTick, AreNotices, IsLogged, IsPost, IsWhole, IsKept}
-use Rattle.node_posts.specs.Turns.{IsStep, Steps, IsSentStep, IsBeside, IsCause, IsSender, MayDo, IsTurn, IsUnsent, IsFailed, IsDone}
+use Rattle.node_posts.specs.Posts.{IsOut, AreOuts, AreIns, IsOwnLink, IsKnown, IsLastTick, AreNotices, IsLogged, IsPost, IsKept}
+use Rattle.node_posts.specs.Turns.{IsStep, Steps, IsSentStep, IsBeside, IsCause, MayDo, IsUnsent, IsDone}
 use Rattle.node_posts.proofs.Zips.{all-from}
 use Rattle.node_posts.proofs.Placing.{other-place, place-within}
-use Rattle.node_posts.proofs.Counting.{frames-low, frames-sent, wire-counts}
+use Rattle.node_posts.proofs.Counting.{frames-low, wire-counts}
 use Rattle.node_posts.proofs.Wiring.{outs-after, all-pushed, pushed-more}
 use Rattle.node_posts.proofs.Sends.{Sends, nothing, mark, frame, emits-frame, emits-none}
 use Rattle.node_posts.proofs.Stepping.{own-tick, own-number, own-is-node}
 use Rattle.node_posts.proofs.Telling.{tells, notices-after}
 use Rattle.node_posts.proofs.Coming.{IsLater, all-came-later}
 use Rattle.node_posts.proofs.Serving.{Receives, serving_after, own-next, served-next, rest-next}
-use Rattle.node_posts.proofs.Going.{whole-known, step-sends, step-ticks, step-now, step-tick, step-timely, step-goes}
-
-some-if : {A : Type 0} (T : A → Type 0) (o : Option A) → ((x : A) → o ≡ Some x → T x) → IfSome o T
-some-if T None each = tt
-some-if T (Some x) each = each x refl
+use Rattle.node_posts.proofs.Going.{step-sends, step-ticks, step-now, step-tick, step-timely, step-goes}
 
 -- what an event emits can be sent
 module _ {P G : Type 0} (wants : P → Want) (becomes : P → Option Reply → P) (limit : ℕ) (most : limit ≤ 2 ^ 40) (what : What) (incoming : Incoming) (x : Post P G) (may : MayDo wants becomes limit (λ nodes. NamesNodesIn nodes what) x)
@@ -90,7 +84,7 @@ module _ {P G : Type 0} (wants : P → Want) (becomes : P → Option Reply → P
             subst (λ (j : ℕ). place_of j m.to < length x.outs.items) (sym same) b);
         end_of = λ away.
             subst (λ (j : ℕ). IfSome (slice_get x.outs.items (place_of j m.to)) (CanTake m)) (sym same)
-            (some-if (CanTake m) (slice_get x.outs.items (place_of n m.to)) (λ o there.
+            (some_if (CanTake m) (slice_get x.outs.items (place_of n m.to)) (λ o there.
             (let at = place_of n m.to in
             let differs : m.to ≢ n = λ h. away (h ∙ sym same) in
             let link : other_at n at ≡ m.to = other-place n m.to here.0 to.0 differs in
@@ -138,7 +132,7 @@ module _ {P G : Type 0} (wants : P → Want) (becomes : P → Option Reply → P
   mid-low = subst (λ (x : Noted P). (state_of x).tick < limit) (sym popped.node) before
 
   counted : length (p.world.frames n n) ≡ frames_on n n (events_in p.own)
-  counted = frames-sent s n p.own p.world is.node.run n n
+  counted = local-frames s n p.own p.world is.node.run n n
 
   abbrev q : Serving
   q = record p { ins = ins }

@@ -1,21 +1,21 @@
 -- One post after the other is joined with a new one.
-use Rattle.std.proofs.Common.{◌≡◌, ◌≢◌, ℕ, zero, suc, ◌+◌, ◌<◌, ◌≤◌, Bool, true, false, List, [], ◌∷◌, ◌++◌, length, map, set, Option, Some, None, inl, inr, refl, sym, ap, subst, ◌∙◌, arith, length-append}
+use Rattle.std.proofs.Common.{◌≡◌, ◌≢◌, ℕ, zero, suc, ◌+◌, ◌<◌, ◌≤◌, List, [], ◌∷◌, ◌++◌, length, map, set, Some, None, inl, inr, refl, sym, ap, subst, ◌∙◌, arith, length-append}
 use Rattle.std.proofs.lemmas.List.{length-set}
 use Rattle.std.specs.Prelude.{◌-◌, ◌⊎◌, nat_lt, slice_get}
 use Rattle.std.proofs.lemmas.Bool.Decides.{nat_tests}
-use Rattle.std.proofs.lemmas.Bool.{cases_eq}
 use Rattle.std.proofs.lemmas.Option.{slice_get_within, same_Some}
 use Rattle.uid_names.proofs.ListLemmas.{get-within, by_cases}
 use Rattle.dom_history.specs.declared.plan.FateRow.{FateRow}
 use Rattle.ring_links.specs.Carried.{empty_link}
 use Rattle.node_core.specs.Nodes.{Noted}
+use Rattle.ended_nodes.proofs.Elements.{behind}
 use Rattle.wire_links.specs.declared.wire.WireIn.{WireIn}
 use Rattle.wire_links.specs.declared.wire.WireOut.{WireOut}
 use Rattle.wire_links.specs.Wires.{AreEnds, taken}
 use Rattle.node_posts.specs.declared.post.Post.{Post}
 use Rattle.node_posts.specs.Ends.{other_at, place_of}
 use Rattle.node_posts.specs.Posts.{IsOut}
-use Rattle.node_posts.specs.Starts.{IsNewLink, IsAlone, HasEnds, IsJoined, IsFirst, AreJoined, AreJoinedWith, IsRing, AreRings}
+use Rattle.node_posts.specs.Starts.{IsNewLink, IsAlone, HasEnds, IsJoined, IsFirst, AreJoined, AreJoinedWith, IsRing}
 use Rattle.node_posts.proofs.Placing.{other-low, other-high, place-low, place-high}
 
 -- an item of a list that has one more at its end
@@ -67,10 +67,6 @@ get-before [] y k x there = absurd (cc)
 get-before (z ∷ xs) y zero x there = there
 get-before (z ∷ xs) y (suc k) x there = get-before xs y k x there
 
-get-last : {A : Type 0} (xs : List A) (y : A) → slice_get (xs ++ y ∷ []) (length xs) ≡ Some y
-get-last [] y = refl
-get-last (z ∷ xs) y = get-last xs y
-
 -- what stands in front of the last item
 front-of : {A : Type 0} (xs : List A) (y : A) (k : ℕ) (x : A) → slice_get (xs ++ y ∷ []) k ≡ Some x → k < length xs → slice_get xs k ≡ Some x
 front-of [] y k x there within = absurd (omega (arith, within))
@@ -78,7 +74,7 @@ front-of (z ∷ xs) y zero x there within = there
 front-of (z ∷ xs) y (suc k) x there within = front-of xs y k x there (omega (arith, within))
 
 last-of-more : {A : Type 0} (xs : List A) (y : A) (k : ℕ) (x : A) → slice_get (xs ++ y ∷ []) k ≡ Some x → k ≡ length xs → x ≡ y
-last-of-more xs y k x there at = same_Some x y (sym there ∙ (ap (slice_get (xs ++ y ∷ [])) at ∙ get-last xs y))
+last-of-more xs y k x there at = same_Some x y (sym there ∙ (ap (slice_get (xs ++ y ∷ [])) at ∙ behind xs y []))
 
 -- all were: the posts with the new one are joined
 module _ {P G : Type 0} (plan : List FateRow) (node : Noted P) (olds news : List (Post P G)) (post : Post P G) (number : node.log.node ≡ length olds + 1) (joined : AreJoined plan olds)
@@ -283,10 +279,10 @@ module _ {P G : Type 0} (plan : List FateRow) where
             ends = subst (λ (v : Post P G). HasEnds turn.out turn.from v now) first (subst (HasEnds turn.out turn.from x) second turn.first);
             own_in =
                 subst (λ (vs : List WireIn). slice_get vs i ≡ Some turn.into) (sym turn.second.ins)
-                (ap (slice_get (post.ins.items ++ turn.into ∷ [])) (sym is.ins_many) ∙ get-last post.ins.items turn.into);
+                (ap (slice_get (post.ins.items ++ turn.into ∷ [])) (sym is.ins_many) ∙ behind post.ins.items turn.into []);
             own_out =
                 subst (λ (vs : List WireOut). slice_get vs i ≡ Some turn.back) (sym turn.second.outs)
-                (ap (slice_get (post.outs.items ++ turn.back ∷ [])) (sym is.outs_many) ∙ get-last post.outs.items turn.back);
+                (ap (slice_get (post.outs.items ++ turn.back ∷ [])) (sym is.outs_many) ∙ behind post.outs.items turn.back []);
             there = subst (λ (k : ℕ). IsNewLink plan k (length olds + 1) turn.out turn.into) turn-number (subst (λ (k : ℕ). IsNewLink plan x.node.log.node k turn.out turn.into) own-number turn.there);
             here = subst (λ (k : ℕ). IsNewLink plan (length olds + 1) k turn.back turn.from) turn-number (subst (λ (k : ℕ). IsNewLink plan k x.node.log.node turn.back turn.from) own-number turn.here);
           }

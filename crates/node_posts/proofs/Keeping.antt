@@ -1,15 +1,14 @@
 -- A post is kept by each thing that is done to it.
-use Rattle.std.proofs.Common.{◌≡◌, ◌≢◌, ℕ, zero, suc, ◌+◌, ◌<◌, ◌≤◌, Bool, true, false, List, [], ◌∷◌, ◌++◌, length, map, drop, Option, Some, None, inl, inr, refl, sym, ap, subst, ◌∙◌, append-nil, arith}
-use Rattle.std.specs.Prelude.{◌^◌, ◌⊎◌, ◌==◌, slice_get, is_some, IsTrue, IsFalse}
-use Rattle.std.specs.List.{AllZip, AllByRecursion}
+use Rattle.std.proofs.Common.{◌≡◌, ◌≢◌, ℕ, ◌+◌, ◌<◌, ◌≤◌, Bool, true, false, List, [], ◌∷◌, ◌++◌, length, map, drop, Option, Some, None, inl, inr, refl, sym, ap, subst, ◌∙◌, append-nil, arith}
+use Rattle.std.specs.Prelude.{◌^◌, ◌==◌, slice_get, is_some, IsTrue, IsFalse}
+use Rattle.std.specs.List.{AllZip}
 use Rattle.std.proofs.lemmas.Bool.{cases_eq, eq-eqb, ne_eqb}
-use Rattle.std.proofs.lemmas.Option.{slice_get_within}
+use Rattle.std.proofs.lemmas.List.{length-map}
 use Rattle.dom_history.specs.declared.op.Reply.{Reply}
 use Rattle.dom_history.specs.declared.op.Want.{Want}
 use Rattle.dom_history.specs.declared.event.What.{What}
 use Rattle.dom_history.specs.declared.event.What.TheVariants as events
 use Rattle.dom_history.specs.declared.plan.FateRow.{FateRow}
-use Rattle.ring_messages.specs.Frames.{Message}
 use Rattle.fault_handler.specs.Desks.{IsNode}
 use Rattle.node_runs.specs.Setups.{Setup, given}
 use Rattle.node_runs.specs.NodeStates.{is_ended}
@@ -31,15 +30,15 @@ use Rattle.wire_links.specs.declared.carried.Carried.{Carried}
 use Rattle.wire_links.specs.declared.wire.WireIn.{WireIn}
 use Rattle.wire_links.specs.declared.wire.WireOut.{WireOut}
 use Rattle.wire_links.specs.Carrying.{Posting}
-use Rattle.wire_links.specs.Wires.{wire_of, taken, SameIn, SameOut}
+use Rattle.wire_links.specs.Wires.{taken, SameIn, SameOut}
 use Rattle.wire_links.proofs.Draining.{none_waits}
 use Rattle.wire_joined.specs.Posts.{Serving, IsPassed, IsServed}
 use Rattle.node_posts.specs.declared.post.Post.{Post}
-use Rattle.node_posts.specs.Ends.{other_at, own_event, AllZipFrom}
-use Rattle.node_posts.specs.Reading.{IsEventFor, IsOdd, come_if, AreTaken}
+use Rattle.node_posts.specs.Ends.{other_at, own_event}
+use Rattle.node_posts.specs.Reading.{IsEventFor, come_if, AreTaken}
 use Rattle.node_posts.specs.Sending.{IsFlushed}
 use Rattle.node_posts.specs.Owns.{IsOwn}
-use Rattle.node_posts.specs.Posts.{AreOuts, AreIns, IsOwnLink, AreNotices, IsKnown, IsLastTick, IsLogged, IsPost, IsKept, HasRun, GoesOn}
+use Rattle.node_posts.specs.Posts.{AreOuts, AreIns, IsOwnLink, AreNotices, IsLastTick, IsPost, IsKept, HasRun, GoesOn}
 use Rattle.node_posts.specs.Turns.{IsStart, IsRefused, IsBeside, MayDo, IsDone, Comes}
 use Rattle.node_posts.proofs.Zips.{all-more, zip-at, zip-length}
 use Rattle.node_posts.proofs.Placing.{other-away, other-apart, other-node}
@@ -48,12 +47,8 @@ use Rattle.node_posts.proofs.Wiring.{outs-still, all-pushed}
 use Rattle.node_posts.proofs.OwnLink.{own-less}
 use Rattle.node_posts.proofs.Serving.{Receives}
 use Rattle.node_posts.proofs.Going.{same-ins, same-outs, unpushed-same, goes-same, whole-known, stands-ended}
-use Rattle.node_posts.proofs.Doing.{IsPopped, known-before, done-kept}
+use Rattle.node_posts.proofs.Doing.{IsPopped, done-kept}
 use Rattle.node_posts.proofs.Sources.{ins_with, begin-receives, go-receives, ready-receives, ring-receives, passed-by, passed-rest, own-receives, own-enabled, own-early, own-names, notice-receives, notice-dropped, refused-passed, odd-passed, entry-names}
-
-map-many : {A B : Type 0} (f : A → B) (xs : List A) → length (map f xs) ≡ length xs
-map-many f [] = refl
-map-many f (x ∷ xs) = ap suc (map-many f xs)
 
 pub none-there : {A : Type 0} (o : Option A) → is_some o ≡ false → o ≡ None
 none-there None is = refl
@@ -86,7 +81,7 @@ module _ {P G : Type 0} (wants : P → Want) (becomes : P → Option Reply → P
           node = subst (IsOwn wants becomes has.made has.setup has.number p.own p.world) (sym node) is.node;
           outs_are = subst (λ (xs : List WireOut). AreOuts has.setup.opening.nodes has.plan has.number p.outs xs) (sym outs) is.outs;
           counted = is.served.frames;
-          own_counted = own ∙ (sym is.own.carries.frames ∙ map-many received.Frame (p.world.frames has.number has.number));
+          own_counted = own ∙ (sym is.own.carries.frames ∙ length-map (p.world.frames has.number has.number) received.Frame);
         };
         low = subst (λ (y : Noted P). (state_of y).tick < limit) (sym node) (has.is.low none);
         named = named;

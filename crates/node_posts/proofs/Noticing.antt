@@ -1,31 +1,27 @@
 -- The notices that wait at a node, after an event.
-use Rattle.std.proofs.Common.{◌≡◌, ◌≢◌, ℕ, ◌+◌, ◌<◌, ◌≤◌, Bool, true, false, cond, List, [], ◌∷◌, ◌++◌, length, map, Option, Some, None, inl, inr, refl, sym, ap, subst, ◌∙◌, append-nil, arith}
-use Rattle.std.specs.Prelude.{◌==◌, ◌&&◌, ◌^◌, IsTrue, option_to_list, slice_get}
+use Rattle.std.proofs.Common.{◌≡◌, ◌≢◌, ℕ, ◌+◌, ◌<◌, ◌≤◌, Bool, true, false, cond, List, [], ◌∷◌, ◌++◌, length, map, Option, Some, None, inl, inr, refl, sym, ap, ◌∙◌, arith}
+use Rattle.std.specs.Prelude.{◌^◌}
 use Rattle.std.specs.List.{AllByRecursion}
-use Rattle.std.proofs.lemmas.Bool.{cases_eq, eq-eqb, ne_eqb}
-use Rattle.std.proofs.lemmas.List.{map-append}
 use Rattle.uid_names.proofs.ListLemmas.{by_cases}
-use Rattle.uid_names.proofs.Passed.{left-true, right-true, equal}
-use Rattle.uid_names.specs.Names.{ProcName, same_proc}
+use Rattle.uid_names.specs.Names.{ProcName}
 use Rattle.dom_history.specs.declared.event.What.{What}
 use Rattle.dom_history.specs.declared.event.What.TheVariants.{Begin, Go, Take, Notice, Ready, Mark}
-use Rattle.dom_history.specs.declared.plan.Fate.{Fate}
 use Rattle.dom_history.specs.declared.plan.FateRow.{FateRow}
 use Rattle.dom_history.specs.Plans.{fate_of}
 use Rattle.ring_messages.specs.Bodies.{is_request}
 use Rattle.ring_messages.specs.Frames.{Message, caller_of}
 use Rattle.fault_handler.specs.Desks.{IsNode}
 use Rattle.node_runs.specs.Incomings.{Incoming}
-use Rattle.node_runs.specs.Runs.{World, numbered, told_if, told_of}
+use Rattle.node_runs.specs.Runs.{World, numbered, told_of}
 use Rattle.node_runs.specs.Deliveries.{is_gone, noticed_by, noticed_in}
 use Rattle.world_runs.specs.Gone.{FrameName, same_frame}
-use Rattle.world_runs.proofs.Receiving.{numbered-within, numbered-older}
-use Rattle.world_runs.proofs.Telling.{frame-is, same-frame}
+use Rattle.world_runs.proofs.Receiving.{numbered-within}
+use Rattle.world_runs.proofs.Telling.{frame-is}
 use Rattle.ring_links.specs.declared.notice.Notice as notice
 use Rattle.ring_links.specs.Notices.{notice_for, notice_incoming}
 use Rattle.local_runs.specs.LocalRuns.{Own, events_in}
-use Rattle.wire_links.specs.Carrying.{index_if, told_at_once}
 use Rattle.wire_joined.specs.Posts.{Serving, Came, count_if, times_named}
+use Rattle.wire_joined.proofs.Joining.{told-same}
 use Rattle.node_posts.specs.Posts.{IsNoticeHere, frame_name}
 
 -- frames on a link, of which there may be one more
@@ -113,11 +109,6 @@ request-caller : (m : Message) (n : ℕ) → is_request m.body ≡ true → m.fr
 request-caller m n asks from =
     ap (λ (b : Bool). let q : ProcName = record { node = cond b m.from m.to; number = m.proc } in q) asks
     ∙ ap (λ (k : ℕ). let q : ProcName = record { node = k; number = m.proc } in q) from
-
-told-same : (m : Message) (p : ProcName) → caller_of m ≡ p → told_of p (Some m) ≡ Some (Incoming.Gone m.number m.tick)
-told-same m p same =
-    ap (λ (b : Bool). told_if b m)
-    (ap (λ (q : ProcName). same_proc q p) same ∙ ap (λ (b : Bool). b && (p.number == p.number)) (eq-eqb p.node p.node refl) ∙ eq-eqb p.number p.number refl)
 
 pub notice-here : (nodes : ℕ) (plan : List FateRow) (n : ℕ) (v : World) (m : Message) (k : ℕ) → m.from ≡ n → m.tick < 2 ^ 40 → is_request m.body ≡ true → is_gone (fate_of plan n m.to k) ≡ true
     → numbered k (v.frames n m.to) ≡ Some m → IsNode nodes m.to → IsNoticeHere nodes plan n v (notice_for m k)

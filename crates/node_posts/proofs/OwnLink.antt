@@ -1,9 +1,9 @@
 -- A node's link to itself, on which each frame passes, after an event.
-use Rattle.std.proofs.Common.{◌≡◌, ◌≢◌, ℕ, zero, suc, ◌+◌, ◌<◌, Bool, true, false, cond, List, [], ◌∷◌, ◌++◌, length, map, drop, Option, Some, None, inl, inr, refl, sym, ap, subst, ◌∙◌, append_assoc, append-nil, add-one, arith}
-use Rattle.std.specs.Prelude.{◌==◌, ◌&&◌, ◌^◌, find, slice_get}
+use Rattle.std.proofs.Common.{◌≡◌, ◌≢◌, ℕ, zero, suc, ◌+◌, ◌<◌, Bool, false, cond, List, [], ◌∷◌, ◌++◌, length, map, drop, Option, Some, None, inl, inr, refl, sym, ap, subst, ◌∙◌, append_assoc}
+use Rattle.std.specs.Prelude.{◌==◌, ◌&&◌, ◌^◌, find}
 use Rattle.std.specs.List.{AllByRecursion}
 use Rattle.std.proofs.lemmas.Bool.{cases_eq, eq-eqb, ne_eqb}
-use Rattle.std.proofs.lemmas.List.{map-append}
+use Rattle.std.proofs.lemmas.List.{length-map, map-append}
 use Rattle.std.proofs.lemmas.List.Elements.{recursion_from_All}
 use Rattle.uid_names.proofs.ListLemmas.{by_cases}
 use Rattle.uid_names.proofs.Passed.{left-true, right-true, equal}
@@ -22,14 +22,11 @@ use Rattle.node_runs.specs.Runs.{World}
 use Rattle.node_runs.specs.Deliveries.{in_place, falls_behind, copy_if, copies}
 use Rattle.world_runs.specs.Sendings.{Sending, sending_if, sent_by, sendings, frames_in}
 use Rattle.world_runs.specs.Waiting.{Entry, due, entries, entries_put}
-use Rattle.world_runs.proofs.Alike.{added, frames-added}
-use Rattle.ring_links.specs.declared.entry.Waiting.TheVariants as waiting
 use Rattle.ring_links.specs.declared.entry.Entry as carried-entry
 use Rattle.ring_links.specs.declared.link.Later.{Later}
 use Rattle.ring_links.specs.Carried as links
 use Rattle.ring_links.proofs.Carrying.{frame-carried, less-carried}
 use Rattle.local_runs.specs.LocalRuns.{own_event, own_world}
-use Rattle.node_core.specs.declared.setup.Emitted.{Emitted}
 use Rattle.node_core.specs.declared.setup.Incoming as code
 use Rattle.node_core.specs.declared.setup.Incoming.TheVariants as received
 use Rattle.node_core.specs.Receivings.{seen, mark_in, emitted_by}
@@ -127,7 +124,7 @@ module _ (plan : List FateRow) (kept : IsPlan plan) (n : ℕ) (w : World) (es : 
       let k = link.frames + 1 in
       let now = passed (received.Frame m) link is.later in
       let q = ap (λ (c : links.Carrying code.Incoming). c.queue) now in
-      let number : frames_in (sendings n n es) + 1 ≡ k = ap (λ (i : ℕ). i + 1) (sym counted ∙ (sym (map-many (w.frames n n)) ∙ is.carries.frames)) in
+      let number : frames_in (sendings n n es) + 1 ≡ k = ap (λ (i : ℕ). i + 1) (sym counted ∙ (sym (length-map (w.frames n n) received.Frame) ∙ is.carries.frames)) in
       record {
         own = λ early. record {
           carries = subst (λ (ms : List Message). links.CarriesFrames (map received.Frame ms) l) (sym frames) (frame-carried Pass (received.Frame m) (map received.Frame (w.frames n n)) link is.carries);
@@ -145,10 +142,6 @@ module _ (plan : List FateRow) (kept : IsPlan plan) (n : ℕ) (w : World) (es : 
             ∙ (ap (λ (xs : List Entry). taken ++ xs) (sym (map-append (λ (c : carried-entry.Entry code.Incoming). links.plain_name c.waiting) link.queue (links.copy_of (received.Frame m) k ∷ [])))
             ∙ ap (λ (c : List (carried-entry.Entry code.Incoming)). taken ++ map (λ e. links.plain_name e.waiting) c) (sym q))))));
       }
-    where
-      map-many : (ms : List Message) → length (map received.Frame ms) ≡ length ms
-      map-many [] = refl
-      map-many (m ∷ ms) = ap suc (map-many ms)
 
   own-nothing : mark_in what ≡ None → st.frame ≡ None → own_after n (emitted_by what st) link ≡ link
   own-nothing unmarked none =

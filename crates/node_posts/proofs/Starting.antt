@@ -1,65 +1,35 @@
 -- Posts at the start are kept.
-use Rattle.std.proofs.Common.{◌≡◌, ◌≢◌, ℕ, zero, suc, ◌+◌, ◌<◌, ◌≤◌, Bool, true, List, [], ◌∷◌, ◌++◌, length, map, Option, Some, None, inl, inr, refl, sym, ap, subst, ◌∙◌, append-nil, append_assoc, arith}
-use Rattle.std.specs.Prelude.{◌-◌, ◌^◌, nat_le, ◌&&◌, slice_get}
-use Rattle.std.proofs.lemmas.Bool.{cases_eq}
+use Rattle.std.proofs.Common.{◌≡◌, ℕ, zero, suc, ◌+◌, ◌<◌, ◌≤◌, true, List, [], ◌∷◌, ◌++◌, length, map, Option, Some, refl, sym, ap, subst, ◌∙◌, arith}
+use Rattle.std.specs.Prelude.{◌-◌, slice_get}
 use Rattle.std.proofs.lemmas.Bool.Decides.{nat_tests}
 use Rattle.std.proofs.lemmas.List.Elements.{All-nil}
 use Rattle.std.proofs.lemmas.Option.{slice_get_within, same_Some}
 use Rattle.std.proofs.lemmas.List.{length-map, map-append}
-use Rattle.std.specs.Iterator.{Yields}
-use Rattle.std.specs.Vec.Iter.{into_iter_items, into_iter_len, into_iter_steps}
-use Rattle.std.specs.declared.vec.IntoIter.{IntoIter}
 use Rattle.dom_history.specs.declared.op.Reply.{Reply}
 use Rattle.dom_history.specs.declared.op.Want.{Want}
 use Rattle.dom_history.specs.declared.event.NodeLog.{NodeLog}
 use Rattle.dom_history.specs.declared.plan.FateRow.{FateRow}
 use Rattle.dom_history.specs.Objects.{is_node}
 use Rattle.dom_history.specs.Plans.{IsPlan}
-use Rattle.node_runs.specs.Setups.{Setup, given}
+use Rattle.node_runs.specs.Setups.{Setup}
 use Rattle.node_runs.specs.Runs.{first_world, numbered}
 use Rattle.ring_links.specs.declared.entry.Entry as link-entry
 use Rattle.ring_links.specs.declared.link.Later.{Later}
-use Rattle.ring_links.specs.declared.notice.Notice as notice
 use Rattle.ring_links.specs.Carried as links
 use Rattle.node_core.specs.declared.setup.Incoming as code
-use Rattle.node_core.specs.declared.setup.Incoming.TheVariants as received
 use Rattle.node_core.specs.Nodes.{Noted, state_of}
-use Rattle.wire_links.specs.declared.wire.WireIn.{WireIn}
-use Rattle.wire_links.specs.declared.wire.WireOut.{WireOut}
-use Rattle.wire_links.specs.Wires.{taken}
-use Rattle.wire_joined.specs.Posts.{Serving, IsHeard, IsServed, idle}
+use Rattle.wire_joined.specs.Posts.{idle}
+use Rattle.wire_joined.proofs.Joining.{idle-served}
 use Rattle.node_posts.specs.declared.post.Post.{Post}
-use Rattle.node_posts.specs.Ends.{other_at, place_of}
 use Rattle.node_posts.specs.Owns.{IsOwn}
-use Rattle.node_posts.specs.Posts.{IsOut, IsOwnLink, AreNotices, IsPost, IsKept, IsLastTick}
+use Rattle.node_posts.specs.Posts.{IsOwnLink, AreNotices, IsPost, IsKept, IsLastTick}
 use Rattle.node_posts.specs.Starts.{AreNodes, ArePosts, IsFirst, AreJoined, AreJoinedWith}
 use Rattle.node_posts.proofs.Going.{whole-known}
-
--- a post that did nothing is served
-abbrev pub idle-served : (s : Setup) (plan : List FateRow) (n : ℕ) → IsServed s plan n (idle s)
-idle-served s plan n =
-    record {
-      run = record { node = tt; run = refl; done = refl };
-      came = tt;
-      takes = λ from other. IsHeard.nothing;
-      told = λ f other. omega arith;
-      own_rest = [];
-      own_link = refl;
-      own_told = λ f own. omega arith;
-      sent = λ to other. refl;
-      frames = λ to other. refl;
-      links = λ to other k m found. absurd (cc);
-      marks = λ to other phase tick posted. absurd posted;
-    }
 
 module _ {P G : Type 0} (wants : P → Want) (becomes : P → Option Reply → P) (limit : ℕ) (least : 1 ≤ limit) (made : ℕ → ℕ → Option P) (s : Setup) (plan : List FateRow) (kept : IsPlan plan)
     (xs : List (Noted P)) (nodes : AreNodes wants becomes made s xs) (ys : List (Post P G)) (same : map (λ y. y.node) ys ≡ xs) (joined : AreJoined plan ys) where
   many : length ys ≡ s.opening.nodes
-  many = sym (map-many ys) ∙ (ap (λ (ns : List (Noted P)). length ns) same ∙ nodes.count)
-    where
-      map-many : (zs : List (Post P G)) → length (map (λ y. y.node) zs) ≡ length zs
-      map-many [] = refl
-      map-many (z ∷ zs) = ap suc (map-many zs)
+  many = sym (length-map ys (λ (y : Post P G). y.node)) ∙ (ap (λ (ns : List (Noted P)). length ns) same ∙ nodes.count)
 
   node-at : (k : ℕ) (y : Post P G) → slice_get ys k ≡ Some y → slice_get xs k ≡ Some y.node
   node-at k y there = subst (λ (ns : List (Noted P)). slice_get ns k ≡ Some y.node) same (mapped k ys there)
@@ -157,27 +127,3 @@ more-joined {P} {G} plan node olds news post zs same is = (
   map-append (λ (y : Post P G). y.node) news (post ∷ [])
       ∙ (ap (λ (vs : List (Noted P)). vs ++ post.node ∷ []) (is.nodes ∙ same) ∙ ap (λ (v : Noted P). zs ++ v ∷ []) is.node_is),
 )
-
--- what a list that is used up gives
-no-items : {A : Type 0} (xs : List A) → length xs ≡ 0 → xs ≡ []
-no-items [] none = refl
-no-items (x ∷ xs) none = absurd (omega (arith, none))
-
-given-front : {X A : Type 0} (s : IntoIter X A) (xs : List X) (t : IntoIter X A) → Yields into_iter_steps s xs t → into_iter_items s ≡ xs ++ into_iter_items t
-given-front s [] t y = ap into_iter_items y
-given-front s (x ∷ xs) t y = y.1.0 ∙ ap (λ ys. x ∷ ys) (given-front y.0 xs t y.2)
-
-behind : {A : Type 0} (xs : List A) (y : A) (ys : List A) → slice_get (xs ++ y ∷ ys) (length xs) ≡ Some y
-behind [] y ys = refl
-behind (x ∷ xs) y ys = behind xs y ys
-
--- at its end it gave all
-pub all-given : {X A : Type 0} (s : IntoIter X A) (xs : List X) (t : IntoIter X A) (all : List X) → Yields into_iter_steps s xs t → into_iter_items s ≡ all → into_iter_len t ≡ 0 → xs ≡ all
-all-given s xs t all y from none =
-    sym (append-nil xs) ∙ (ap (λ ys. xs ++ ys) (sym (no-items (into_iter_items t) (sym t.rest.ok.0 ∙ none))) ∙ (sym (given-front s xs t y) ∙ from))
-
--- what it gave last is one of all
-pub last-given : {X A : Type 0} (s : IntoIter X A) (xs : List X) (x : X) (t : IntoIter X A) (all : List X) → Yields into_iter_steps s (xs ++ x ∷ []) t → into_iter_items s ≡ all → slice_get all (length xs) ≡ Some x
-last-given {X} s xs x t all y from =
-    ap (λ (ys : List X). slice_get ys (length xs)) (sym from ∙ given-front s (xs ++ x ∷ []) t y ∙ append_assoc xs (x ∷ []) (into_iter_items t))
-    ∙ behind xs x (into_iter_items t)

@@ -1,5 +1,5 @@
 -- Posts at the start.
-use Rattle.std.specs.Prelude.{◌≡◌, ◌≢◌, ℕ, ◌+◌, ◌-◌, Option, Some, None, List, [], ◌∷◌, ◌++◌, map, length, slice_get}
+use Rattle.std.specs.Prelude.{◌≡◌, ◌≢◌, ◌≤◌, ℕ, ◌+◌, ◌-◌, Option, Some, None, List, [], ◌∷◌, ◌++◌, map, length, slice_get}
 use Rattle.dom_history.specs.declared.op.Reply.{Reply}
 use Rattle.dom_history.specs.declared.op.Want.{Want}
 use Rattle.dom_history.specs.declared.plan.FateRow.{FateRow}
@@ -27,6 +27,10 @@ module _ {P : Type 0} (wants : P → Want) (becomes : P → Option Reply → P) 
     pub count : length xs ≡ s.opening.nodes
     pub fault : (n : ℕ) (x : Post P G) → slice_get xs n ≡ Some x → x.fault ≡ None
     pub kept : (n : ℕ) (x : Post P G) → slice_get xs n ≡ Some x → IsKept wants becomes limit (made (n + 1)) s plan (n + 1) x
+
+  -- whatever these nodes are made of and whatever the last tick is, the posts are of them
+  abbrev pub ArePostsOf : {G : Type 0} → List (Noted P) → List FateRow → List (Post P G) → Type 0
+  ArePostsOf xs plan posts = (limit : ℕ) → 1 ≤ limit → (made : ℕ → ℕ → Option P) (s : Setup) → AreNodes made s xs → ArePosts limit made s plan posts
 
 -- the end at this node of the link to that one, and the end there, are of one ring
 abbrev pub IsRing : {P G : Type 0} → ℕ → ℕ → Post P G → Post P G → Type 0

@@ -1,7 +1,7 @@
 //! The posts of all nodes.
 ghost use Rattle.std.specs.Prelude.{◌≡◌, ◌≢◌, ◌≤◌, ◌++◌, ◌∷◌, [], ℕ, ◌+◌, Option, None, length, IfOk, OnOk};
 ghost use Rattle.node_runs.specs.Setups.{Setup};
-ghost use Rattle.node_posts.specs.Starts.{AreNodes, ArePosts, AreRings, IsAlone, IsJoined, AreJoined, AreJoinedWith};
+ghost use Rattle.node_posts.specs.Starts.{AreNodes, ArePostsOf, AreRings, IsAlone, IsJoined, AreJoined, AreJoinedWith};
 
 use crate::post::Post;
 use dom_history::{FaultPlan, Program};
@@ -72,8 +72,7 @@ pub fn make_posts<P: Program, G: Pages>(
     plan: &FaultPlan,
 ) -> Result<Vec<Post<P, G>>, NoMemory>
     requires nodes { (made : ℕ → ℕ → Option P) × (s : Setup) × AreNodes P.wants P.becomes made s nodes.items }
-    ensures posts { IfOk result (λ posts. (limit : ℕ) → 1 ≤ limit → (made : ℕ → ℕ → Option P) (s : Setup) → AreNodes P.wants P.becomes made s nodes.items →
-        ArePosts P.wants P.becomes limit made s plan.now posts.items) }
+    ensures posts { IfOk result (λ posts. ArePostsOf P.wants P.becomes nodes.items plan.now posts.items) }
     ensures rings { IfOk result (λ posts. AreRings posts.items) }
 {
     // No row of it is of a link from a node to itself, on which each frame passes then.

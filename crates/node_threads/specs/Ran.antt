@@ -22,7 +22,7 @@ use Rattle.local_runs.specs.LocalRuns.{Own, AreLocalRuns, AreDelivered, IsTogeth
 use Rattle.recent_local.specs.NamedRuns.{AreAllNamedAlone}
 use Rattle.local_merge.specs.Logs.{AreLogsOf}
 use Rattle.local_merge.specs.Merges.{AreApart}
-use Rattle.every_run.specs.EndedRuns.{IsEndedRun}
+use Rattle.world_runs.specs.EndedRuns.{IsEndedRun}
 use Rattle.ended_nodes.specs.Ended.{named}
 
 -- the logs are those of runs of nodes alone, in which all that was received was sent; on each link what was taken is a first part of what was

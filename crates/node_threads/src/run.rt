@@ -63,7 +63,7 @@ fn serve_on<P: Program + Send, G: Pages + Send, K: Gate, R: Wait>(
 
 /// Runs the nodes of these posts, which are all, by number, as they were made: each in a thread of its own, where one can be started, until
 /// all have ended. The answer is the journals, and each program as it ended. TickLimit is answered where an event gave that node the tick
-/// `last_tick`; of several faults it is that of the lowest node.
+/// `last_tick`. Where faults came to several nodes it is that of the lowest one, which no clause says.
 pub fn run_all<P: Program + Send, G: Pages + Send, K: Gate, R: Threads + Wait + Sync>(
     rt: &R,
     alloc: Global,

@@ -4,7 +4,7 @@ ghost use Rattle.std.specs.List.{AllZip};
 ghost use Rattle.std.specs.Thread.{IsSend, IsSync};
 ghost use Rattle.node_posts.specs.declared.post.Post.{Post as PostOf};
 ghost use Rattle.node_posts.specs.Posts.{HasRun, GoesOn};
-ghost use Rattle.node_threads.specs.Slots.{AreSlots, IsChild};
+ghost use Rattle.node_threads.specs.Slots.{AreSlots, GoOnTo, IsChild};
 
 use crate::alone::serve_unless;
 use crate::flag::{StopFlag, place_of};
@@ -49,8 +49,7 @@ fn join_all<P: Program, G: Pages, R: Threads>(
     last_tick: u64,
 ) -> Result<Vec<Post<P, G>>, NoMemory>
     requires slots { (posts : List (PostOf P G)) × AreSlots (IsChild last_tick) (GoesOn P.wants P.becomes last_tick) slots.items here.items posts }
-    ensures { IfOk result (λ served. (posts : List (PostOf P G)) → AreSlots (IsChild last_tick) (GoesOn P.wants P.becomes last_tick) slots.items here.items posts →
-        AllZip (GoesOn P.wants P.becomes last_tick) posts served.items) }
+    ensures { IfOk result (λ served. GoOnTo (IsChild last_tick) (GoesOn P.wants P.becomes last_tick) slots.items here.items served.items) }
 {
     let mut left = slots;
     let mut kept = here;

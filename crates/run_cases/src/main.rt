@@ -10,6 +10,8 @@ use anyhow::Result;
 use case_files::{FileCase, read_cases};
 use case_trials::{Case, Tried, try_case};
 use std::fs;
+use std::sync::Wait;
+use std::thread::Threads;
 
 /// How many cases were tried, in how many runs, and how many of them came out otherwise than they are to.
 #[derive(Clone, Copy)]
@@ -30,9 +32,14 @@ fn told(case: &Case, tried: Tried) -> (&'static str, &'static str) {
 }
 
 /// Tries a case, and tells of it.
-fn try_one(rt: &HostRuntime, case: FileCase, tally: Tally) -> Result<Tally> {
+fn try_one<R: Threads + Wait + Sync>(
+    rt: &HostRuntime,
+    threads: &R,
+    case: FileCase,
+    tally: Tally,
+) -> Result<Tally> {
     let case = Case::new(rt.alloc(), case)?;
-    let tried = try_case(rt.alloc(), &case)?;
+    let tried = try_case(threads, rt.alloc(), &case)?;
     let (end, part) = told(&case, tried);
     println!(rt; "  {}: {end}{part}", case.name())?;
     Ok(Tally {
@@ -45,10 +52,15 @@ fn try_one(rt: &HostRuntime, case: FileCase, tally: Tally) -> Result<Tally> {
 }
 
 /// Tries each case of a file.
-fn try_file(rt: &HostRuntime, path: &str, mut tally: Tally) -> Result<Tally> {
+fn try_file<R: Threads + Wait + Sync>(
+    rt: &HostRuntime,
+    threads: &R,
+    path: &str,
+    mut tally: Tally,
+) -> Result<Tally> {
     let text = fs::read_to_string(rt, path)?;
     for case in read_cases(rt.alloc(), text.as_str())? {
-        tally = try_one(rt, case, tally)?;
+        tally = try_one(rt, threads, case, tally)?;
     }
     Ok(tally)
 }
@@ -62,7 +74,7 @@ fn main(rt: HostRuntime) -> Result<()> {
     for line in rt.lines(rt.alloc()) {
         let path = line?;
         println!(rt; "{path}")?;
-        tally = try_file(&rt, path.as_str(), tally)?;
+        tally = try_file(&rt, &rt, path.as_str(), tally)?;
     }
     println!(rt;
         "{} cases in {} runs, {} of them wrong",

@@ -27,7 +27,7 @@ use Rattle.world_runs.proofs.Among.{Among}
 use Rattle.world_runs.proofs.Happening.{nodes-kept}
 use Rattle.world_runs.proofs.Merging.{Merged, turns-merge}
 use Rattle.run_ends.specs.OpenAsks.{IsAnswerAwaited, HasCall, HasNoCall}
-use Rattle.run_ends.proofs.MarkCounts.{marks_of}
+use Rattle.world_runs.proofs.MarkCounts.{marks_of}
 use Rattle.run_ends.proofs.LinkMarks.{was_sent, AreLinkMarks, turns-link-marks}
 use Rattle.run_ends.proofs.FirstWaiting.{marks-parts, enable}
 use Rattle.run_ends.proofs.Stuck.{true-false, never, start-comes, ready-comes, nothing-waits}

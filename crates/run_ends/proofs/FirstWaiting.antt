@@ -30,7 +30,7 @@ use Rattle.world_runs.specs.Waiting.{Entry, due, entries, entries_taken, waiting
 use Rattle.world_runs.specs.Turns.{oldest, takes_at, is_enabled_by, is_enabled, after_turns}
 use Rattle.world_runs.proofs.Merging.{Merged, turns-merge}
 use Rattle.world_runs.proofs.Planning.{AreDelivered, turns-deliver}
-use Rattle.run_ends.proofs.MarkCounts.{marks_of, marks-append, entries-sent}
+use Rattle.world_runs.proofs.MarkCounts.{marks_of, marks-append, entries-sent}
 use Rattle.run_ends.proofs.LinkMarks.{was_sent, AreLinkMarks, turns-link-marks}
 
 -- a copy is of one of so many frames

@@ -1,5 +1,4 @@
 pub mod NotEnabled
-pub mod MarkCounts
 pub mod MarkSteps
 pub mod LinkMarks
 pub mod FirstWaiting

@@ -26,7 +26,7 @@ use Rattle.world_runs.proofs.Merging.{Merged}
 use Rattle.world_runs.proofs.Inserting.{event_at}
 use Rattle.world_runs.proofs.Turning.{act_place, node-after}
 use Rattle.world_runs.proofs.TimelyTurns.{IsTimelyTurn, every-timely}
-use Rattle.run_ends.proofs.MarkCounts.{marks_of, marks_sent, marks-append, sent-append, by-event, one-mark, one-entry, no-entry}
+use Rattle.world_runs.proofs.MarkCounts.{marks_of, marks_sent, marks-append, sent-append, by-event, one-mark, one-entry, no-entry}
 use Rattle.run_ends.proofs.MarkSteps.{MarksNow, IsUnderWay, did-marks, did-under_way}
 
 -- whether the mark was sent on the link

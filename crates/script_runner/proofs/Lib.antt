@@ -6,3 +6,4 @@ pub mod Promising
 pub mod Judged
 pub mod FirstNodes
 pub mod RanNodes
+pub mod Threads

@@ -1,8 +1,8 @@
 -- What comes of a script's nodes.
-use Rattle.std.proofs.Common.{◌≡◌, ℕ, ◌-◌, ◌<◌, ◌≤◌, Option, Some, None, Result, Ok, Err, List, [], length, map, reverse, slice_index_or, refl, sym, ◌∙◌, ap, subst, arith}
-use Rattle.std.specs.Prelude.{◌^◌, All, IsSome, IfSome, IfOk, IfErr, IsErrOf, unwrap_or}
+use Rattle.std.proofs.Common.{◌≡◌, ℕ, ◌-◌, ◌<◌, Option, Some, None, Result, Ok, Err, List, [], length, map, reverse, slice_index_or, refl, sym, ◌∙◌, ap, subst, arith}
+use Rattle.std.specs.Prelude.{All, IsSome, IfSome, IfOk, IfErr, IsErrOf}
 use Rattle.std.specs.Option.{option_map}
-use Rattle.std.proofs.lemmas.List.{length-map}
+use Rattle.std.proofs.lemmas.List.{length-map, reverse-reverse}
 use Rattle.std.proofs.lemmas.List.Elements.{All-weaker}
 use Rattle.std.proofs.lemmas.Option.{slice_get-get_or}
 use Rattle.uid_names.proofs.ListLemmas.{All-reverse}
@@ -13,6 +13,7 @@ use Rattle.dom_history.specs.declared.plan.FateRow.{FateRow}
 use Rattle.dom_history.specs.declared.event.What.{What}
 use Rattle.dom_history.specs.declared.event.What.TheVariants.{Begin, Go, Take, Notice, Ready, Mark}
 use Rattle.dom_history.specs.declared.event.Sent.{Sent}
+use Rattle.dom_history.specs.declared.event.NodeLog.{NodeLog}
 use Rattle.dom_history.specs.Programs.{program_after}
 use Rattle.dom_history.specs.Follows.{Heard}
 use Rattle.script_reader.specs.declared.script.NodeRow.{NodeRow}
@@ -23,28 +24,30 @@ use Rattle.aegis_shell.specs.Shells.{Shelled, shell_of, shell_wants, shell_after
 use Rattle.journal_text.specs.Lines.{Names, NamesWhat, IsNamed}
 use Rattle.fault_handler.specs.Desks.{IsNode}
 use Rattle.node_runs.specs.Setups.{Setup}
+use Rattle.node_runs.specs.NodeStates.{NodeState, proc_of}
 use Rattle.node_runs.specs.Runs.{World, first_world}
 use Rattle.world_runs.specs.Draws.{ComesToLast}
-use Rattle.world_runs.specs.ByPlace.{by_place, IsLike}
-use Rattle.world_runs.specs.Picked.{IsPicked}
+use Rattle.world_runs.specs.ByPlace.{by_place}
 use Rattle.world_runs.specs.NamedNodes.{NamesNodes, NamesNodesIn}
 use Rattle.node_core.specs.declared.fault.RunFault.{RunFault}
 use Rattle.node_core.specs.declared.fault.RunFault.TheVariants.{TickLimit, NoMemory}
 use Rattle.world_core.specs.declared.world.World.{World as Whole}
-use Rattle.world_core.specs.Ended.{named}
+use Rattle.ended_nodes.specs.Ended.{named}
 use Rattle.world_core.specs.Stands as worlds
 use Rattle.script_runs.specs.Processes.{processes_of}
 use Rattle.script_runs.specs.Setups.{setup_of}
 use Rattle.script_runs.specs.Runs.{IsEndedRunOf, IsPickedRunOf, ComesToTick}
-use Rattle.script_runs.specs.Reports.{names_of, rows_of, history_rows}
-use Rattle.script_runs.specs.Histories.{heard_in, script_history, IsAsOneStore}
+use Rattle.script_runs.specs.Reports.{names_of, rows_of}
+use Rattle.script_runs.specs.Histories.{heard_in, IsAsOneStore, AreAnswersOfHistory}
+use Rattle.node_threads.specs.Ran.{HaveRun, EndsTogether}
 use Rattle.script_runs.proofs.ProcsWith.{processes_of-All}
 use Rattle.script_runs.proofs.Running.{map-each}
 use Rattle.script_runner.specs.declared.run.AnswerRow.{AnswerRow}
 use Rattle.script_runner.specs.Answered.{answers_by, row_in}
-use Rattle.script_runner.specs.Faults.{IsFaultOf, ComesToLastTick}
+use Rattle.script_runner.specs.EndedShells.{AreEndedShells}
+use Rattle.script_runner.specs.Faults.{IsFaultOf}
 use Rattle.script_runner.specs.Nodes.{made_shell}
-use Rattle.script_runner.specs.Reports.{RunOf, StaysBelow, answers_in}
+use Rattle.script_runner.specs.Reports.{RunOf, answers_in}
 use Rattle.script_runner.proofs.FirstNodes.{shell_found}
 
 -- each process of a script is one of its nodes
@@ -98,40 +101,68 @@ run_found events programs s seed last x (Ok y) stands plan found =
 abbrev pub NeverBoth : Type 0
 NeverBoth = (s : Content) (seed last node : ℕ) (events : List Happening) → IsPickedRunOf s seed last events → ComesToTick s seed last node → ⊥
 
--- the run, or the limit, of a number that is given or not
-picked_for : (s : Content) (turns : Option ℕ) (seed last : ℕ) (events : List Happening) → seed ≡ unwrap_or turns 0 → IsPickedRunOf s seed last events → IfSome turns (λ number. IsPickedRunOf s number last events)
-picked_for s None seed last events is picked = tt
-picked_for s (Some number) seed last events is picked = subst (λ n. IsPickedRunOf s n last events) is picked
-
-below_for : NeverBoth → (s : Content) (turns : Option ℕ) (seed last : ℕ) (events : List Happening) → seed ≡ unwrap_or turns 0 → IsPickedRunOf s seed last events → IfSome turns (λ number. StaysBelow s number last)
-below_for never s None seed last events is picked = tt
-below_for never s (Some number) seed last events is picked = λ node. never s number last node events (subst (λ n. IsPickedRunOf s n last events) is picked)
-
-comes_for : (s : Content) (turns : Option ℕ) (seed last node : ℕ) → seed ≡ unwrap_or turns 0 → ComesToTick s seed last node → ComesToLastTick s turns last node
-comes_for s None seed last node is comes = (seed, comes)
-comes_for s (Some number) seed last node is comes = subst (λ n. ComesToTick s n last node) is comes
-
-pub limit_found : {G R : Type 0} (s : Content) (turns : Option ℕ) (seed last : ℕ) (x : Whole Shelled G) (r : Result R RunFault) → seed ≡ unwrap_or turns 0
+pub limit_found : {G R : Type 0} (s : Content) (number last : ℕ) (x : Whole Shelled G) (r : Result R RunFault)
     → worlds.Stands shell_wants shell_after (made_shell s) (setup_of s) x (first_world (setup_of s)) → x.plan ≡ s.plan
-    → ((n : ℕ) → IsErrOf r (TickLimit n) → (made : ℕ → ℕ → Option Shelled) (t : Setup) → worlds.Stands shell_wants shell_after made t x (first_world t) → ComesToLast t x.plan seed last n)
-    → IfErr r (IsFaultOf s turns last)
-limit_found s turns seed last x (Ok y) is stands plan found = tt
-limit_found s turns seed last x (Err NoMemory) is stands plan found = tt
-limit_found s turns seed last x (Err (TickLimit n)) is stands plan found =
-    comes_for s turns seed last n is (subst (λ (rows : List FateRow). ComesToLast (setup_of s) rows seed last n) plan (found n refl (made_shell s) (setup_of s) stands))
+    → ((n : ℕ) → IsErrOf r (TickLimit n) → (made : ℕ → ℕ → Option Shelled) (t : Setup) → worlds.Stands shell_wants shell_after made t x (first_world t) → ComesToLast t x.plan number last n)
+    → IfErr r (IsFaultOf s (Some number) last)
+limit_found s number last x (Ok y) stands plan found = tt
+limit_found s number last x (Err NoMemory) stands plan found = tt
+limit_found s number last x (Err (TickLimit n)) stands plan found =
+    subst (λ (rows : List FateRow). ComesToLast (setup_of s) rows number last n) plan (found n refl (made_shell s) (setup_of s) stands)
 
-module _ (s : Content) (content : IsContent s) (seed last : ℕ) (events : List Happening) (programs : List (ProcName × Shelled)) (ended : worlds.IsRunOf shell_wants shell_after (made_shell s) (setup_of s) s.plan seed last events programs) where
-  -- the events are the run that the seed picks
-  abbrev pub picked : IsPicked (setup_of s) s.plan seed last (by_place ended.world.done)
-  picked = record { world = ended.world; ends = ended.ends; events = refl }
+-- laws of a script's runs
+abbrev pub NameTheirNodes : Type 0
+NameTheirNodes = (s : Content) → IsContent s → IsStart s.opening → (events : List Happening) (w : World) → IsEndedRunOf s events w → All (NamesNodes (length s.nodes)) events
 
+abbrev pub AreAsOneStore : Type 0
+AreAsOneStore = (s : Content) → IsContent s → IsStart s.opening → (events : List Happening) (w : World) → IsEndedRunOf s events w → IsAsOneStore s events w
+
+abbrev pub AnswerByHistory : Type 0
+AnswerByHistory = (s : Content) → IsContent s → IsStart s.opening → (events : List Happening) (w : World) → IsEndedRunOf s events w → AreAnswersOfHistory s events w
+
+-- the turns of a number end in nodes of the script that have ended
+pub shells_of_turns : (s : Content) (content : IsContent s) (number last : ℕ) (events : List Happening) (programs : List (ProcName × Shelled))
+    → worlds.IsRunOf shell_wants shell_after (made_shell s) (setup_of s) s.plan number last events programs → NeverBoth → AreEndedShells s (Some number) last events programs
+shells_of_turns s content number last events programs ended never =
+    let done = by_place ended.world.done in
+    let picks : IsPickedRunOf s number last (by_place ended.world.done) = record { world = ended.world; ends = ended.ends; events = refl } in
+    let alike = ended.so_far.ended ended.ended in
+    record {
+      done = done;
+      world = alike.0;
+      run = record { run = alike.1; timely = alike.2 };
+      picked = picks;
+      below = λ node. never s number last node done picks;
+      recent = ended.so_far.recent;
+      by_place = ended.events_are;
+      heard = λ p node.
+          ended.programs_are.ended p (subst (λ n. IsNode n p.node) (sym content.draft.opening_nodes) node)
+          ∙ ap (λ (x : NodeState). option_map (λ y. program_after shell_after y (proc_of x p.number).heard) (made_shell s p.node p.number)) (alike.3.nodes p.node);
+    }
+
+-- so do threads
+pub shells_of_threads : (s : Content) (content : IsContent s) (last : ℕ) (logs : List NodeLog) (events : List Happening) (programs : List (ProcName × Shelled))
+    → (ran : HaveRun shell_wants shell_after (made_shell s) (setup_of s) s.plan logs programs) → EndsTogether (setup_of s) s.plan ran.worlds (reverse events) → AreEndedShells s None last events programs
+shells_of_threads s content last logs events programs ran ends = record {
+  done = reverse events;
+  world = ends.world;
+  run = record { run = ends.run; timely = ends.timely };
+  picked = tt;
+  below = tt;
+  recent = ends.recent;
+  by_place = sym (reverse-reverse events);
+  heard = λ p node.
+      ran.programs_are.ended p (subst (λ n. IsNode n p.node) (sym content.draft.opening_nodes) node)
+      ∙ ap (λ (x : NodeState). option_map (λ y. program_after shell_after y (proc_of x p.number).heard) (made_shell s p.node p.number)) (sym (ends.together.nodes p.node));
+}
+
+module _ (s : Content) (content : IsContent s) (turns : Option ℕ) (last : ℕ) (events : List Happening) (programs : List (ProcName × Shelled)) (ended : AreEndedShells s turns last events programs) where
   -- the shell of each process is what it became by what its program heard
   shells_are : All (λ p. named programs p ≡ Some (program_after shell_after (shell_of s p) (heard_in ended.world p))) (processes_of s.commands)
   shells_are i d below =
       let p = slice_index_or (processes_of s.commands) i d in
       let node : IsNode (length s.nodes) (slice_index_or (processes_of s.commands) i d).node = processes_named s content i d below in
-      ended.programs_are.ended p (subst (λ n. IsNode n p.node) (sym content.draft.opening_nodes) node)
-      ∙ ap (option_map (λ y. program_after shell_after y (heard_in ended.world p))) (shells_made s i d below)
+      ended.heard p node ∙ ap (option_map (λ y. program_after shell_after y (heard_in ended.world p))) (shells_made s i d below)
 
   -- each has one
   pub shells_there : (procs : List ProcName) → procs ≡ processes_of s.commands → All (λ p. IsSome (named programs p)) procs
@@ -147,42 +178,23 @@ module _ (s : Content) (content : IsContent s) (seed last : ℕ) (events : List 
       let p = slice_index_or (processes_of s.commands) i d in
       ap (λ (texts : List (List ℕ)). record { proc = p; answers = texts }) (ap answers_by (shells_are i d below) ∙ law p (heard_in ended.world p)))
 
--- laws of a script's runs
-abbrev pub NameTheirNodes : Type 0
-NameTheirNodes = (s : Content) → IsContent s → IsStart s.opening → (events : List Happening) (w : World) → IsEndedRunOf s events w → All (NamesNodes (length s.nodes)) events
+  module _ (start : IsStart s.opening) where
+    -- what came of the script
+    pub ran_is : AreAsOneStore → AnswerByHistory → ((p : ProcName) (heard : Heard) → shell_answers (program_after shell_after (shell_of s p) heard) ≡ answers s p heard)
+        → (procs : List ProcName) → procs ≡ processes_of s.commands → (rows : List AnswerRow) → map answers_in rows ≡ map (row_in programs) procs → RunOf s turns last (record { events = events; answers = rows })
+    ran_is one_store by_history answered procs are rows same =
+        record {
+          events = ended.done;
+          world = ended.world;
+          run = ended.run;
+          picked = ended.picked;
+          below = ended.below;
+          one_store = one_store s content start ended.done ended.world ended.run;
+          recent = ended.recent;
+          by_place = ended.by_place;
+          answered = same ∙ (rows_are answered procs are ∙ by_history s content start ended.done ended.world ended.run);
+        }
 
-abbrev pub AreAsOneStore : Type 0
-AreAsOneStore = (s : Content) → IsContent s → IsStart s.opening → (events : List Happening) (w : World) → IsEndedRunOf s events w → IsAsOneStore s events w
-
-abbrev pub AnswerByHistory : Type 0
-AnswerByHistory = (s : Content) (seed last : ℕ) → IsContent s → IsStart s.opening → last ≤ 2 ^ 40 → (events : List Happening) (picked : IsPickedRunOf s seed last events) → rows_of s (heard_in picked.world) ≡ history_rows s (script_history s events)
-
-module _ (s : Content) (content : IsContent s) (start : IsStart s.opening) (seed last : ℕ) (most : last ≤ 2 ^ 40) (events : List Happening) (programs : List (ProcName × Shelled)) (ended : worlds.IsRunOf shell_wants shell_after (made_shell s) (setup_of s) s.plan seed last events programs) where
-  abbrev by_turns : List Happening
-  by_turns = by_place ended.world.done
-
-  abbrev picks : IsPickedRunOf s seed last by_turns
-  picks = picked s content seed last events programs ended
-
-  abbrev run : (w : World) × IsEndedRunOf s by_turns w × IsLike picks.world w
-  run = let alike = ended.so_far.ended ended.ended in (alike.0, record { run = alike.1; timely = alike.2 }, alike.3)
-
-  -- what came of the script
-  pub ran_is : (turns : Option ℕ) → seed ≡ unwrap_or turns 0 → NeverBoth → AreAsOneStore → AnswerByHistory → ((p : ProcName) (heard : Heard) → shell_answers (program_after shell_after (shell_of s p) heard) ≡ answers s p heard)
-      → (procs : List ProcName) → procs ≡ processes_of s.commands → (rows : List AnswerRow) → map answers_in rows ≡ map (row_in programs) procs → RunOf s turns last (record { events = events; answers = rows })
-  ran_is turns is never one_store by_history answered procs are rows same =
-      record {
-        events = by_turns;
-        world = run.0;
-        run = run.1;
-        picked = picked_for s turns seed last by_turns is picks;
-        below = below_for never s turns seed last by_turns is picks;
-        one_store = one_store s content start by_turns run.0 run.1;
-        recent = ended.so_far.recent;
-        by_place = ended.events_are;
-        answered = same ∙ (rows_are s content seed last events programs ended answered procs are ∙ by_history s seed last content start most by_turns picks);
-      }
-
-  -- each node that an event names has a name
-  pub names_are : NameTheirNodes → All (Names (names_of s)) events
-  names_are named = subst (All (Names (names_of s))) (sym ended.events_are) (events_named s by_turns (named s content start by_turns run.0 run.1))
+    -- each node that an event names has a name
+    pub names_are : NameTheirNodes → All (Names (names_of s)) events
+    names_are named = subst (All (Names (names_of s))) (sym ended.by_place) (events_named s ended.done (named s content start ended.done ended.world ended.run))

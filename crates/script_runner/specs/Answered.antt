@@ -2,7 +2,7 @@
 use Rattle.std.specs.Prelude.{ℕ, Option, Some, None, List, []}
 use Rattle.uid_names.specs.Names.{ProcName}
 use Rattle.aegis_shell.specs.Shells.{Shelled, shell_answers}
-use Rattle.world_core.specs.Ended.{named}
+use Rattle.ended_nodes.specs.Ended.{named}
 use Rattle.script_runs.specs.Reports.{ProcAnswers}
 
 abbrev pub answers_by : Option Shelled → List (List ℕ)

@@ -58,7 +58,7 @@ pub record RunFor (asked : Asked) (left : Bytes) (text lines : List ℕ) : Type 
   pub told : text ≡ text_for asked script (script_history script run.events)
   pub written : lines ≡ journal_of script run.events
 
--- turns of the script give a node the last tick: those of the number that is asked for, or where none is said those of some number
+-- a node comes to the last tick: in the turns of the number that is asked for, or where none is said in a run of the script's nodes
 pub record LimitFor (asked : Asked) (left : Bytes) : Type 0 where
   pub script : Content
   pub source : IsScriptFor asked left script

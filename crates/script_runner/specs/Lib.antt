@@ -7,3 +7,4 @@ pub mod DueTexts
 pub mod Faults
 pub mod Answered
 pub mod Nodes
+pub mod EndedShells

@@ -63,7 +63,7 @@ pub record AddsRefusal {O : Type 0} (left : Bytes) (out : Stream O) : Type 0 whe
   pub due : IsRefusalOfSource left text
   pub added : Adds out text
 
--- words that are taken, whichever script they ask for: it was run where what is told of it was written, and its turns came to the last tick where that is said
+-- words that are taken, whichever script they ask for: it was run where what is told of it was written, and a node of it comes to the last tick where that is said
 pub record PromiseOfRun {S O J : Type 0} (asked : Asked) (script : Stream S) (out : Stream O) (journal : Stream J) (status : ℕ) : Type 0 where
   pub no_usage : status ≢ 2
   pub run : status ≡ 0 → AddsRun asked (bytes_of script) out journal
@@ -84,8 +84,8 @@ pub record LacksScript (left : Option (List ℕ)) : Type 0 where
   pub left_is : left ≡ Some bytes
   pub none : (script : Content) → IsScript bytes script → ⊥
 
--- what is told of a run was written, and its journal; or there was no memory, or turns of the script give a node the last tick: with a number of turns
--- it is the last exactly where those that it picks do
+-- what is told of a run was written, and its journal; or there was no memory, or a node comes to the last tick, with no number of turns in some run of the
+-- script's nodes: with a number it is the last exactly where the turns that it picks do so
 abbrev pub IsDone : Content → Option ℕ → ℕ → Type 0
 IsDone s turns status =
     ((status ≡ 0) × IfSome turns (λ number. StaysBelow s number last_tick)) ⊎ ((status ≡ 7) ⊎ ((status ≡ 8) × ((node : ℕ) × ComesToLastTick s turns last_tick node)))

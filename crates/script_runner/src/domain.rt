@@ -22,10 +22,13 @@ use dom_history::NodeNames;
 use dom_io::{ReadEnd, Sink, Source, read_all, write_all};
 use dom_text::put_decimal;
 use node_core::RunFault;
+use node_threads::Gate;
 use script_maker::generate;
 use script_reader::laws::scripts_have_one_reading;
 use script_reader::{Cause, Script, ScriptFault, read_script};
 use std::alloc::Global;
+use std::sync::Wait;
+use std::thread::Threads;
 use thiserror::Error;
 use uid_names::{ByteList, NoMemory, SCRIPT_BYTES};
 
@@ -93,11 +96,18 @@ fn told(
 }
 
 /// What is told of a run of the script that is asked for, and its journal, which are made whole.
-fn run_due(alloc: Global, asked: Asked, script: &Script) -> Result<Due, RunEnd>
+fn run_due<K: Gate, R: Threads + Wait + Sync>(
+    rt: &R,
+    alloc: Global,
+    asked: Asked,
+    script: &Script,
+    gate: &K,
+) -> Result<Due, RunEnd>
     ensures due { (left : Bytes) → IsScriptFor asked left script.now → IfOk result (IsDueFor asked left) }
     ensures end { IfErr result (IsEndOf script.now (turns_of asked)) }
 {
-    let MergedRan { events, answers } = match run_merged(alloc, script, asked.turns(), LAST_TICK) {
+    let ran = run_merged(rt, alloc, script, asked.turns(), LAST_TICK, gate);
+    let MergedRan { events, answers } = match ran {
         Ok(ran) => ran,
         Err(RunFault::TickLimit(_)) => return Err(RunEnd::TickLimit),
         Err(RunFault::NoMemory) => return Err(RunEnd::NoMemory),
@@ -108,7 +118,13 @@ fn run_due(alloc: Global, asked: Asked, script: &Script) -> Result<Due, RunEnd>
 }
 
 /// What is due for the bytes that a source has left.
-fn read_due<S: Source>(alloc: Global, turns: Option<u64>, script: &mut S) -> Result<Due, RunEnd>
+fn read_due<S: Source, K: Gate, R: Threads + Wait + Sync>(
+    rt: &R,
+    alloc: Global,
+    turns: Option<u64>,
+    script: &mut S,
+    gate: &K,
+) -> Result<Due, RunEnd>
     ensures due { IfOk result (IsDueFor (Reads turns) (from_to (S.left script.old) (S.left script.new))) }
     ensures read_fault { IsErrOf result RunEnd.ReadFault → CountRose (S.faults script.old) (S.faults script.new) }
     ensures limit { IsErrOf result RunEnd.TickLimit → LimitFor (Reads turns) (from_to (S.left script.old) (S.left script.new)) }
@@ -122,24 +138,36 @@ fn read_due<S: Source>(alloc: Global, turns: Option<u64>, script: &mut S) -> Res
         Err(ReadEnd::NoMemory) => return Err(RunEnd::NoMemory),
     };
     match read_script(alloc, bytes.bytes()) {
-        Ok(read) => run_due(alloc, Asked::Reads { turns }, &read),
+        Ok(read) => run_due(rt, alloc, Asked::Reads { turns }, &read, gate),
         Err(ScriptFault::Bad { line, cause }) => Ok(Due::Refusal(refusal(alloc, line, cause)?)),
         Err(ScriptFault::NoMemory) => Err(RunEnd::NoMemory),
     }
 }
 
 /// What is due for the script that is generated from a seed.
-fn generated_due(alloc: Global, seed: u64, turns: Option<u64>) -> Result<Due, RunEnd>
+fn generated_due<K: Gate, R: Threads + Wait + Sync>(
+    rt: &R,
+    alloc: Global,
+    seed: u64,
+    turns: Option<u64>,
+    gate: &K,
+) -> Result<Due, RunEnd>
     ensures due { (left : Bytes) → IfOk result (IsDueFor (Generates seed turns) left) }
     ensures no_read_fault { IsErrOf result RunEnd.ReadFault → ⊥ }
     ensures limit { (left : Bytes) → IsErrOf result RunEnd.TickLimit → LimitFor (Generates seed turns) left }
 {
     let script = generate(alloc, seed)?;
-    run_due(alloc, Asked::Generates { seed, turns }, &script)
+    run_due(rt, alloc, Asked::Generates { seed, turns }, &script, gate)
 }
 
 /// What is due for the script that is asked for; a source is read only for one that is not generated.
-fn asked_due<S: Source>(alloc: Global, asked: Asked, script: &mut S) -> Result<Due, RunEnd>
+fn asked_due<S: Source, K: Gate, R: Threads + Wait + Sync>(
+    rt: &R,
+    alloc: Global,
+    asked: Asked,
+    script: &mut S,
+    gate: &K,
+) -> Result<Due, RunEnd>
     ensures due { IfOk result (IsDueFor asked (from_to (S.left script.old) (S.left script.new))) }
     ensures read_fault { IsErrOf result RunEnd.ReadFault → CountRose (S.faults script.old) (S.faults script.new) }
     ensures read { IsErrOf result RunEnd.ReadFault → IsRead asked }
@@ -149,8 +177,8 @@ fn asked_due<S: Source>(alloc: Global, asked: Asked, script: &mut S) -> Result<D
     ensures unread { IsUnread asked (over S.left S.faults script.old script.new) }
 {
     match asked {
-        Asked::Reads { turns } => read_due(alloc, turns, script),
-        Asked::Generates { seed, turns } => generated_due(alloc, seed, turns),
+        Asked::Reads { turns } => read_due(rt, alloc, turns, script, gate),
+        Asked::Generates { seed, turns } => generated_due(rt, alloc, seed, turns, gate),
     }
 }
 
@@ -199,19 +227,21 @@ fn write_run<O: Sink, J: Sink>(
 }
 
 /// Runs what the words ask for, and writes what is due: the status.
-fn run_asked<S: Source, O: Sink, J: Sink>(
+fn run_asked<S: Source, O: Sink, J: Sink, K: Gate, R: Threads + Wait + Sync>(
+    rt: &R,
     alloc: Global,
     asked: Asked,
     script: &mut S,
     out: &mut O,
     journal: &mut J,
+    gate: &K,
 ) -> u8
     ensures statuses { IsStatusOf (over S.left S.faults script.old script.new) (over O.held O.faults out.old out.new) (over J.held J.faults journal.old journal.new) result }
     ensures kept { Promised asked (over S.left S.faults script.old script.new) (over O.held O.faults out.old out.new) (over J.held J.faults journal.old journal.new) result }
 {
     // So bytes that are a script have no bad line.
     scripts_have_one_reading();
-    match asked_due(alloc, asked, script) {
+    match asked_due(rt, alloc, asked, script, gate) {
         Ok(Due::Run(text, lines)) => write_run(alloc, out, journal, text.bytes(), &lines),
         Ok(Due::Refusal(text)) => write_text(out, text.bytes(), 3),
         Err(RunEnd::ReadFault) => 4,
@@ -222,7 +252,8 @@ fn run_asked<S: Source, O: Sink, J: Sink>(
 
 /// Runs the program: `words` are those of the command line, `script` is standard input, `out` standard output and
 /// `journal` standard error. What is told of a run is the report of the script that was read, or the line that sums up the
-/// run of the one that was generated. The answer is the exit status:
+/// run of the one that was generated. Where the words say a number of turns the nodes run on one thread; else each has a thread of its
+/// own, the gate delays commands, and the call may wait. The answer is the exit status:
 ///
 /// - 0: what is told of a run of the script was written, and the journal;
 /// - 2: the words are not taken, and the usage was written;
@@ -234,12 +265,14 @@ fn run_asked<S: Source, O: Sink, J: Sink>(
 /// - 8: a node came to the last tick.
 ///
 /// Nothing takes memory once that begins to be written.
-pub fn run_domain<S: Source, O: Sink, J: Sink>(
+pub fn run_domain<S: Source, O: Sink, J: Sink, K: Gate, R: Threads + Wait + Sync>(
+    rt: &R,
     alloc: Global,
     words: &[String],
     script: &mut S,
     out: &mut O,
     journal: &mut J,
+    gate: &K,
 ) -> u8
     // Whatever the words are: a status of failure only where the count of faults rose, what stays as it was, and what was taken.
     ensures statuses { IsStatusOf (over S.left S.faults script.old script.new) (over O.held O.faults out.old out.new) (over J.held J.faults journal.old journal.new) result }
@@ -259,5 +292,5 @@ pub fn run_domain<S: Source, O: Sink, J: Sink>(
     let Some(asked) = words_asked(words) else {
         return write_text(out, USAGE, 2);
     };
-    run_asked(alloc, asked, script, out, journal)
+    run_asked(rt, alloc, asked, script, out, journal, gate)
 }

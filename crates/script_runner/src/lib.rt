@@ -3,7 +3,7 @@
 
 mod domain;
 mod names;
-mod nodes;
+pub mod nodes;
 mod processes;
 mod report;
 pub mod run;
@@ -12,4 +12,5 @@ mod summary;
 mod words;
 
 pub use domain::run_domain;
-pub use run::{AnswerRow, AnswerRows, Ran, run_script};
+pub use nodes::nodes_of;
+pub use run::{AnswerRow, AnswerRows, Ran, run_script, run_script_in_turns};

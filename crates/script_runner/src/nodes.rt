@@ -65,7 +65,7 @@ fn node_of<'a>(
 }
 
 /// All nodes of a script, by number.
-pub(crate) fn nodes_of(
+pub fn nodes_of(
     alloc: Global,
     script: &Script,
 ) -> Result<Vec<Node<Shell<'_>, BlockPages>>, NoMemory>

@@ -7,7 +7,7 @@ use Rattle.node_runs.specs.Runs.{World}
 use Rattle.world_runs.specs.ByPlace.{IsLike}
 use Rattle.world_runs.specs.Draws.{ComesToLast}
 use Rattle.world_runs.specs.Picked.{IsPicked}
-use Rattle.every_run.specs.EndedRuns.{IsEndedRun}
+use Rattle.world_runs.specs.EndedRuns.{IsEndedRun}
 use Rattle.script_runs.specs.Setups.{setup_of}
 
 -- no event gives a node this tick

@@ -1,10 +1,13 @@
 //! What no case of run_cases tries: calls in memory that find what they want, streams in memory that fail, and the last tick.
 use dom_io::{MemSink, MemSource};
 use node_core::RunFault;
+use node_threads::OpenGate;
 use script_reader::read_script;
-use script_runner::{run_domain, run_script};
+use script_runner::{run_domain, run_script, run_script_in_turns};
 use std::alloc::Global;
+use std::sync::Wait;
 use std::test::Fail;
+use std::thread::Threads;
 use uid_names::NodeId;
 
 const FIRST_RUN: &[u8] =
@@ -14,7 +17,8 @@ const FIRST_REPORT: &[u8] =
     b"a.1 1 ok 0000000000200001\na.1 2 ok\na.1 3 ok\na.1 4 ok \"hi\"\na.1 5 ok\n";
 
 /// The status of the first run, from a source whose calls of these numbers fail.
-fn first_run(
+fn first_run<R: Threads + Wait + Sync>(
+    rt: &R,
     alloc: Global,
     reads: &[u64],
     out: &mut MemSink,
@@ -23,14 +27,15 @@ fn first_run(
     let mut words = Vec::new(alloc);
     words.push(String::from_str(alloc, "run")?)?;
     let mut source = MemSource::new(alloc, FIRST_RUN, reads)?;
-    Ok(run_domain(alloc, words.as_slice(), &mut source, out, journal))
+    let words = words.as_slice();
+    Ok(run_domain(rt, alloc, words, &mut source, out, journal, &OpenGate))
 }
 
 #[test]
 fn a_text_is_stored_and_loaded(rt: HostRuntime) -> Result<(), Fail> {
     let mut out = MemSink::new(rt.alloc(), 100, &[])?;
     let mut journal = MemSink::new(rt.alloc(), 1000, &[])?;
-    assert_eq!(rt; first_run(rt.alloc(), &[], &mut out, &mut journal)?, 0);
+    assert_eq!(rt; first_run(&rt, rt.alloc(), &[], &mut out, &mut journal)?, 0);
     assert_eq!(rt; out.bytes(), FIRST_REPORT);
     assert!(rt; journal.bytes().ends_with(b"\n19 a ready 1\n"));
     Ok(())
@@ -48,7 +53,7 @@ fn a_stream_that_fails_is_told(rt: HostRuntime) -> Result<(), Fail> {
         let mut out = MemSink::new(rt.alloc(), 100, writes)?;
         let mut journal = MemSink::new(rt.alloc(), 1000, lines)?;
         assert_eq!(rt;
-            first_run(rt.alloc(), reads, &mut out, &mut journal)?,
+            first_run(&rt, rt.alloc(), reads, &mut out, &mut journal)?,
             status
         );
         assert_eq!(rt; out.bytes().len(), written);
@@ -61,11 +66,24 @@ fn a_stream_that_fails_is_told(rt: HostRuntime) -> Result<(), Fail> {
 fn the_last_tick_ends_a_run(rt: HostRuntime) -> Result<(), Fail> {
     let script = read_script(rt.alloc(), FIRST_RUN)?;
     let node = NodeId::new(1).ok_or("no node")?;
-    let early = run_script(rt.alloc(), &script, Some(0), 10).map(|_| ());
+    let early = run_script_in_turns(rt.alloc(), &script, 0, 10).map(|_| ());
     assert_eq!(rt; early, Err(RunFault::TickLimit(node)));
-    let last = run_script(rt.alloc(), &script, Some(0), 19).map(|_| ());
+    let last = run_script_in_turns(rt.alloc(), &script, 0, 19).map(|_| ());
     assert_eq!(rt; last, Err(RunFault::TickLimit(node)));
-    let whole = run_script(rt.alloc(), &script, Some(0), 20).map(|_| ());
+    let whole = run_script_in_turns(rt.alloc(), &script, 0, 20).map(|_| ());
     assert_eq!(rt; whole, Ok(()));
+    Ok(())
+}
+
+#[test]
+fn threads_run_a_script_too(rt: HostRuntime) -> Result<(), Fail> {
+    let script = read_script(rt.alloc(), FIRST_RUN)?;
+    let node = NodeId::new(1).ok_or("no node")?;
+    let late = run_script(&rt, rt.alloc(), &script, None, 19, &OpenGate).map(|_| 0);
+    assert_eq!(rt; late, Err(RunFault::TickLimit(node)));
+    let whole = run_script(&rt, rt.alloc(), &script, None, 20, &OpenGate);
+    assert_eq!(rt; whole.map(|ran| ran.events.items().len()), Ok(19));
+    let turns = run_script(&rt, rt.alloc(), &script, Some(7), 20, &OpenGate);
+    assert_eq!(rt; turns.map(|ran| ran.events.items().len()), Ok(19));
     Ok(())
 }

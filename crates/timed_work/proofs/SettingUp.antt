@@ -17,6 +17,7 @@ use Rattle.node_runs.specs.Setups.{IsSetup, IsFrames, ArePrograms, given}
 use Rattle.node_core.specs.Programs.{program_in, program_by, numbers_in}
 use Rattle.node_core.specs.Nodes.{Noted, Stands, IsGivenBy}
 use Rattle.world_core.specs.Stands.{AreNodes}
+use Rattle.node_posts.specs.Starts as posts
 use Rattle.timed_work.proofs.Making.{found_in}
 use Rattle.timed_work.specs.Rounds.{Round, round_wants, round_after, want_in, IsReady}
 use Rattle.timed_work.specs.Teams.{IsTeam, AreMade, made_round, asks_of, setup_with, node_setup}
@@ -109,3 +110,7 @@ module _ (s : Content) (content : IsContent s) (start : IsStart s.opening) (team
         ((made.node n x is).stands (given (setup_with s teams) (n + 1)) (given_by n));
     log = λ n x is. (made.node n x is).log;
   }
+
+  -- the same, as posts have them
+  pub are_nodes_of_posts : posts.AreNodes round_wants round_after (made_round teams) (setup_with s teams) xs
+  are_nodes_of_posts = record { setup = are_nodes.setup; count = are_nodes.count; node = are_nodes.node; log = are_nodes.log }

@@ -2,9 +2,11 @@
 ghost use Rattle.std.specs.Prelude.{◌≤◌};
 
 use crate::runs::run_script;
-use crate::work::put_nodes;
+use crate::work::{Order, put_nodes};
 use anyhow::Result;
 use std::alloc::Global;
+use std::sync::Wait;
+use std::thread::Threads;
 use uid_names::{ByteList, NoMemory};
 
 /// The bytes of a page.
@@ -85,26 +87,39 @@ fn reading(alloc: Global, pages: u32) -> Result<ByteList, NoMemory>
 }
 
 /// A thousand files are made in eight directories of another node, and then each is found by its name and read.
-pub fn run_names(rt: &HostRuntime, count: u32) -> Result<(u64, u64)> {
+pub fn run_names<R: Threads + Wait + Sync>(
+    rt: &HostRuntime,
+    threads: &R,
+    count: u32,
+) -> Result<(u64, u64)> {
     let script = names(rt.alloc())?;
-    run_script(rt, script.bytes(), count)
+    run_script(rt, threads, script.bytes(), Order::Turns, count)
 }
 
 /// So many copies in one run, at nodes of so many frames.
-pub fn run_copies(rt: &HostRuntime, frames: u32, count: u32) -> Result<(u64, u64)> {
+pub fn run_copies<R: Threads + Wait + Sync>(
+    rt: &HostRuntime,
+    threads: &R,
+    frames: u32,
+    count: u32,
+) -> Result<(u64, u64)> {
     let script = copies(rt.alloc(), frames, count)?;
-    run_script(rt, script.bytes(), 1)
+    run_script(rt, threads, script.bytes(), Order::Turns, 1)
 }
 
 /// So many pages, in files of the most pages but the last, each in a run of its own.
-pub fn run_reading(rt: &HostRuntime, count: u32) -> Result<(u64, u64)> {
+pub fn run_reading<R: Threads + Wait + Sync>(
+    rt: &HostRuntime,
+    threads: &R,
+    count: u32,
+) -> Result<(u64, u64)> {
     let (mut events, mut micros) = (0_u64, 0_u64);
     for file in 0..count.div_ceil(MOST_PAGES) {
         let pages = count
             .saturating_sub(file.saturating_mul(MOST_PAGES))
             .min(MOST_PAGES);
         let script = reading(rt.alloc(), pages)?;
-        let (more, longer) = run_script(rt, script.bytes(), 1)?;
+        let (more, longer) = run_script(rt, threads, script.bytes(), Order::Turns, 1)?;
         events = events.saturating_add(more);
         micros = micros.saturating_add(longer);
     }

@@ -34,9 +34,11 @@ mod worlds;
 
 use anyhow::{Context, Result};
 use node::Deeds;
+use std::sync::Wait;
+use std::thread::Threads;
 use std::time::CpuClock;
 use uid_names::{NodeId, ProcId, Uid};
-use work::Work;
+use work::{Order, Work};
 
 /// The names of all measures, one space apart.
 pub const NAMES: &str =
@@ -45,11 +47,50 @@ pub const NAMES: &str =
     cache-evictions-64 cache-evictions-256 scripts-read shells-made store-operations \
     node-accesses node-locks xorshift-steps \
     world-mixed world-resident world-locks world-evictions run-mixed run-resident run-locks run-evictions \
-    names copies-256 copies-8 file-read";
+    names copies-256 copies-8 file-read \
+    threads-mixed threads-resident threads-locks threads-evictions \
+    threads-run-mixed threads-run-resident threads-run-locks threads-run-evictions";
+
+/// Does a measure of whole worlds or runs so often.
+fn take_run<R: Threads + Wait + Sync>(
+    rt: &HostRuntime,
+    threads: &R,
+    name: &str,
+    count: u32,
+) -> Result<(u64, u64)> {
+    match name {
+        "world-mixed" => worlds::run(rt, threads, Work::Mixed, Order::Turns, count),
+        "world-resident" => worlds::run(rt, threads, Work::Resident, Order::Turns, count),
+        "world-locks" => worlds::run(rt, threads, Work::Locks, Order::Turns, count),
+        "world-evictions" => worlds::run(rt, threads, Work::Evictions, Order::Turns, count),
+        "run-mixed" => runs::run(rt, threads, Work::Mixed, Order::Turns, count),
+        "run-resident" => runs::run(rt, threads, Work::Resident, Order::Turns, count),
+        "run-locks" => runs::run(rt, threads, Work::Locks, Order::Turns, count),
+        "run-evictions" => runs::run(rt, threads, Work::Evictions, Order::Turns, count),
+        "names" => files::run_names(rt, threads, count),
+        "copies-256" => files::run_copies(rt, threads, 256, count),
+        "copies-8" => files::run_copies(rt, threads, 8, count),
+        "file-read" => files::run_reading(rt, threads, count),
+        "threads-mixed" => worlds::run(rt, threads, Work::Mixed, Order::Threads, count),
+        "threads-resident" => worlds::run(rt, threads, Work::Resident, Order::Threads, count),
+        "threads-locks" => worlds::run(rt, threads, Work::Locks, Order::Threads, count),
+        "threads-evictions" => worlds::run(rt, threads, Work::Evictions, Order::Threads, count),
+        "threads-run-mixed" => runs::run(rt, threads, Work::Mixed, Order::Threads, count),
+        "threads-run-resident" => runs::run(rt, threads, Work::Resident, Order::Threads, count),
+        "threads-run-locks" => runs::run(rt, threads, Work::Locks, Order::Threads, count),
+        "threads-run-evictions" => runs::run(rt, threads, Work::Evictions, Order::Threads, count),
+        _ => anyhow::bail!("no such measure"),
+    }
+}
 
 /// Does a measure so often; how much was done, and in how many microseconds of processor time. There is an error where no
 /// measure has the name, where there is no memory, or where the host has no clock.
-pub fn take(rt: &HostRuntime, name: &str, count: u32) -> Result<(u64, u64)> {
+pub fn take<R: Threads + Wait + Sync>(
+    rt: &HostRuntime,
+    threads: &R,
+    name: &str,
+    count: u32,
+) -> Result<(u64, u64)> {
     match name {
         "lock-frames-written" => ring::write_frames(rt, ring::Sample::Lock, count),
         "lock-frames-read" => ring::read_frames(rt, ring::Sample::Lock, count),
@@ -76,19 +117,7 @@ pub fn take(rt: &HostRuntime, name: &str, count: u32) -> Result<(u64, u64)> {
         "node-accesses" => node::happen(rt, Deeds::Accesses, count),
         "node-locks" => node::happen(rt, Deeds::Locks, count),
         "xorshift-steps" => steps(rt, count),
-        "world-mixed" => worlds::run(rt, Work::Mixed, count),
-        "world-resident" => worlds::run(rt, Work::Resident, count),
-        "world-locks" => worlds::run(rt, Work::Locks, count),
-        "world-evictions" => worlds::run(rt, Work::Evictions, count),
-        "run-mixed" => runs::run(rt, Work::Mixed, count),
-        "run-resident" => runs::run(rt, Work::Resident, count),
-        "run-locks" => runs::run(rt, Work::Locks, count),
-        "run-evictions" => runs::run(rt, Work::Evictions, count),
-        "names" => files::run_names(rt, count),
-        "copies-256" => files::run_copies(rt, 256, count),
-        "copies-8" => files::run_copies(rt, 8, count),
-        "file-read" => files::run_reading(rt, count),
-        _ => anyhow::bail!("no such measure"),
+        _ => take_run(rt, threads, name, count),
     }
 }
 

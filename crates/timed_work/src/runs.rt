@@ -2,11 +2,14 @@
 ghost use Rattle.std.specs.Prelude.{◌<◌};
 
 use crate::sink::{Counter, Unit};
-use crate::work::{Work, head};
+use crate::work::{Order, Work, head};
 use anyhow::Result;
 use dom_io::MemSource;
+use node_threads::OpenGate;
 use script_runner::run_domain;
 use std::alloc::Global;
+use std::sync::Wait;
+use std::thread::Threads;
 use uid_names::{ByteList, NoMemory};
 
 /// The most that a script has of commands.
@@ -87,42 +90,72 @@ fn text(alloc: Global, work: Work) -> Result<ByteList, NoMemory> {
     }
 }
 
-/// The words that ask for the turns of this number.
-fn words_of(alloc: Global, turns: u32) -> Result<Vec<String>> {
+/// The words that ask for a run, in the turns of a number or by threads.
+fn words_of(alloc: Global, order: Order, turns: u32) -> Result<Vec<String>> {
     let mut words = Vec::new(alloc);
-    for word in ["run", "--turns"] {
-        words.push(String::from_str(alloc, word)?)?;
+    words.push(String::from_str(alloc, "run")?)?;
+    if order == Order::Turns {
+        words.push(String::from_str(alloc, "--turns")?)?;
+        words.push(format!(in alloc; "{turns}")?)?;
     }
-    words.push(format!(in alloc; "{turns}")?)?;
     Ok(words)
 }
 
-/// Runs a script in the turns of this number; how much its journal has, in this unit.
-fn run_once(alloc: Global, script: &[u8], turns: u32, unit: Unit) -> Result<u32> {
-    let words = words_of(alloc, turns)?;
+/// Runs a script in the turns of this number, or by threads; how much its journal has, in this unit.
+fn run_once<R: Threads + Wait + Sync>(
+    threads: &R,
+    alloc: Global,
+    script: &[u8],
+    order: Order,
+    turns: u32,
+    unit: Unit,
+) -> Result<u32> {
+    let words = words_of(alloc, order, turns)?;
     let mut source = MemSource::new(alloc, script, &[])?;
     let (mut out, mut journal) = (Counter::new(Unit::Bytes), Counter::new(unit));
-    let status = run_domain(alloc, words.as_slice(), &mut source, &mut out, &mut journal);
+    let status = run_domain(
+        threads,
+        alloc,
+        words.as_slice(),
+        &mut source,
+        &mut out,
+        &mut journal,
+        &OpenGate,
+    );
     anyhow::ensure!(status == 0, "no run");
     Ok(u32::try_from(journal.count())?)
 }
 
-/// Runs a script so often, each time in other turns. The events are counted in runs of their own, since it takes time to
-/// find the lines of a journal.
-pub fn run_script(rt: &HostRuntime, script: &[u8], count: u32) -> Result<(u64, u64)> {
+/// Runs a script so often. The events are counted in runs of their own, since it takes time to find the lines of a journal: in turns
+/// they are those that are timed, and by threads much the same.
+pub fn run_script<R: Threads + Wait + Sync>(
+    rt: &HostRuntime,
+    threads: &R,
+    script: &[u8],
+    order: Order,
+    count: u32,
+) -> Result<(u64, u64)> {
+    let alloc = rt.alloc();
     let mut events = 0_u64;
     for turns in 0..count {
-        let lines = run_once(rt.alloc(), script, turns, Unit::Lines)?;
+        let lines = run_once(threads, alloc, script, order, turns, Unit::Lines)?;
         events = events.wrapping_add(u64::from(lines));
     }
-    let timed: Result<(u64, u64)> =
-        timed!(rt, count, i => run_once(rt.alloc(), script, i, Unit::Bytes)?);
+    let timed: Result<(u64, u64)> = timed!(rt, count, i => {
+        run_once(threads, alloc, script, order, i, Unit::Bytes)?
+    });
     let (_bytes, micros) = timed?;
     Ok((events, micros))
 }
 
 /// A script of the work, so often.
-pub fn run(rt: &HostRuntime, work: Work, count: u32) -> Result<(u64, u64)> {
+pub fn run<R: Threads + Wait + Sync>(
+    rt: &HostRuntime,
+    threads: &R,
+    work: Work,
+    order: Order,
+    count: u32,
+) -> Result<(u64, u64)> {
     let script = text(rt.alloc(), work)?;
-    run_script(rt, script.bytes(), count)
+    run_script(rt, threads, script.bytes(), order, count)
 }

@@ -16,6 +16,15 @@ pub enum Work {
     Evictions,
 }
 
+/// How nodes are run.
+#[derive(Clone, Copy, Debug, PartialEq, Eq)]
+pub enum Order {
+    /// On one thread, each time in other turns.
+    Turns,
+    /// Each in a thread of its own.
+    Threads,
+}
+
 /// How many phases of the mixed work are one unit.
 pub const PHASES: u32 = 20;
 

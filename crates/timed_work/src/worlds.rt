@@ -1,12 +1,14 @@
 //! Worlds of nodes whose processes go round lists of operations: there is no script of commands, and no shell. What is counted
 //! are events, and what is timed are the run with the merge of its logs, and the journal as it is written.
-ghost use Rattle.std.specs.Prelude.{◌≡◌, ◌≤◌, ℕ, Option, List, IfOk, length, map};
+ghost use Rattle.std.specs.Prelude.{◌≡◌, ◌≤◌, ◌^◌, ℕ, Option, List, IfOk, length, map};
 ghost use Rattle.dom_history.specs.NodeTexts.{AreNodeNames};
+ghost use Rattle.dom_history.specs.declared.plan.FateRow.{FateRow};
 ghost use Rattle.uid_names.specs.Openings.{IsStart};
 ghost use Rattle.node_runs.specs.Setups.{Setup};
 ghost use Rattle.node_runs.specs.Runs.{first_world};
 ghost use Rattle.script_reader.specs.Scripts.{IsContent};
 ghost use Rattle.world_core.specs.Stands.{Stands};
+ghost use Rattle.node_posts.specs.Starts.{ArePosts, AreRings};
 ghost use Rattle.timed_work.specs.Rounds.{Round, round_wants, round_after};
 ghost use Rattle.timed_work.specs.Teams.{IsTeam, IsMade, AreMade};
 
@@ -14,14 +16,20 @@ use crate::micros;
 use crate::rounds::Rounds;
 use crate::sink::{Counter, Unit};
 use crate::teams::team;
-use crate::work::{PHASES, Work, head};
+use crate::work::{Order, PHASES, Work, head};
 use anyhow::Result;
 use dom_history::{FaultPlan, MergedLogs, NodeNames};
 use journal_text::{JournalLines, are_merged_named};
+use local_merge::laws::logs_of_local_runs_may_be_merged;
+use local_merge::merge;
 use node_core::{Node, NodeSetup};
+use node_posts::{Post, make_posts};
+use node_threads::{OpenGate, run_all};
 use page_store::BlockPages;
 use script_reader::{NodeRow, Script, read_script};
 use std::alloc::Global;
+use std::sync::Wait;
+use std::thread::Threads;
 use uid_names::{NoMemory, NodeId};
 use world_core::World;
 
@@ -104,6 +112,22 @@ fn world_of(
     World::new(alloc, nodes, FaultPlan::new(alloc))
 }
 
+/// The posts of the nodes at the start.
+fn posts_of(
+    alloc: Global,
+    script: &Script,
+    work: Work,
+    units: u32,
+) -> Result<Vec<Post<Rounds, BlockPages>>, NoMemory>
+    requires few { units ≤ 100 }
+    ensures posts { IfOk result (λ posts. (made : ℕ → ℕ → Option Round) × (s : Setup) × (plan : List FateRow) × ArePosts round_wants round_after (2 ^ 40) made s plan posts.items) }
+    ensures rings { IfOk result (λ posts. AreRings posts.items) }
+{
+    let nodes = nodes_of(alloc, script, work, units)?;
+    let plan = FaultPlan::new(alloc);
+    make_posts(alloc, nodes, &plan)
+}
+
 /// The names of nodes.
 fn names_of(alloc: Global, rows: &[NodeRow]) -> Result<NodeNames, NoMemory>
     requires { AreNodeNames (map (λ n. n.name) rows.now) }
@@ -129,30 +153,74 @@ fn write(rt: &HostRuntime, script: &Script, events: &MergedLogs) -> Result<u64> 
     Ok(end.saturating_sub(start))
 }
 
-/// Runs a world of so many units of some ten thousand events in the turns of a number: how many events there are, and how
-/// long the run and the journal take.
-fn run_once(rt: &HostRuntime, work: Work, units: u32, turns: u32) -> Result<(u64, u64)>
+/// The events of a world of so many units of some ten thousand events, in the turns of a number; and how long the run takes.
+fn run_in_turns(
+    rt: &HostRuntime,
+    script: &Script,
+    work: Work,
+    units: u32,
+    turns: u32,
+) -> Result<(MergedLogs, u64)>
+    requires few { units ≤ 100 }
+{
+    let world = world_of(rt.alloc(), script, work, units)?;
+    let start = micros(rt)?;
+    let (events, _programs) = world.run_merged(rt.alloc(), u64::from(turns), LAST_TICK)?;
+    Ok((events, micros(rt)?.saturating_sub(start)))
+}
+
+/// The same with a thread for each node.
+fn run_in_threads<R: Threads + Wait + Sync>(
+    rt: &HostRuntime,
+    threads: &R,
+    script: &Script,
+    work: Work,
+    units: u32,
+) -> Result<(MergedLogs, u64)>
+    requires few { units ≤ 100 }
+{
+    let posts = posts_of(rt.alloc(), script, work, units)?;
+    let start = micros(rt)?;
+    let (logs, _programs) = run_all(threads, rt.alloc(), posts, &OpenGate, LAST_TICK)?;
+    // So the logs may be merged.
+    logs_of_local_runs_may_be_merged();
+    let events = merge(rt.alloc(), logs)?;
+    Ok((events, micros(rt)?.saturating_sub(start)))
+}
+
+/// Runs a world of so many units: how many events there are, and how long the run and the journal take.
+fn run_once<R: Threads + Wait + Sync>(
+    rt: &HostRuntime,
+    threads: &R,
+    work: Work,
+    order: Order,
+    units: u32,
+    turns: u32,
+) -> Result<(u64, u64)>
     requires few { units ≤ 100 }
 {
     let script = declared(rt.alloc(), work, units)?;
-    let world = world_of(rt.alloc(), &script, work, units)?;
-    let start = micros(rt)?;
-    let (events, _programs) = world.run_merged(rt.alloc(), u64::from(turns), LAST_TICK)?;
-    let end = micros(rt)?;
+    let (events, micros) = match order {
+        Order::Turns => run_in_turns(rt, &script, work, units, turns)?,
+        Order::Threads => run_in_threads(rt, threads, &script, work, units)?,
+    };
     let written = write(rt, &script, &events)?;
-    Ok((
-        events.len() as u64,
-        end.saturating_sub(start).saturating_add(written),
-    ))
+    Ok((events.len() as u64, micros.saturating_add(written)))
 }
 
 /// So many units, as many as there may be of them in one run.
-pub fn run(rt: &HostRuntime, work: Work, count: u32) -> Result<(u64, u64)> {
+pub fn run<R: Threads + Wait + Sync>(
+    rt: &HostRuntime,
+    threads: &R,
+    work: Work,
+    order: Order,
+    count: u32,
+) -> Result<(u64, u64)> {
     let most = if work == Work::Mixed { 50 } else { 100 };
     let (mut events, mut micros) = (0_u64, 0_u64);
     for turns in 0..count.div_ceil(most) {
         let units = count.saturating_sub(turns.saturating_mul(most)).min(most);
-        let (more, longer) = run_once(rt, work, units, turns)?;
+        let (more, longer) = run_once(rt, threads, work, order, units, turns)?;
         events = events.saturating_add(more);
         micros = micros.saturating_add(longer);
     }

@@ -42,7 +42,7 @@ use Rattle.wire_joined.proofs.Marks.{marks-once}
 use Rattle.wire_joined.proofs.Members.{in-append, all-in, in-kept, names-append, numbered-map}
 
 module _ (s : Setup) (plan : List FateRow) where
-  idle-served : (n : ℕ) → IsServed s plan n (idle s)
+  abbrev pub idle-served : (n : ℕ) → IsServed s plan n (idle s)
   idle-served n = record {
     run = record { node = tt; run = refl; done = refl };
     came = tt;
@@ -72,7 +72,7 @@ module _ (s : Setup) (plan : List FateRow) where
       (λ h. absurd (let e : is_node s.opening n ≡ true = subst (λ m. is_node s.opening m ≡ true) (equal p.node n h) all.0 in cc))
       (λ h. subst (λ (b : Bool). (cond b p.post (post_of s posts n)).own ≡ []) (sym h) (nothing-at posts all.1 n away))
 
-told-same : (m : Message) (p : ProcName) → caller_of m ≡ p → told_of p (Some m) ≡ Some (Incoming.Gone m.number m.tick)
+pub told-same : (m : Message) (p : ProcName) → caller_of m ≡ p → told_of p (Some m) ≡ Some (Incoming.Gone m.number m.tick)
 told-same m p same =
     ap (λ (b : Bool). told_if b m)
     (ap (λ (q : ProcName). same_proc q p) same ∙ ap (λ (b : Bool). b && (p.number == p.number)) (eq-eqb p.node p.node refl) ∙ eq-eqb p.number p.number refl)

@@ -1,9 +1,9 @@
 -- A node alone sends the mark of a phase once.
-use Rattle.std.proofs.Common.{◌≡◌, ℕ, zero, suc, ◌+◌, ◌<◌, ◌≤◌, Bool, true, false, List, [], ◌∷◌, ◌++◌, map, Option, Some, None, refl, sym, ap, subst, ◌∙◌, arith}
+use Rattle.std.proofs.Common.{◌≡◌, ℕ, zero, suc, ◌+◌, ◌<◌, ◌≤◌, Bool, true, false, cond, List, [], ◌∷◌, map, Some, refl, sym, ap, subst, ◌∙◌, arith}
 use Rattle.std.specs.Prelude.{◌==◌, not}
+use Rattle.std.proofs.lemmas.Bool.{eq-eqb, ne_eqb, false≢true}
 use Rattle.dom_history.specs.declared.event.What.{What}
 use Rattle.dom_history.specs.declared.event.What.TheVariants.{Begin, Go, Take, Notice, Ready, Mark}
-use Rattle.dom_history.specs.declared.event.Sent.{Sent}
 use Rattle.dom_history.specs.Events.{Happening}
 use Rattle.node_runs.specs.Setups.{Setup, given}
 use Rattle.node_runs.specs.NodeStates.{NodeState}
@@ -13,12 +13,14 @@ use Rattle.node_runs.specs.Steps.{step_of}
 use Rattle.node_runs.specs.Runs.{World}
 use Rattle.node_runs.proofs.Calls.{put-same}
 use Rattle.node_runs.proofs.Doing.{step_of-did}
-use Rattle.world_runs.specs.Sendings.{Sending, sending_if, frame_to, mark_to, sent_if, sent_by, sendings}
+use Rattle.world_runs.specs.Sendings.{Sending, sending_if, mark_to, sent_if, sent_by, sendings}
+use Rattle.world_runs.proofs.MarkCounts.{marks_sent, sent-append, by-event}
 use Rattle.world_runs.proofs.Marking.{HasSent, IsMarking, step-marking, did-marks}
 use Rattle.local_runs.specs.LocalRuns.{Own, events_in, IsLocalRun}
 use Rattle.local_runs.proofs.Alone.{last-of}
 use Rattle.wire_links.specs.Carrying.{Posting, sending_of}
 use Rattle.wire_joined.specs.Posts.{count_if}
+use Rattle.uid_names.proofs.ListLemmas.{by_cases}
 use Rattle.uid_names.proofs.Passed.{equal}
 
 abbrev ready_by : ℕ → What → ℕ
@@ -73,31 +75,20 @@ marks_posted phase [] = 0
 marks_posted phase (Posting.Frame m ∷ xs) = marks_posted phase xs
 marks_posted phase (Posting.Mark at tick ∷ xs) = count_if (phase == at) + marks_posted phase xs
 
-abbrev marks_sent : ℕ → List Sending → ℕ
-marks_sent phase [] = 0
-marks_sent phase (Sending.Frame ∷ ss) = marks_sent phase ss
-marks_sent phase (Sending.Mark k ∷ ss) = count_if (phase == k) + marks_sent phase ss
-
-sent-append : (phase : ℕ) (xs ys : List Sending) → marks_sent phase (xs ++ ys) ≡ marks_sent phase xs + marks_sent phase ys
-sent-append phase [] ys = omega arith
-sent-append phase (Sending.Frame ∷ xs) ys = sent-append phase xs ys
-sent-append phase (Sending.Mark k ∷ xs) ys = let e = sent-append phase xs ys in omega (arith, e)
+-- a mark is counted alike both ways round
+counted : (a b : ℕ) → cond (a == b) 1 0 ≡ count_if (b == a)
+counted a b =
+    by_cases (a == b) (cond (a == b) 1 0 ≡ count_if (b == a))
+    (λ h. ap (λ (c : Bool). cond c 1 0) h ∙ sym (ap count_if (eq-eqb b a (sym (equal a b h)))))
+    (λ h. ap (λ (c : Bool). cond c 1 0) h ∙ sym (ap count_if (ne_eqb b a (λ same. absurd (false≢true (sym h ∙ eq-eqb a b (sym same)))))))
 
 posted-sent : (phase : ℕ) (xs : List Posting) → marks_posted phase xs ≡ marks_sent phase (map sending_of xs)
 posted-sent phase [] = refl
 posted-sent phase (Posting.Frame m ∷ xs) = posted-sent phase xs
-posted-sent phase (Posting.Mark k tick ∷ xs) = let e = posted-sent phase xs in omega (arith, e)
-
-one-frame : (phase : ℕ) (b : Bool) → marks_sent phase (sending_if b Sending.Frame) ≡ 0
-one-frame phase true = refl
-one-frame phase false = refl
-
-no-frame : (phase to : ℕ) (x : Option Sent) → marks_sent phase (frame_to to x) ≡ 0
-no-frame phase to None = refl
-no-frame phase to (Some x) = one-frame phase (x.to == to)
+posted-sent phase (Posting.Mark k tick ∷ xs) = let e = posted-sent phase xs in let c = counted k phase in omega (arith, e, c)
 
 one-mark : (phase k : ℕ) (b : Bool) → marks_sent phase (sending_if b (Sending.Mark k)) ≤ count_if (phase == k)
-one-mark phase k true = omega arith
+one-mark phase k true = let c = counted k phase in omega (arith, c)
 one-mark phase k false = omega arith
 
 mark-by : (phase from to : ℕ) (what : What) → marks_sent phase (mark_to from to what) ≤ ready_by phase what
@@ -110,11 +101,7 @@ mark-by phase from to (Ready k) = one-mark phase k (not (from == to))
 
 sent-by : (phase from to : ℕ) (e : Happening) (b : Bool) → marks_sent phase (sent_if b from to e) ≤ ready_by phase e.what
 sent-by phase from to e false = omega arith
-sent-by phase from to e true =
-    let a = sent-append phase (mark_to from to e.what) (frame_to to e.effects.sent) in
-    let b = mark-by phase from to e.what in
-    let c = no-frame phase to e.effects.sent in
-    omega (arith, a, b, c)
+sent-by phase from to e true = let a = by-event phase true from to e in let b = mark-by phase from to e.what in omega (arith, a, b)
 
 sent-readies : (phase from to : ℕ) (es : List Happening) → marks_sent phase (sendings from to es) ≤ readies phase es
 sent-readies phase from to [] = omega arith

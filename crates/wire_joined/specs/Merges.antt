@@ -9,7 +9,7 @@ use Rattle.node_runs.specs.Runs.{World}
 use Rattle.ring_links.specs.Merged.{AreMerged}
 use Rattle.local_runs.specs.LocalRuns.{IsMergeOf, IsTogether}
 use Rattle.local_merge.specs.Logs.{AreLogsOf}
-use Rattle.every_run.specs.EndedRuns.{IsEndedRun}
+use Rattle.world_runs.specs.EndedRuns.{IsEndedRun}
 use Rattle.wire_joined.specs.Posts.{Numbered, AreServed, own_of, world_at}
 
 -- it holds of all events of posts that were served by a plan, by place, the last one first

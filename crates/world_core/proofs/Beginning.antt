@@ -12,6 +12,7 @@ use Rattle.node_runs.specs.Runs.{first_world}
 use Rattle.ring_links.specs.Carried.{empty_link}
 use Rattle.node_core.specs.Nodes.{Noted}
 use Rattle.node_core.specs.Nodes as nodes
+use Rattle.ended_nodes.proofs.Elements.{behind}
 use Rattle.ring_links.specs.declared.notice.Notice.{Notice}
 use Rattle.world_core.specs.declared.station.LinkFrom.{LinkFrom}
 use Rattle.world_core.specs.declared.station.Station.{Station}
@@ -33,10 +34,6 @@ longer : {A : Type 0} (xs : List A) (y : A) → length (xs ++ y ∷ []) ≡ suc 
 longer [] y = refl
 longer (x ∷ xs) y = ap suc (longer xs y)
 
-last-one : {A : Type 0} (xs : List A) (y : A) → slice_get (xs ++ y ∷ []) (length xs) ≡ Some y
-last-one [] y = refl
-last-one (x ∷ xs) y = last-one xs y
-
 front-one : {A : Type 0} (T : A → Type 0) (xs : List A) (x : A) (n : ℕ) → IsSomeAnd (slice_get xs n) T → IsSomeAnd (slice_get (xs ++ x ∷ []) n) T
 front-one T [] x n is = absurd is
 front-one T (y ∷ xs) x zero is = is
@@ -52,7 +49,7 @@ first-more {P} nodes made ys x y many each is = (
     | inl here ↦ front-one (λ m. IsFirst nodes m z) made x n (each n z here)
     | inr last ↦
         subst (λ (k : ℕ). IsSomeAnd (slice_get (made ++ x ∷ []) k) (λ m. IsFirst nodes m z)) (sym (last.0 ∙ many))
-        (subst (λ (o : Option (Noted P)). IsSomeAnd o (λ m. IsFirst nodes m z)) (sym (last-one made x)) (subst (IsFirst nodes x) (sym last.1) is))
+        (subst (λ (o : Option (Noted P)). IsSomeAnd o (λ m. IsFirst nodes m z)) (sym (behind made x [])) (subst (IsFirst nodes x) (sym last.1) is))
   ],
 )
 

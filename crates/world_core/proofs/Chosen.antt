@@ -32,7 +32,7 @@ use Rattle.world_core.specs.Stations.{Candidate}
 use Rattle.world_core.specs.Listed.{event_at}
 use Rattle.world_core.specs.Places.{enabled_counts, IsPlace}
 use Rattle.world_core.specs.Stands.{act_of, IsStation, Stands, IsBelow}
-use Rattle.world_core.proofs.Elements.{map_at}
+use Rattle.ended_nodes.proofs.Elements.{map_at}
 use Rattle.world_core.proofs.Choosing.{is-one, queue-is, all-places, one-place}
 use Rattle.world_core.proofs.Found.{passes-there}
 use Rattle.world_core.proofs.Happening.{IsAt, at-place}

@@ -2,6 +2,7 @@
 use Rattle.std.proofs.Common.{◌≡◌, ℕ, suc, ◌+◌, ◌*◌, ◌<◌, ◌≤◌, Bool, true, false, Option, Some, None, List, [], ◌∷◌, ◌++◌, map, length, refl, sym, ap, arith}
 use Rattle.std.specs.Prelude.{All, filter, flat_map, not, ◌==◌, ◌^◌, sum}
 use Rattle.std.proofs.lemmas.Grind.{common_steps}
+use Rattle.std.proofs.lemmas.List.{length-map}
 use Rattle.std.proofs.lemmas.List.Elements.{All-head, All-tail}
 use Rattle.uid_names.proofs.ListLemmas.{length-filter_le}
 use Rattle.uid_names.proofs.Somes.{bind-some}
@@ -35,11 +36,7 @@ use Rattle.ring_links.specs.Notices.{notice_what}
 use Rattle.world_core.specs.Stations.{Candidate, noticed, oldest, oldest_of, start, passes, comings, candidates}
 use Rattle.world_core.specs.Places.{enabled_counts}
 use Rattle.world_core.specs.Stands.{Stands}
-use Rattle.world_core.proofs.Elements.{map_at, all_at}
-
-many-map : {A B : Type 0} (f : A → B) (xs : List A) → length (map f xs) ≡ length xs
-many-map f [] = refl
-many-map f (x ∷ xs) = ap suc (many-map f xs)
+use Rattle.ended_nodes.proofs.Elements.{map_at, all_at}
 
 many-append : {A : Type 0} (xs ys : List A) → length (xs ++ ys) ≡ length xs + length ys
 many-append xs ys = grind (arith, common_steps)
@@ -121,7 +118,7 @@ few-oldest i (l ∷ more) =
 few-comings : {P : Type 0} (node : Noted P) (notices : List Notice) (ins : List LinkFrom) → length (comings node (candidates node notices ins)) ≤ 9 + (length notices + length ins)
 few-comings {P} node notices ins =
     let ready : List Candidate = start (Ready (state_of node).phase) ∷ [] in
-    let map = many-map (λ (c : Candidate). c.coming) (filter (passes node) (candidates node notices ins)) in
+    let map = length-map (filter (passes node) (candidates node notices ins)) (λ (c : Candidate). c.coming) in
     let kept = length-filter_le (passes node) (candidates node notices ins) in
     let named = few-noticed 0 notices in
     let links = few-oldest 0 ins in
@@ -153,7 +150,7 @@ module _ {P G : Type 0} (wants : P → Want) (becomes : P → Option Reply → P
       let st = stands.station k found.0 found.1 in
       let listed = ap length st.listed in
       let most = few-comings y.node y.notices.items y.ins.items in
-      let names = many-map notice_what y.notices.items in
+      let names = length-map y.notices.items notice_what in
       let open_ones = ap length st.notices in
       let few = open-few s x.plan w (k + 1) in
       let done = done-few x w stands in
@@ -162,7 +159,7 @@ module _ {P G : Type 0} (wants : P → Want) (becomes : P → Option Reply → P
       let is = found.2 in
       omega (arith, listed, most, names, open_ones, few, done, links, nodes, is))) in
       let all = sum-few (8 * 2 ^ 40 + 17) (enabled_counts x.stations.items) each in
-      let many = many-map (λ (y : Station P G). length y.enabled.items) x.stations.items in
+      let many = length-map x.stations.items (λ (y : Station P G). length y.enabled.items) in
       let count = stands.count in
       let nodes = stands.setup.start.nodes_high in
       omega (arith, all, many, count, nodes)

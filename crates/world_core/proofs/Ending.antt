@@ -1,8 +1,9 @@
 -- The programs of a world's nodes are those that heard what the run says.
-use Rattle.std.proofs.Common.{◌≡◌, ◌≢◌, ℕ, zero, suc, ◌+◌, ◌-◌, ◌<◌, Bool, true, Option, Some, None, List, [], ◌∷◌, map, length, inl, inr, refl, sym, ap, subst, ◌∙◌, arith}
-use Rattle.std.specs.Prelude.{slice_get, All, IsSome, is_some}
+use Rattle.std.proofs.Common.{◌≡◌, ◌≢◌, ℕ, ◌+◌, ◌-◌, ◌<◌, true, Option, Some, None, List, map, length, inl, inr, sym, ap, subst, ◌∙◌, arith}
+use Rattle.std.specs.Prelude.{slice_get, All, IsSome}
 use Rattle.std.specs.Option.{option_map}
-use Rattle.std.proofs.lemmas.Bool.{eq-eqb, ne_eqb, cases_lt, false≢true}
+use Rattle.std.proofs.lemmas.Bool.{cases_lt, false≢true}
+use Rattle.std.proofs.lemmas.List.{length-map}
 use Rattle.std.proofs.lemmas.Option.{slice_get_within}
 use Rattle.uid_names.specs.Names.{ProcName}
 use Rattle.uid_names.proofs.ListLemmas.{get-within}
@@ -17,39 +18,10 @@ use Rattle.node_runs.proofs.SettingUp.{setup-procs}
 use Rattle.node_core.specs.Nodes.{Noted, program_of}
 use Rattle.world_core.specs.declared.station.Station.{Station}
 use Rattle.world_core.specs.declared.world.World.{World}
-use Rattle.world_core.specs.Ended.{named, own_if, own_of, or_else, program_at, AreNumbered}
+use Rattle.ended_nodes.specs.Ended.{named, program_at, AreNumbered}
 use Rattle.world_core.specs.Stands.{Stands, AreEnded}
-use Rattle.world_core.proofs.Elements.{map_at, all_at}
-use Rattle.world_core.proofs.Programs.{else-none}
-
-module _ {P : Type 0} where
-  not-own : (x : Noted P) (p : ProcName) → x.log.node ≢ p.node → own_of x p ≡ None
-  not-own x p differs = ap (λ (b : Bool). own_if b (program_of x p.number)) (ne_eqb x.log.node p.node differs)
-
-  is-own : (x : Noted P) (p : ProcName) → x.log.node ≡ p.node → own_of x p ≡ program_of x p.number
-  is-own x p same = ap (λ (b : Bool). own_if b (program_of x p.number)) (eq-eqb x.log.node p.node same)
-
-  none-at : (xs : List (Noted P)) (p : ProcName) → ((k : ℕ) (x : Noted P) → slice_get xs k ≡ Some x → x.log.node ≢ p.node) → program_at xs p ≡ None
-  none-at [] p others = refl
-  none-at (x ∷ xs) p others = ap (λ (o : Option P). or_else o (program_at xs p)) (not-own x p (others 0 x refl)) ∙ none-at xs p (λ k y e. others (suc k) y e)
-
-  -- nodes are numbered on from the first one
-  at-node : (xs : List (Noted P)) (first : ℕ) → ((k : ℕ) (x : Noted P) → slice_get xs k ≡ Some x → x.log.node ≡ first + k)
-      → (k : ℕ) (x : Noted P) (p : ProcName) → slice_get xs k ≡ Some x → p.node ≡ first + k → program_at xs p ≡ program_of x p.number
-  at-node [] first numbered k x p e is = absurd (cc)
-  at-node (y ∷ xs) first numbered zero x p e is =
-      let same : y ≡ x = cc in
-      let here = numbered 0 y refl in
-      let none = none-at xs p (λ j z f. λ equals. (let there = numbered (suc j) z f in absurd (omega (arith, there, equals, is)))) in
-      ap (λ (o : Option P). or_else (own_of y p) o) none ∙ (else-none (own_of y p) ∙ (is-own y p (omega (arith, here, is)) ∙ ap (λ (z : Noted P). program_of z p.number) same))
-  at-node (y ∷ xs) first numbered (suc k) x p e is =
-      let here = numbered 0 y refl in
-      ap (λ (o : Option P). or_else o (program_at xs p)) (not-own y p (λ equals. absurd (omega (arith, here, equals, is))))
-      ∙ at-node xs (suc first) (λ j z f. (let there = numbered (suc j) z f in omega (arith, there))) k x p e (omega (arith, is))
-
-  made-is : {Q : Type 0} (f : P → Q) (o : Option P) (r : Option Q) → r ≡ option_map f o → IsSome r → is_some o ≡ true
-  made-is f None r e some = absurd (false≢true (subst IsSome e some))
-  made-is f (Some y) r e some = refl
+use Rattle.ended_nodes.proofs.Elements.{map_at, all_at}
+use Rattle.ended_nodes.proofs.Naming.{none-at, at-node, made-is}
 
 module _ {P G : Type 0} (wants : P → Want) (becomes : P → Option Reply → P) (made : ℕ → ℕ → Option P) (s : Setup) (x : World P G) (w : runs.World) (stands : Stands wants becomes made s x w) where
   abbrev noted : List (Noted P)
@@ -68,11 +40,7 @@ module _ {P G : Type 0} (wants : P → Want) (becomes : P → Option Reply → P
       omega (arith, own, name)
 
   many : length noted ≡ s.opening.nodes
-  many = lengths x.stations.items ∙ stands.count
-    where
-      lengths : (ys : List (Station P G)) → length (map (λ (y : Station P G). y.node) ys) ≡ length ys
-      lengths [] = refl
-      lengths (y ∷ ys) = ap suc (lengths ys)
+  many = length-map x.stations.items (λ (y : Station P G). y.node) ∙ stands.count
 
   heard-by : (p : ProcName) (k : ℕ) → p.node ≡ k + 1 → k < length noted
       → program_at noted p ≡ option_map (λ y. program_after becomes y (proc_of (w.nodes p.node) p.number).heard) (made p.node p.number)

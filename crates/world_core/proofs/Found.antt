@@ -1,7 +1,6 @@
 -- Where an enabled event finds what it receives.
 use Rattle.std.proofs.Common.{◌≡◌, ℕ, ◌+◌, Bool, true, false, cond, Some, List, [], ◌∷◌, ◌++◌, length, refl, sym, ap, subst, ◌∙◌}
 use Rattle.std.specs.Prelude.{filter, flat_map, slice_get, All}
-use Rattle.std.proofs.lemmas.Option.{slice_get_within, get_or_from_slice_get}
 use Rattle.std.proofs.lemmas.List.{append_assoc}
 use Rattle.std.proofs.lemmas.List.Elements.{All-nil, All-cons, All-append, All-filter}
 use Rattle.uid_names.proofs.ListLemmas.{length-push}
@@ -19,7 +18,7 @@ use Rattle.ring_links.specs.declared.notice.Notice.{Notice}
 use Rattle.world_core.specs.declared.station.LinkFrom.{LinkFrom}
 use Rattle.ring_links.specs.Notices.{notice_incoming}
 use Rattle.world_core.specs.Stations.{Candidate, start, starts_of, notice_at, noticed, oldest_of, oldest, passes, candidates}
-use Rattle.world_core.proofs.Elements.{behind}
+use Rattle.ended_nodes.proofs.Elements.{behind, at_all}
 
 -- the oldest entry of a link
 pub record IsOldest (ins : List LinkFrom) (i : ℕ) (incoming : Incoming) : Type 0 where
@@ -90,16 +89,13 @@ passing : {A : Type 0} (p : A → Bool) (xs : List A) → All (λ x. p x ≡ tru
 passing p [] = All-nil (λ x. p x ≡ true)
 passing p (x ∷ xs) = passing-one p x (filter p xs) (p x) refl (passing p xs)
 
-pub all-at : {A : Type 0} (Q : A → Type 0) (xs : List A) (k : ℕ) (x : A) → All Q xs → slice_get xs k ≡ Some x → Q x
-all-at Q xs k x all there = subst Q (get_or_from_slice_get xs k x x there) (all k x (slice_get_within xs k x there))
-
 module _ {P : Type 0} (node : Noted P) (notices : List Notice) (ins : List LinkFrom) (place : ℕ) (c : Candidate) (there : slice_get (filter (passes node) (candidates node notices ins)) place ≡ Some c) where
   pub passes-there : passes node c ≡ true
-  passes-there = all-at (λ x. passes node x ≡ true) (filter (passes node) (candidates node notices ins)) place c (passing (passes node) (candidates node notices ins)) there
+  passes-there = at_all (λ x. passes node x ≡ true) (filter (passes node) (candidates node notices ins)) place c (passing (passes node) (candidates node notices ins)) there
 
   pub found-there : IsFound notices ins c
-  found-there = all-at (IsFound notices ins) (filter (passes node) (candidates node notices ins)) place c
+  found-there = at_all (IsFound notices ins) (filter (passes node) (candidates node notices ins)) place c
       (All-filter (passes node) (IsFound notices ins) (candidates node notices ins) (found-all notices ins node)) there
 
   pub each-there : (Q : Candidate → Type 0) → All Q (candidates node notices ins) → Q c
-  each-there Q all = all-at Q (filter (passes node) (candidates node notices ins)) place c (All-filter (passes node) Q (candidates node notices ins) all) there
+  each-there Q all = at_all Q (filter (passes node) (candidates node notices ins)) place c (All-filter (passes node) Q (candidates node notices ins) all) there

@@ -6,7 +6,6 @@ pub mod Happening
 pub mod Standing
 pub mod Listing
 pub mod Finding
-pub mod Elements
 pub mod Logs
 pub mod Beginning
 pub mod Running
@@ -32,4 +31,3 @@ pub mod NextWorld
 pub mod Picked
 pub mod Sendable
 pub mod Turned
-pub mod Programs

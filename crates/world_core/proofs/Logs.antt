@@ -1,6 +1,6 @@
 -- The logs of a world's nodes are their events of what was done, and merged they are these by place.
-use Rattle.std.proofs.Common.{◌≡◌, ◌≢◌, ℕ, suc, ◌+◌, ◌-◌, ◌<◌, ◌≤◌, true, Option, Some, List, [], ◌∷◌, ◌++◌, map, length, get_or, reverse, inl, inr, refl, sym, ap, subst, ◌∙◌, arith}
-use Rattle.std.specs.Prelude.{◌==◌, ◌^◌, slice_get, All}
+use Rattle.std.proofs.Common.{◌≡◌, ◌≢◌, ℕ, suc, ◌+◌, ◌-◌, ◌<◌, ◌≤◌, true, Option, Some, List, [], ◌∷◌, map, length, get_or, reverse, inl, inr, refl, sym, ap, subst, ◌∙◌, arith}
+use Rattle.std.specs.Prelude.{◌^◌, slice_get, All}
 use Rattle.std.proofs.lemmas.Bool.{cases_eq, cases_lt}
 use Rattle.std.proofs.lemmas.List.{reverse-reverse}
 use Rattle.std.proofs.lemmas.List.Elements.{All-nil, All-cons, All-head, All-tail}
@@ -29,7 +29,7 @@ use Rattle.ring_links.specs.Merged.{IsLog, AreLogs, AreMerged}
 use Rattle.world_core.specs.declared.station.Station.{Station}
 use Rattle.world_core.specs.declared.world.World.{World}
 use Rattle.world_core.specs.Stands.{Stands}
-use Rattle.world_core.proofs.Elements.{map_at, all_at, at_all}
+use Rattle.ended_nodes.proofs.Elements.{map_at, all_at, at_all}
 
 above-rest : (p : Place) (e : Happening) (es : List Happening) → place_lt e.place p ≡ true → is_above e.place es ≡ true → is_above p es ≡ true
 above-rest p e [] h i = refl

@@ -19,7 +19,7 @@ use Rattle.node_core.specs.Nodes.{state_of}
 use Rattle.world_core.specs.declared.station.Station.{Station}
 use Rattle.world_core.specs.declared.world.World.{World}
 use Rattle.world_core.specs.Stands.{Stands, IsBelow}
-use Rattle.world_core.proofs.Elements.{at_all}
+use Rattle.ended_nodes.proofs.Elements.{at_all}
 use Rattle.world_core.proofs.Running.{tick-at}
 
 module _ (s : Setup) (plan : List FateRow) where

@@ -14,7 +14,7 @@ use Rattle.world_core.specs.Stations.{Candidate}
 use Rattle.world_core.specs.Listed.{IsListed, event_at, IsDone}
 use Rattle.world_core.specs.Stands.{Stands, IsBelow}
 use Rattle.world_core.proofs.Chosen.{IsChosen, place-within, own-within, chosen-is}
-use Rattle.world_core.proofs.Elements.{if_some}
+use Rattle.ended_nodes.proofs.Elements.{if_some}
 
 -- the station at a place among all, whose event at a place of its own the turn picks
 pub record IsPicked {P G : Type 0} (s : Setup) (x : World P G) (w : runs.World) (choice at place : ℕ) (y : Station P G) : Type 0 where

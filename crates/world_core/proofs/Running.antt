@@ -20,7 +20,7 @@ use Rattle.node_core.specs.declared.fault.RunFault.TheVariants as faults
 use Rattle.world_core.specs.declared.station.Station.{Station}
 use Rattle.world_core.specs.declared.world.World.{World}
 use Rattle.world_core.specs.Stands.{Stands, IsTurnOf, IsBelow}
-use Rattle.world_core.proofs.Elements.{all_at, if_some}
+use Rattle.ended_nodes.proofs.Elements.{all_at, if_some}
 
 -- the world stands for so many turns of the seed, and no tick came to the last one
 pub record IsRunning {P G : Type 0} (wants : P → Want) (becomes : P → Option Reply → P) (made : ℕ → ℕ → Option P) (s : Setup) (seed last k : ℕ) (x : World P G) : Type 0 where

@@ -26,7 +26,7 @@ use Rattle.world_core.specs.declared.world.World.{World}
 use Rattle.world_core.specs.Listed.{link_less, less_at, ins_less}
 use Rattle.world_core.specs.Stands.{Stands}
 use Rattle.world_core.proofs.Counting.{done-few}
-use Rattle.world_core.proofs.Elements.{all_at}
+use Rattle.ended_nodes.proofs.Elements.{all_at, some_if}
 use Rattle.world_core.proofs.Marked.{set_there, set_else, set_many}
 
 -- the nodes of a frame that is sent
@@ -114,10 +114,6 @@ all-set T xs i y within here each = all_at T (slice_set xs i y) by-place
       | inr other ↦ each k x (sym (set_else xs i k y other) ∙ e)
     ]
 
-some-if : {A : Type 0} (T : A → Type 0) (o : Option A) → ((x : A) → o ≡ Some x → T x) → IfSome o T
-some-if T None each = tt
-some-if T (Some x) each = each x refl
-
 module _ {P G : Type 0} (wants : P → Want) (becomes : P → Option Reply → P) (made : ℕ → ℕ → Option P) (s : Setup) (x : World P G) (w : runs.World) (stands : Stands wants becomes made s x w) where
   frames-low : (k : ℕ) (y : Station P G) → slice_get x.stations.items k ≡ Some y → (i : ℕ) (l : LinkFrom) → slice_get y.ins.items i ≡ Some l → l.link.frames < 2 ^ 63
   frames-low k y there i l e =
@@ -143,7 +139,7 @@ module _ {P G : Type 0} (wants : P → Want) (becomes : P → Option Reply → P
     pub links-few : All (λ (z : Station P G). IfSome (slice_get z.ins.items i) (λ l. l.link.frames < 2 ^ 63)) (slice_set x.stations.items i new)
     links-few =
         all-set (λ (z : Station P G). IfSome (slice_get z.ins.items i) (λ l. l.link.frames < 2 ^ 63)) x.stations.items i new within
-        (some-if (λ l. l.link.frames < 2 ^ 63) (slice_get new.ins.items i) (λ l e.
+        (some_if (λ l. l.link.frames < 2 ^ 63) (slice_get new.ins.items i) (λ l e.
         (let is = link-before from old.ins.items i l (subst (λ (ls : List LinkFrom). slice_get ls i ≡ Some l) ins e) in
         let same = is.frames in let low = frames-low i old there i is.link is.there in omega (arith, same, low))))
-        (λ k y e. some-if (λ l. l.link.frames < 2 ^ 63) (slice_get y.ins.items i) (λ l f. frames-low k y e i l f))
+        (λ k y e. some_if (λ l. l.link.frames < 2 ^ 63) (slice_get y.ins.items i) (λ l f. frames-low k y e i l f))

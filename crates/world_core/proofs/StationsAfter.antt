@@ -45,7 +45,7 @@ use Rattle.world_core.specs.Sending.{link_with, mark_with}
 use Rattle.world_core.specs.Listed.{IsListed}
 use Rattle.world_core.specs.Stands.{IsMarkOf, IsLink, IsNoticeOf, IsStation}
 use Rattle.world_core.proofs.Standing.{enabled-stands}
-use Rattle.world_core.proofs.Elements.{all_at, at_all}
+use Rattle.ended_nodes.proofs.Elements.{all_at, at_all}
 
 drop-at : {A : Type 0} (k : ℕ) (xs : List A) (i : ℕ) → slice_get (drop k xs) i ≡ slice_get xs (k + i)
 drop-at zero xs i = ap (slice_get xs) (let e : i ≡ 0 + i = omega arith in e)

@@ -49,7 +49,7 @@ use Rattle.world_core.specs.SentMarks.{AreMarked}
 use Rattle.world_core.specs.Listed.{IsListed, IsKept, event_at, IsDone}
 use Rattle.world_core.specs.Reached.{ins_if, frame_notices, frame_ins, came_of, framed_ins, AreReached, AreSent}
 use Rattle.world_core.specs.Stands.{IsNoticeOf, IsStation}
-use Rattle.world_core.proofs.Elements.{if_some}
+use Rattle.ended_nodes.proofs.Elements.{if_some}
 use Rattle.world_core.proofs.Marked.{set_there}
 use Rattle.world_core.proofs.TakingTurns.{own-log}
 use Rattle.world_core.proofs.StationsAfter.{IsStationAfter}

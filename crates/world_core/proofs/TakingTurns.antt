@@ -15,7 +15,7 @@ use Rattle.world_core.specs.declared.world.World.{World}
 use Rattle.world_core.specs.Stands.{Stands}
 use Rattle.world_core.specs.Places.{enabled_counts}
 use Rattle.world_core.proofs.Choosing.{all-places}
-use Rattle.world_core.proofs.Elements.{no_items}
+use Rattle.ended_nodes.proofs.Elements.{no_items}
 
 -- where no event is listed, none is enabled
 pub none-enabled : {P G : Type 0} (wants : P → Want) (becomes : P → Option Reply → P) (made : ℕ → ℕ → Option P) (s : Setup) (x : World P G) (w : runs.World)

@@ -5,7 +5,6 @@ pub mod SoFar
 pub mod Before
 pub mod Stands
 pub mod Starts
-pub mod Ended
 pub mod EnabledEvents
 pub mod Firsts
 pub mod Places

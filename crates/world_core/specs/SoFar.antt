@@ -6,7 +6,7 @@ use Rattle.node_runs.specs.Runs.{World, HasEnded}
 use Rattle.node_runs.specs.Deliveries.{IsPlanned}
 use Rattle.world_runs.specs.ByPlace.{by_place, LeadsAlike}
 use Rattle.every_run.specs.EveryRun.{IsRightRun}
-use Rattle.every_run.specs.EndedRuns.{EndsAlike}
+use Rattle.world_runs.specs.EndedRuns.{EndsAlike}
 use Rattle.recent_runs.specs.Recent.{IsRecent}
 
 -- of the events that led to a world, by place

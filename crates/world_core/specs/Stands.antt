@@ -34,7 +34,7 @@ use Rattle.world_core.specs.declared.world.World.{World}
 use Rattle.ring_links.specs.Notices.{notice_what, notice_incoming}
 use Rattle.world_core.specs.Listed.{IsListed}
 use Rattle.world_core.specs.SoFar.{IsRightSoFar}
-use Rattle.world_core.specs.Ended.{named}
+use Rattle.ended_nodes.specs.Ended.{named}
 
 -- a listed event, as one of a node
 abbrev pub act_of : ℕ → Coming → Act

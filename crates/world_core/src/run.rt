@@ -1,72 +1,25 @@
 //! Whole runs, by the draws of a seed.
-ghost use Rattle.std.specs.Prelude.{◌≡◌, ◌<◌, ◌≤◌, ◌^◌, ◌++◌, ◌∷◌, [], ℕ, Option, IfSome, IfOk, OnOk, IfErr, IsErrOf, All, map, length, slice_get};
-ghost use Rattle.uid_names.specs.Names.{ProcName, IsProcNumber};
+ghost use Rattle.std.specs.Prelude.{◌≡◌, ◌<◌, ◌≤◌, ◌^◌, ℕ, Option, IfSome, IfOk, OnOk, IfErr, IsErrOf, All, map, length, slice_get};
+ghost use Rattle.uid_names.specs.Names.{ProcName};
 ghost use Rattle.node_runs.specs.Setups.{Setup};
 ghost use Rattle.node_runs.specs.Runs.{first_world};
 ghost use Rattle.world_runs.specs.Draws.{ComesToLast};
 ghost use Rattle.ring_links.specs.Merged.{AreLogs, AreMerged};
 ghost use Rattle.node_core.specs.Nodes.{state_of};
-ghost use Rattle.world_core.specs.Ended.{named, with_name, own_of, or_else, program_at, AreNumbered};
+ghost use Rattle.ended_nodes.specs.Ended.{named, program_at, AreNumbered};
 ghost use Rattle.node_core.specs.declared.fault.RunFault.TheVariants as faults;
 
 use crate::laws::turns_are_right_so_far;
 use crate::world::World;
-use dom_history::{EventList, MergedLogs, NodeLog, Program};
+use dom_history::{EventList, MergedLogs, Program};
 use drawn_numbers::Draws;
-use node_core::{Node, RunFault};
+use ended_nodes::take_apart;
+use node_core::RunFault;
 use page_store::Pages;
 use ring_links::by_place;
 use run_ends::laws::no_turn_is_stuck;
 use std::alloc::Global;
-use uid_names::{NoMemory, NodeId, ProcId};
-
-/// Puts a program last, under the name of its process.
-fn put_program<P: Program>(
-    programs: &mut Vec<(ProcId, P)>,
-    node: NodeId,
-    own: (u8, P),
-) -> Result<(), NoMemory>
-    requires { IsProcNumber own.0 }
-    ensures { OnOk result (programs.new.items ≡ programs.old.items ++ with_name node own ∷ []) }
-{
-    let (number, program) = own;
-    match ProcId::new(node, number) {
-        Some(proc) => programs.push((proc, program))?,
-        None => unreachable!(),
-    }
-    Ok(())
-}
-
-/// Puts the programs of a node last.
-fn put_programs<P: Program>(
-    programs: &mut Vec<(ProcId, P)>,
-    node: NodeId,
-    own: Vec<(u8, P)>,
-) -> Result<(), NoMemory>
-    requires { All (λ e. IsProcNumber e.0) own.items }
-    ensures { OnOk result (programs.new.items ≡ programs.old.items ++ map (with_name node) own.items) }
-{
-    for program in own {
-        put_program(programs, node, program)?;
-    }
-    Ok(())
-}
-
-/// Takes a node's log and its programs apart.
-fn take_apart<P: Program, G: Pages>(
-    node: Node<P, G>,
-    logs: &mut Vec<NodeLog>,
-    programs: &mut Vec<(ProcId, P)>,
-) -> Result<(), NoMemory>
-    requires { AreNumbered node }
-    ensures log { OnOk result (logs.new.items ≡ logs.old.items ++ node.log ∷ []) }
-    ensures programs { OnOk result ((p : ProcName) → named programs.new.items p ≡ or_else (named programs.old.items p) (own_of node p)) }
-{
-    let (log, own) = node.into_parts();
-    put_programs(programs, log.node, own)?;
-    logs.push(log)?;
-    Ok(())
-}
+use uid_names::{NoMemory, ProcId};
 
 impl<P: Program, G: Pages> World<P, G> {
     ghost use Rattle.world_core.specs.Stands.{Stands, IsRunOf};
@@ -141,11 +94,11 @@ impl<P: Program, G: Pages> World<P, G> {
         ensures events { IfOk result (λ r. AreMerged (map (λ y. y.node.log) self.stations.items) r.0.events) }
         ensures programs { IfOk result (λ r. (p : ProcName) → named r.1.items p ≡ program_at (map (λ y. y.node) self.stations.items) p) }
     {
-        let mut logs = Vec::new(alloc);
-        let mut programs = Vec::new(alloc);
+        let mut nodes = Vec::with_capacity(alloc, self.stations.len())?;
         for station in self.stations {
-            take_apart(station.node, &mut logs, &mut programs)?;
+            nodes.push(station.node)?;
         }
+        let (logs, programs) = take_apart(alloc, nodes)?;
         Ok((by_place(alloc, logs)?, programs))
     }
 }

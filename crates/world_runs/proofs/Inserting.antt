@@ -36,14 +36,14 @@ next-from s w c incoming step node comes steps above =
 place-late : (a b : Place) → place_lt a b ≡ false → b.tick ≤ a.tick
 place-late a b h = grind (arith, nat_tests, h)
 
-place-turn : (a b : Place) → place_lt a b ≡ false → a.node ≢ b.node → place_lt b a ≡ true
+pub place-turn : (a b : Place) → place_lt a b ≡ false → a.node ≢ b.node → place_lt b a ≡ true
 place-turn a b h differs = grind (arith, nat_tests, h, differs)
 
 place-early : (a b : Place) → a.tick < b.tick → place_lt a b ≡ true
 place-early a b h = grind (arith, nat_tests, h)
 
 -- a place above all that was done and above the event that goes in
-above-both : (p : Place) (e : Happening) (es : List Happening) → is_above p es ≡ true → place_lt e.place p ≡ true → is_above p (put_in_place e es) ≡ true
+pub above-both : (p : Place) (e : Happening) (es : List Happening) → is_above p es ≡ true → place_lt e.place p ≡ true → is_above p (put_in_place e es) ≡ true
 above-both p e [] above later = later
 above-both p e (x ∷ older) above later = of-two (place_lt x.place e.place) (put_in_place e older)
   where

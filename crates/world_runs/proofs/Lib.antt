@@ -30,3 +30,4 @@ pub mod Alone
 pub mod Picking
 pub mod AskedNodes
 pub mod NamedNodes
+pub mod MarkCounts

@@ -14,3 +14,4 @@ pub mod EveryRunBy
 pub mod Faults
 pub mod NamedNodes
 pub mod SampleTurns
+pub mod EndedRuns

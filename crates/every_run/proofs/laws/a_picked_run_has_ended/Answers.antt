@@ -4,7 +4,7 @@ use Rattle.node_runs.specs.NodesKeep.{IsTimely}
 use Rattle.node_runs.specs.Runs.{World}
 use Rattle.world_runs.specs.ByPlace.{IsLike}
 use Rattle.world_runs.specs.Draws.{draws}
-use Rattle.every_run.specs.EndedRuns.{IsEndedRun}
+use Rattle.world_runs.specs.EndedRuns.{IsEndedRun}
 use Rattle.every_run.proofs.laws.a_picked_run_has_ended.Goals as goal
 
 pub returns : goal.returns

@@ -12,16 +12,16 @@ use Rattle.script_runner.proofs.Due.{told_is}
 use Rattle.script_runner.proofs.domain.run_due.Goals as goal
 
 pub names_of-requires : goal.names_of-requires
-names_of-requires c =
+names_of-requires g c =
     subst (λ rows. AreNodeNames (map (λ n. n.name) rows)) (sym c.nodes.ensures.value) (node_names c.args.script.now c.nodes.ensures.content)
 
 pub new-requires : goal.new-requires
-new-requires c =
+new-requires g c =
     let are : c.in_ok-names.names ≡ names_of c.args.script.now = c.in_ok-names.ensures ∙ ap (λ rows. map (λ n. n.name) rows) c.nodes.ensures.value in
     subst (λ names. All (Names names) c.in-Ok.ran.events.events) (sym are) c.in-Ok.ensures.named
 
 pub returns-clause-due : goal.returns-clause-due
-returns-clause-due c = λ left source.
+returns-clause-due g c = λ left source.
     let s = c.args.script.now in
     let run = subst (λ turns. RunOf c.args.script.now turns last_tick (record { events = c.in-Ok.ran.events.events; answers = c.in-Ok.ran.answers })) c.turns.ensures c.in-Ok.ensures.ran in
     let names : c.in_ok-names.names ≡ names_of s = c.in_ok-names.ensures ∙ ap (λ rows. map (λ n. n.name) rows) c.nodes.ensures.value in

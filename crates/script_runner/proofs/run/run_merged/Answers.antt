@@ -1,32 +1,21 @@
-use Rattle.std.proofs.Common.{◌≡◌, ◌∙◌, refl, ap, sym, subst}
-use Rattle.std.specs.Prelude.{All, IsSome, map, unwrap_or}
-use Rattle.uid_names.specs.Openings.{IsStart}
-use Rattle.world_core.specs.Ended.{named}
-use Rattle.script_runs.specs.Processes.{processes_of}
-use Rattle.script_runner.specs.Answered.{row_in}
-use Rattle.script_runner.proofs.RanNodes.{shells_there, ran_is, names_are}
+use Rattle.std.proofs.Common.{sym, subst}
+use Rattle.std.specs.Prelude.{IfOk, IfErr}
+use Rattle.script_runner.specs.Faults.{IsFaultOf}
+use Rattle.script_runner.specs.Reports.{RunOf}
 use Rattle.script_runner.proofs.run.run_merged.Goals as goal
 
-pub answers-requires : goal.answers-requires
-answers-requires c =
-    let s = c.args.script.now in
-    let procs : c.as_slice-2.result.now ≡ processes_of c.args.script.now.commands = c.as_slice-2.ensures.value ∙ (c.in_ok-procs.ensures ∙ ap processes_of c.commands.ensures.value) in
-    subst (λ shells. All (λ p. IsSome (named shells p)) c.as_slice-2.result.now) (sym c.as_slice.ensures.value)
-    (shells_there s c.commands.ensures.content (unwrap_or c.args.turns 0) c.args.last_tick c.in_ok-events.events.events c.in_ok-events.shells.items c.in_ok-events.ensures.run c.as_slice-2.result.now procs)
+pub returns-in-Some-clause-ran : goal.returns-in-Some-clause-ran
+returns-in-Some-clause-ran g c =
+    subst (λ turns. IfOk c.merged_in_turns.result (λ ran. RunOf c.args.script.now turns c.args.last_tick (record { events = ran.events.events; answers = ran.answers }))) (sym c.in-Some.is) c.merged_in_turns.ensures.ran
 
-pub returns-clause-named : goal.returns-clause-named
-returns-clause-named c =
-    let s = c.args.script.now in
-    names_are s c.commands.ensures.content (subst IsStart c.opening.ensures.value c.nodes-start.ensures.start) (unwrap_or c.args.turns 0) c.args.last_tick c.requires.few
-    c.in_ok-events.events.events c.in_ok-events.shells.items c.in_ok-events.ensures.run
-    c.ended_runs_of_scripts_name_their_nodes.ensures
+pub returns-in-Some-clause-limit : goal.returns-in-Some-clause-limit
+returns-in-Some-clause-limit g c =
+    subst (λ turns. IfErr c.merged_in_turns.result (IsFaultOf c.args.script.now turns c.args.last_tick)) (sym c.in-Some.is) c.merged_in_turns.ensures.limit
 
-pub returns-clause-ran : goal.returns-clause-ran
-returns-clause-ran c =
-    let s = c.args.script.now in
-    let procs : c.as_slice-2.result.now ≡ processes_of c.args.script.now.commands = c.as_slice-2.ensures.value ∙ (c.in_ok-procs.ensures ∙ ap processes_of c.commands.ensures.value) in
-    ran_is s c.commands.ensures.content (subst IsStart c.opening.ensures.value c.nodes-start.ensures.start) (unwrap_or c.args.turns 0) c.args.last_tick c.requires.few
-    c.in_ok-events.events.events c.in_ok-events.shells.items c.in_ok-events.ensures.run
-    c.args.turns refl c.a_seed_picks_one_run_of_a_script.ensures.not_both c.ended_runs_of_scripts_are_as_one_store.ensures c.answers_are_functions_of_histories.ensures.picked (c.shells_go_by_all_they_heard.ensures.answers s)
-    c.as_slice-2.result.now procs c.in_ok-answers.answers
-    (c.in_ok-answers.ensures ∙ ap (λ shells. map (row_in shells) c.as_slice-2.result.now) c.as_slice.ensures.value)
+pub returns-in-None-clause-ran : goal.returns-in-None-clause-ran
+returns-in-None-clause-ran g c =
+    subst (λ turns. IfOk c.merged_in_threads.result (λ ran. RunOf c.args.script.now turns c.args.last_tick (record { events = ran.events.events; answers = ran.answers }))) (sym c.in-None.is) c.merged_in_threads.ensures.ran
+
+pub returns-in-None-clause-limit : goal.returns-in-None-clause-limit
+returns-in-None-clause-limit g c =
+    subst (λ turns. IfErr c.merged_in_threads.result (IsFaultOf c.args.script.now turns c.args.last_tick)) (sym c.in-None.is) c.merged_in_threads.ensures.limit

@@ -2,7 +2,7 @@ use Rattle.std.proofs.Common.{◌∙◌}
 use Rattle.script_runner.proofs.run.run_script.Goals as goal
 
 pub returns-clause-ran : goal.returns-clause-ran
-returns-clause-ran c =
+returns-clause-ran g c =
     let ran = c.in_ok-ran.ensures.ran in
     record {
       events = ran.events;

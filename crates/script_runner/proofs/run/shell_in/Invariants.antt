@@ -1,5 +1,5 @@
 use Rattle.std.proofs.Common.{◌≡◌, drop}
-use Rattle.world_core.specs.Ended.{named}
+use Rattle.ended_nodes.specs.Ended.{named}
 use Rattle.script_runner.proofs.run.shell_in.Given as goal
 
 abbrev pub invariant-loop-other : goal.invariant-loop-other

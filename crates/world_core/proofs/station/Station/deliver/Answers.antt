@@ -6,7 +6,7 @@ use Rattle.std.proofs.lemmas.Option.{slice_get-get_or}
 use Rattle.world_core.specs.declared.station.LinkFrom.{LinkFrom}
 use Rattle.world_core.specs.declared.station.Station.{Station}
 use Rattle.world_core.proofs.Delivering.{delivered-there, still-listed, listed-without}
-use Rattle.world_core.proofs.Elements.{if_some}
+use Rattle.ended_nodes.proofs.Elements.{if_some}
 use Rattle.world_core.proofs.OnOks.{on_ok}
 use Rattle.world_core.proofs.station.Station.deliver.Goals as goal
 use Rattle.world_core.proofs.station.Station.deliver.Goals.{then-own-via-then-own, then-own-via-else-own+then-waits}

@@ -12,7 +12,7 @@ use Rattle.ring_links.specs.declared.notice.Notice.{Notice}
 use Rattle.ring_links.specs.Notices.{notice_incoming}
 use Rattle.world_core.specs.Stations.{Candidate}
 use Rattle.world_core.specs.Listed.{event_at}
-use Rattle.world_core.proofs.Elements.{if_some}
+use Rattle.ended_nodes.proofs.Elements.{if_some}
 use Rattle.world_core.proofs.Found.{IsFoundAt}
 use Rattle.world_core.specs.declared.station.LinkFrom.{LinkFrom}
 use Rattle.world_core.proofs.OnOks.{if_ok, if_ok_and}

@@ -3,7 +3,7 @@ use Rattle.std.specs.Prelude.{slice_get, IsSomeAnd}
 use Rattle.dom_history.specs.Plans.{IsPlan}
 use Rattle.world_core.specs.declared.station.Station.{Station}
 use Rattle.world_core.specs.Firsts.{IsFirst}
-use Rattle.world_core.proofs.Elements.{all_taken}
+use Rattle.ended_nodes.proofs.Elements.{all_taken}
 use Rattle.world_core.proofs.Beginning.{first-more, first-stands}
 use Rattle.world_core.proofs.world.World.new.Goals as goal
 

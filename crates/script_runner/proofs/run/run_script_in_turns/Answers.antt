@@ -1,0 +1,17 @@
+use Rattle.std.proofs.Common.{◌∙◌}
+use Rattle.script_runner.proofs.run.run_script_in_turns.Goals as goal
+
+pub returns-clause-ran : goal.returns-clause-ran
+returns-clause-ran c =
+    let ran = c.in_ok-ran.ensures.ran in
+    record {
+      events = ran.events;
+      world = ran.world;
+      run = ran.run;
+      picked = ran.picked;
+      below = ran.below;
+      one_store = ran.one_store;
+      recent = ran.recent;
+      by_place = c.in_ok-to_list.ensures ∙ ran.by_place;
+      answered = ran.answered;
+    }
