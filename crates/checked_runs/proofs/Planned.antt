@@ -20,13 +20,9 @@ use Rattle.node_runs.specs.Runs.{World, world_of, IsRun}
 use Rattle.node_runs.specs.Deliveries.{copy_if, deliveries, is_gone, is_prefix, noticed_by, noticed_in, sent_on, taken_on, takes_on, IsPlanned}
 use Rattle.world_runs.specs.Sendings.{frames_on}
 use Rattle.world_runs.specs.Gone.{FrameName, same_frame, was_told}
-use Rattle.world_runs.proofs.Telling.{frame-is}
+use Rattle.world_runs.proofs.Telling.{frame-is, same-frame}
 use Rattle.checked_runs.specs.Places.{Counts, sent_in, delivered_on, is_next, is_news, has_place, AllKeepPlan}
 use Rattle.checked_runs.proofs.Prefixes.{prefix-push, prefix-before}
-
--- a frame is the same as itself
-pub same-self : (f : FrameName) → same_frame f f ≡ true
-same-self f = let eq : (n : ℕ) → (n == n) ≡ true = λ n. grind (arith, nat_tests) in and_from (f.0 == f.0) ((f.1 == f.1) && (f.2 == f.2)) (eq f.0) (and_from (f.1 == f.1) (f.2 == f.2) (eq f.1) (eq f.2))
 
 -- nobody was told of a frame that differs from all that were told
 told-none : (f : FrameName) (fs : List FrameName) → AllByRecursion (λ g. f ≢ g) fs → list_any (same_frame f) fs ≡ false
@@ -40,7 +36,7 @@ none-told f [] none = tt
 none-told f (g ∷ fs) none = by_cases (same_frame f g) (AllByRecursion (λ h. f ≢ h) (g ∷ fs))
     (λ same. absurd (let there : list_any (same_frame f) (g ∷ fs) ≡ true = rw same refl in let both : true ≡ false = sym there ∙ none in cc))
     (λ other. (
-      λ is. let both : true ≡ false = sym (same-self f) ∙ ap (same_frame f) is ∙ other in absurd (cc),
+      λ is. let both : true ≡ false = sym (same-frame f) ∙ ap (same_frame f) is ∙ other in absurd (cc),
       none-told f fs (sym (rw other refl) ∙ none),
     ))
 
