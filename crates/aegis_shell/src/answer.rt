@@ -112,13 +112,13 @@ pub fn answer_text(alloc: Global, names: &NodeNames, reply: &Reply) -> Result<By
 }
 
 /// What two operations of a command answer together.
-pub fn together(alloc: Global, first: Reply, second: &Reply) -> Result<Reply, NoMemory>
+pub fn together(alloc: Global, mut first: Reply, second: &Reply) -> Result<Reply, NoMemory>
     ensures { IfOk result (λ reply. reply ≡ reply_together first second.now) }
 {
-    if let Reply::Bytes(mut front) = first {
-        if let Reply::Bytes(back) = second {
+    if let Reply::Bytes(back) = second {
+        if let Reply::Bytes(front) = &mut first {
             front.extend(back.bytes())?;
-            return Ok(Reply::Bytes(front));
+            return Ok(first);
         }
     }
     second.copy(alloc)

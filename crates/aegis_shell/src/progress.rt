@@ -28,13 +28,25 @@ use uid_names::{ByteList, NoMemory, ObjKind, Uid};
 
 /// Where a process stands: its phase, its variables, its working directory, how far it is in its next command, and the
 /// answers of the commands that are finished.
-#[derive(Drop)]
 pub struct Progress {
     phase: u32,
     bound: Bindings,
     working: Working,
     stage: Stage,
     answers: Vec<ByteList>,
+}
+
+// Of its own, so that what drops one calls this and does not take it apart in place.
+impl Drop for Progress {
+    fn drop(self) {
+        let Progress {
+            phase: _,
+            bound: _,
+            working: _,
+            stage: _,
+            answers: _,
+        } = self;
+    }
 }
 
 impl Model for Progress {

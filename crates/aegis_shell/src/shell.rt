@@ -10,12 +10,23 @@ use std::marker::Model;
 use uid_names::{ByteList, NoMemory, ProcId};
 
 /// The program of one process of a script: it carries out the process's commands in turn, which it borrows.
-#[derive(Drop)]
 pub struct Shell<'a> {
     work: Work<'a>,
     begun: bool,
     progress: Progress,
     spent: bool,
+}
+
+// Of its own, so that what drops one calls this and does not take it apart in place.
+impl Drop for Shell<'_> {
+    fn drop(self) {
+        let Shell {
+            work: _,
+            begun: _,
+            progress: _,
+            spent: _,
+        } = self;
+    }
 }
 
 impl<'a> Model for Shell<'a> {

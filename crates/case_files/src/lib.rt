@@ -24,7 +24,6 @@ use std::mem;
 use uid_names::{ByteList, NoMemory};
 
 /// A case as its file has it. The head has no comment, no empty line and no line `spoiled`.
-#[derive(Drop)]
 pub struct FileCase {
     pub name: String,
     pub spoiled: bool,
@@ -33,6 +32,20 @@ pub struct FileCase {
     pub report: ByteList,
     /// None where the case has no such part.
     pub journal: Option<ByteList>,
+}
+
+// Of its own, so that what drops one calls this and does not take it apart in place.
+impl Drop for FileCase {
+    fn drop(self) {
+        let FileCase {
+            name: _,
+            spoiled: _,
+            head: _,
+            script: _,
+            report: _,
+            journal: _,
+        } = self;
+    }
 }
 
 /// The part of a case that a line belongs to.

@@ -45,7 +45,6 @@ impl Room {
 }
 
 /// A case: how `domain` is run, and what it comes to.
-#[derive(Drop)]
 pub struct Case {
     file: FileCase,
     unended: bool,
@@ -66,6 +65,33 @@ pub struct Case {
     pub(crate) stops: Vec<Stops>,
     cut_everywhere: bool,
     pub(crate) cuts: Vec<Cut>,
+}
+
+// Of its own, so that what drops one calls this and does not take it apart in place.
+impl Drop for Case {
+    fn drop(self) {
+        let Case {
+            file: _,
+            unended: _,
+            words: _,
+            status: _,
+            unread: _,
+            taken: _,
+            endless: _,
+            interrupted: _,
+            step: _,
+            failing_reads: _,
+            out: _,
+            errors: _,
+            facts: _,
+            order: _,
+            journals: _,
+            account: _,
+            stops: _,
+            cut_everywhere: _,
+            cuts: _,
+        } = self;
+    }
 }
 
 /// The number that a text spells.

@@ -3,7 +3,6 @@ use std::str;
 use uid_names::ByteList;
 
 /// A fact on a journal.
-#[derive(Drop)]
 pub(crate) enum Fact {
     /// This text stands in it so often.
     Count(u64, ByteList),
@@ -15,6 +14,19 @@ pub(crate) enum Fact {
     Event(u64, String),
     /// There are lines that are a tick and just one of these events, in their order; others may stand between them.
     InOrder(Vec<String>),
+}
+
+// Of its own, so that what drops one calls this and does not take it apart in place.
+impl Drop for Fact {
+    fn drop(self) {
+        match self {
+            Fact::Count(_, _)
+            | Fact::Lines(_)
+            | Fact::Last(_)
+            | Fact::Event(_, _)
+            | Fact::InOrder(_) => {}
+        }
+    }
 }
 
 /// How often a text stands in a journal.

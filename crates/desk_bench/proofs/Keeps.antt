@@ -27,10 +27,10 @@ use Rattle.fault_handler.proofs.Answering.{said-some}
 use Rattle.fault_handler.proofs.Outcomes.{Holds, come}
 use Rattle.lock_validate.specs.Answers.{lock_call_of, answer_at, lock_answer_of}
 use Rattle.lock_validate.proofs.Standing.{lock_call-is, answer-is, answers-at, answer-parts}
-use Rattle.desk_laws.specs.Causes.{Cause, op_of, comes_of, IsPageAnswer, IsLockAnswer, MayCome}
-use Rattle.desk_laws.specs.Turns.{IsMade}
-use Rattle.desk_laws.proofs.EachCall.{comes_of-made}
-use Rattle.desk_laws.proofs.Beside.{moves-beside, IsReady-untouched}
+use Rattle.lock_validate.specs.Causes.{Cause, op_of, comes_of, IsPageAnswer, IsLockAnswer, MayCome}
+use Rattle.lock_validate.specs.Turns.{IsMade}
+use Rattle.lock_validate.proofs.EachCall.{comes_of-made}
+use Rattle.lock_validate.proofs.Beside.{moves-beside, IsReady-untouched}
 use Rattle.desk_bench.specs.AllReady.{AllReady}
 
 -- on an empty desk each process may begin

@@ -33,7 +33,8 @@ impl Bench {
             Bench::Frames => Ok((Bench::Frames, frames::call(alloc, words)?)),
             Bench::Walks => Ok((Bench::Walks, walks::call(alloc, words)?)),
             Bench::Home(home) => {
-                let (home, came) = home.call(alloc, words)?;
+                let mut home = home;
+                let came = home.call(alloc, words)?;
                 Ok((Bench::Home(home), came))
             }
             Bench::Desk(desk) => {

@@ -20,7 +20,7 @@ use std::alloc::Global;
 use uid_names::{MAX_LENGTH, MAX_ROOM, NodeId, PAGE_BYTES, ProcId, Uid};
 
 /// What a call came to, and the pages that it dropped.
-#[derive(Drop, Debug)]
+#[derive(Drop)]
 pub enum Came {
     Ends(Reply, Dropped),
     Asks(NodeId, Body, Dropped),

@@ -1,17 +1,20 @@
 //! A home side, and what it answers to requests.
 ghost use Rattle.std.specs.Prelude.{◌≡◌, ◌≤◌, ◌<◌, IsTrue};
+ghost use Rattle.uid_names.specs.Beginnings.{CanHomeBegin, at_home};
 ghost use Rattle.ring_messages.specs.Bodies.{is_request};
 ghost use Rattle.ring_messages.specs.Ranges.{IsBody, IsWhole};
 
 use crate::bodies;
-use crate::words::{MOST, number, proc};
+use crate::words::{MOST, behind_two, number, proc};
 use anyhow::{Result, bail};
 use object_store::Home;
 use page_server::PageServer;
 use page_store::ListPages;
 use ring_messages::{Body, Frame};
-use std::alloc::Global;
-use uid_names::{MAX_LENGTH, MAX_ROOM, NodeId, ObjKind, Opening, PAGE_BYTES, ProcId, Uid};
+use std::alloc::{AllocError, Global};
+use uid_names::{
+    MAX_LENGTH, MAX_ROOM, NoMemory, NodeId, ObjKind, Opening, PAGE_BYTES, ProcId, Uid,
+};
 
 /// The home side of node 2, and the tick of its last event.
 #[derive(Drop)]
@@ -38,22 +41,26 @@ impl HomeBench {
             }
             _ => bail!("no such opening"),
         }
-        let home = Home::new(alloc, node, ListPages::new(alloc), &opening)?;
+        Ok(HomeBench::begun(alloc, node, &opening)?)
+    }
+
+    /// The home side of a node at the start.
+    fn begun(alloc: Global, node: NodeId, opening: &Opening) -> Result<HomeBench, NoMemory>
+        requires { CanHomeBegin (at_home node opening.now.objects) }
+    {
+        let home = Home::new(alloc, node, ListPages::new(alloc), opening)?;
         let server = PageServer::new(alloc, home)?;
         Ok(HomeBench { server, tick: 0 })
     }
 
     /// Takes a call: the process, the number of its call, and the request.
-    pub fn call(mut self, alloc: Global, words: &[&str; MOST]) -> Result<(HomeBench, String)> {
-        let [caller, call, verb, first, second, third, fourth, fifth, ..] = *words;
-        let (caller, call) = (proc(caller)?, number(call)?);
-        let body = bodies::read(alloc, [verb, first, second, third, fourth, fifth])?;
-        let reply = self.send(alloc, caller, call, body)?;
-        let came = match reply {
-            Some(frame) => self.told(alloc, caller, call, &frame)?,
-            None => format!(in alloc; "nothing")?,
-        };
-        Ok((self, came))
+    pub fn call(&mut self, alloc: Global, words: &[&str; MOST]) -> Result<String> {
+        let (caller, number) = (proc(words[0])?, number(words[1])?);
+        let body = bodies::read(alloc, &behind_two(words))?;
+        match self.send(alloc, caller, number, body)? {
+            Some(frame) => Ok(self.told(alloc, caller, number, &frame)?),
+            None => Ok(format!(in alloc; "nothing")?),
+        }
     }
 
     /// The frame that answers the call of this number of a process.
@@ -75,15 +82,24 @@ impl HomeBench {
     }
 
     /// What is told to a call. It says so where the answer is not sent to its process, at this tick.
-    fn told(&self, alloc: Global, caller: ProcId, number: u64, frame: &Frame) -> Result<String> {
+    fn told(
+        &self,
+        alloc: Global,
+        caller: ProcId,
+        number: u64,
+        frame: &Frame,
+    ) -> Result<String, AllocError> {
         let is_sent = frame.from() == self.server.node()
             && frame.to() == caller.node()
             && frame.proc() == caller.number()
             && frame.number() == number
             && frame.tick() == self.tick;
-        let mark = if is_sent { "" } else { "astray " };
         let body = bodies::text(alloc, frame.body())?;
-        Ok(format!(in alloc; "{mark}{body}")?)
+        if is_sent {
+            Ok(body)
+        } else {
+            format!(in alloc; "astray {body}")
+        }
     }
 }
 

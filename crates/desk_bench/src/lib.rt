@@ -10,6 +10,7 @@ mod frames;
 mod homes;
 mod plain_home;
 mod questions;
+mod texts;
 mod walks;
 mod words;
 

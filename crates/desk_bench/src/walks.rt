@@ -8,6 +8,7 @@ ghost use Rattle.desk_bench.specs.AllReady.{AllReady};
 
 use crate::driver::{Came, answer, begin, fault, new_desk};
 use crate::plain_home::{Object, PAGES, page_of, place_of};
+use crate::texts::told;
 use crate::words::{MOST, number, number32};
 use anyhow::{Context, Result, bail, ensure};
 use dom_history::{Op, Reply, Spot};
@@ -19,7 +20,7 @@ use std::mem;
 use uid_names::{ByteList, Mode, NodeId, ProcId, Uid};
 
 /// An operation on an object. Bytes are loaded and stored one at a time.
-#[derive(Clone, Copy, Debug)]
+#[derive(Clone, Copy)]
 enum Deed {
     Lock(Mode),
     Unlock,
@@ -127,29 +128,51 @@ impl Table {
     {
         let number = self.draws.below(4) as u8 + 1;
         let drawn = (self.draws.below(3) as usize, drawn(&mut self.draws));
-        let seat = self
-            .seats
-            .get_mut(usize::from(number) - 1)
-            .context("no seat")?;
-        let plan = seat.plan.unwrap_or(drawn);
-        let way = mem::replace(&mut seat.way, Way::Nothing);
-        let uid = self.objects.get(plan.0).context("no object")?.uid;
+        let Seat { plan, way } = self.left(number)?;
+        let plan = plan.unwrap_or(drawn);
         match way {
-            Way::Nothing => {
-                let op = plan.1.on(self.alloc, uid)?;
-                let came = begin(self.alloc, desk, number, &op)?;
-                self.settle(number, plan, came)
-            }
-            _ if self.is_lost() => {
-                let reply = fault(desk, number)?;
-                self.ended(number, plan, &reply)
-            }
+            Way::Nothing => self.begins(desk, number, plan),
+            _ if self.is_lost() => self.loses(desk, number, plan),
             Way::Asked(body) => self.decide(number, plan, &body),
-            Way::Answered(body) => {
-                let came = answer(self.alloc, desk, number, &body)?;
-                self.settle(number, plan, came)
-            }
+            Way::Answered(body) => self.hears(desk, number, plan, &body),
         }
+    }
+
+    /// What a process does, and what was on its way and is taken from there.
+    fn left(&mut self, number: u8) -> Result<Seat> {
+        let at = usize::from(number.saturating_sub(1));
+        let seat = self.seats.get_mut(at).context("no seat")?;
+        let (plan, way) = (seat.plan, mem::replace(&mut seat.way, Way::Nothing));
+        Ok(Seat { plan, way })
+    }
+
+    /// A process begins, or goes on.
+    fn begins(&mut self, desk: &mut Desk, number: u8, plan: Plan) -> Result<()>
+        requires { AllReady desk.old }
+        ensures { OnOk result (AllReady desk.new) }
+    {
+        let uid = self.objects.get(plan.0).context("no object")?.uid;
+        let op = plan.1.on(self.alloc, uid)?;
+        let came = begin(self.alloc, desk, number, &op)?;
+        self.settle(number, plan, came)
+    }
+
+    /// The call of a process is lost.
+    fn loses(&mut self, desk: &mut Desk, number: u8, plan: Plan) -> Result<()>
+        requires { AllReady desk.old }
+        ensures { OnOk result (AllReady desk.new) }
+    {
+        let reply = fault(desk, number)?;
+        self.ended(number, plan, &reply)
+    }
+
+    /// An answer comes to a process.
+    fn hears(&mut self, desk: &mut Desk, number: u8, plan: Plan, body: &Body) -> Result<()>
+        requires { AllReady desk.old }
+        ensures { OnOk result (AllReady desk.new) }
+    {
+        let came = answer(self.alloc, desk, number, body)?;
+        self.settle(number, plan, came)
     }
 
     /// Whether what is on its way is lost.
@@ -163,13 +186,9 @@ impl Table {
 
     /// The home decides on a request of a process.
     fn decide(&mut self, number: u8, plan: Plan, body: &Body) -> Result<()> {
-        // A page that makes room may be of another object: the objects stand in the order of their numbers.
-        let at = match body {
-            Body::PageOut { uid, .. } => (uid.counter() - 1) as usize,
-            _ => plan.0,
-        };
         let node = NodeId::new(1).context("no node")?;
         let caller = ProcId::new(node, number).context("no process")?;
+        let at = place_of_body(plan, body);
         let object = self.objects.get_mut(at).context("no object")?;
         self.grants = self.grants.saturating_add(1);
         let way = Way::Answered(object.decide(self.alloc, caller, body, self.grants)?);
@@ -188,24 +207,11 @@ impl Table {
         }
     }
 
-    /// What a process was replied: a load has the byte that was stored last.
+    /// What a process was replied.
     fn ended(&mut self, number: u8, plan: Plan, said: &Reply) -> Result<()> {
         let object = self.objects.get_mut(plan.0).context("no object")?;
-        match (plan.1, said) {
-            (Deed::Load(offset), Reply::Bytes(bytes)) => {
-                let is_last = bytes.bytes().first() == object.last.get(page_of(offset));
-                ensure!(is_last, "a load has an old byte");
-                self.loads = self.loads.saturating_add(1);
-            }
-            (Deed::Load(offset), Reply::PastEnd) => {
-                ensure!(object.end <= offset, "a byte is lost");
-            }
-            (Deed::Length, Reply::Size(length)) => {
-                ensure!(*length == object.end, "a length is old");
-            }
-            (Deed::Store(offset, byte), Reply::Fine) => object.stored(page_of(offset), byte),
-            _ => {}
-        }
+        let loads = heard(object, plan.1, said)?;
+        self.loads = self.loads.saturating_add(loads);
         self.seat(number, None, Way::Nothing)
     }
 
@@ -228,8 +234,38 @@ impl Table {
     }
 }
 
-/// So many turns on a desk of so many frames.
-fn walk(alloc: Global, seed: u64, frames: u16, turns: u32) -> Result<Table>
+/// Where the object stands that a request is about. A page that makes room may be of another object than the plan's: the
+/// objects stand in the order of their numbers.
+fn place_of_body(plan: Plan, body: &Body) -> usize {
+    match body {
+        Body::PageOut { uid, .. } => (uid.counter() - 1) as usize,
+        _ => plan.0,
+    }
+}
+
+/// A reply about an object: a load has the byte that was stored last, and a length is the one that the stores gave. How many
+/// loads it answers.
+fn heard(object: &mut Object, deed: Deed, said: &Reply) -> Result<u64> {
+    match (deed, said) {
+        (Deed::Load(offset), Reply::Bytes(bytes)) => {
+            let is_last = bytes.bytes().first() == object.last.get(page_of(offset));
+            ensure!(is_last, "a load has an old byte");
+            return Ok(1);
+        }
+        (Deed::Load(offset), Reply::PastEnd) => {
+            ensure!(object.end <= offset, "a byte is lost");
+        }
+        (Deed::Length, Reply::Size(length)) => {
+            ensure!(*length == object.end, "a length is old");
+        }
+        (Deed::Store(offset, byte), Reply::Fine) => object.stored(page_of(offset), byte),
+        _ => {}
+    }
+    Ok(0)
+}
+
+/// So many turns on a desk of so many frames: how many loads were answered, operations waited and calls were lost.
+fn walk(alloc: Global, seed: u64, frames: u16, turns: u32) -> Result<[u64; 3]>
     requires low { 5 ≤ frames }
     requires high { frames ≤ 256 }
 {
@@ -239,21 +275,24 @@ fn walk(alloc: Global, seed: u64, frames: u16, turns: u32) -> Result<Table>
         table.turn(&mut desk)?;
         table.elsewhere();
     }
-    Ok(table)
+    Ok([table.loads, table.waits, table.faults])
 }
 
 /// A walk of a seed, a number of frames and a number of turns: whether at least so many loads were answered, so many
 /// operations waited, and so many calls were lost.
 pub fn call(alloc: Global, words: &[&str; MOST]) -> Result<String> {
-    let [seed, frames, turns, loads, waits, faults, ..] = *words;
-    let frames = number32(frames)?;
+    let frames = number32(words[1])?;
     if frames < 5 || 256 < frames {
         bail!("no number of frames");
     }
-    let table = walk(alloc, number(seed)?, frames as u16, number32(turns)?)?;
-    let is_enough = number(loads)? <= table.loads
-        && number(waits)? <= table.waits
-        && number(faults)? <= table.faults;
+    let counts = walk(alloc, number(words[0])?, frames as u16, number32(words[2])?)?;
+    let is_enough = is_enough(counts, words[3], words[4], words[5])?;
     let came = if is_enough { "enough" } else { "too few" };
-    Ok(format!(in alloc; "{came}")?)
+    Ok(told(alloc, came, &[])?)
+}
+
+/// Whether each count is at least what its word says.
+fn is_enough(counts: [u64; 3], loads: &str, waits: &str, faults: &str) -> Result<bool> {
+    let (loads, waits, faults) = (number(loads)?, number(waits)?, number(faults)?);
+    Ok(loads <= counts[0] && waits <= counts[1] && faults <= counts[2])
 }

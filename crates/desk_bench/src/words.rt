@@ -15,6 +15,12 @@ pub fn of(line: &str) -> [&str; MOST] {
     words
 }
 
+/// The six words behind the first two.
+pub fn behind_two<'a>(words: &[&'a str; MOST]) -> [&'a str; 6] {
+    let [_, _, first, second, third, fourth, fifth, sixth, ..] = *words;
+    [first, second, third, fourth, fifth, sixth]
+}
+
 pub fn number(word: &str) -> Result<u64> {
     word.parse::<u64>().ok().context("no number")
 }

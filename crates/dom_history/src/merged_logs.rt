@@ -50,11 +50,22 @@ fn next_event<'a>(logs: &'a [NodeLog], came: &[usize], i: usize) -> Option<&'a E
 
 /// Logs, and those of their events that came so far, in the order in which they came: the order names, event by event, the
 /// place of the log that has it.
-#[derive(Drop, Debug)]
+#[derive(Debug)]
 pub struct MergedLogs {
     logs: Vec<NodeLog>,
     came: Vec<usize>,
     order: Vec<usize>,
+}
+
+// Of its own, so that what drops one calls this and does not take it apart in place.
+impl Drop for MergedLogs {
+    fn drop(self) {
+        let MergedLogs {
+            logs: _,
+            came: _,
+            order: _,
+        } = self;
+    }
 }
 
 impl Model for MergedLogs {

@@ -9,7 +9,7 @@ pub enum Spot {
 }
 
 /// What a process asks of the store. Rooms are in pages, counts and offsets in bytes.
-#[derive(Drop, Debug)]
+#[derive(Debug)]
 pub enum Op {
     New {
         home: NodeId,
@@ -50,8 +50,30 @@ pub enum Op {
     },
 }
 
+// Of its own, so that what drops one calls this and does not take it apart in place.
+impl Drop for Op {
+    fn drop(self) {
+        match self {
+            Op::New {
+                home: _,
+                kind: _,
+                room: _,
+            }
+            | Op::Lock { uid: _, mode: _ }
+            | Op::Unlock { uid: _ }
+            | Op::Delete { uid: _ }
+            | Op::Load { spot: _, count: _ }
+            | Op::Store { spot: _, bytes: _ }
+            | Op::Length { uid: _ }
+            | Op::Map { uid: _ }
+            | Op::Unmap { uid: _ }
+            | Op::List { home: _, after: _ } => {}
+        }
+    }
+}
+
 /// What the store answers. `Kept`, `Doubt` and `LinkFault` come from link faults alone.
-#[derive(Drop, Debug)]
+#[derive(Debug)]
 pub enum Reply {
     Made(Uid),
     Fine,
@@ -76,6 +98,40 @@ pub enum Reply {
     TooManyMaps,
     NoSegment,
     NotMapped,
+}
+
+// Of its own, so that what drops one calls this and does not take it apart in place.
+impl Drop for Reply {
+    fn drop(self) {
+        match self {
+            Reply::Made(_)
+            | Reply::Fine
+            | Reply::Bytes(_)
+            | Reply::Size(_)
+            | Reply::At {
+                address: _,
+                fresh: _,
+            }
+            | Reply::Locks { rows: _, more: _ }
+            | Reply::Conflict(_, _)
+            | Reply::NoObject
+            | Reply::AlreadyHeld
+            | Reply::NotHeld
+            | Reply::Unsettled
+            | Reply::TooMany
+            | Reply::NoLock
+            | Reply::WrongMode
+            | Reply::PastRoom
+            | Reply::PastEnd
+            | Reply::NoSpace
+            | Reply::Kept
+            | Reply::Doubt
+            | Reply::LinkFault
+            | Reply::TooManyMaps
+            | Reply::NoSegment
+            | Reply::NotMapped => {}
+        }
+    }
 }
 
 /// An operation with its reply, at its place in a history. Phases count from 1.

@@ -58,11 +58,18 @@ fn take_in(link: &mut Vec<FateRow>, row: FateRow, from: NodeId, to: NodeId) -> R
 }
 
 /// The fates that were set, in the order in which they were; every other frame passes.
-#[derive(Drop, Debug)]
+#[derive(Debug)]
 pub struct FaultPlan {
     rows: Vec<FateRow>,
     /// The same fates by frame, so that a look-up goes over no rows.
     fates: HashMap<(NodeId, NodeId, u64), Fate>,
+}
+
+// Of its own, so that what drops one calls this and does not take it apart in place.
+impl Drop for FaultPlan {
+    fn drop(self) {
+        let FaultPlan { rows: _, fates: _ } = self;
+    }
 }
 
 impl Model for FaultPlan {

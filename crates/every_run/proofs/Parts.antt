@@ -6,7 +6,7 @@ use Rattle.node_runs.specs.Setups.{Setup}
 use Rattle.node_runs.specs.NodesKeep.{IsTimely}
 use Rattle.node_runs.specs.Runs.{World, choice_of, then_next, world_of, IsRun}
 use Rattle.node_runs.proofs.Worlds.{next-is, initial-run}
-use Rattle.run_calls.proofs.HearingRuns.{timely-before}
+use Rattle.run_states.proofs.HearingRuns.{timely-before}
 
 module _ (s : Setup) where
   -- the world of a run

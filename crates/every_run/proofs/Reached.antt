@@ -7,8 +7,8 @@ use Rattle.dom_history.specs.Events.{Happening}
 use Rattle.node_runs.specs.Setups.{Setup}
 use Rattle.node_runs.specs.Runs.{World, world_of}
 use Rattle.node_runs.specs.RunHistories.{history_if, history_of}
-use Rattle.run_calls.specs.Heard.{AreHeard}
-use Rattle.run_calls.proofs.HistoryEntries.{IsReached, reached-in}
+use Rattle.run_states.specs.Heard.{AreHeard}
+use Rattle.run_states.proofs.HistoryEntries.{IsReached, reached-in}
 
 -- one that is done waits for no phase
 pub done-apart : (want : Want) → want ≡ Done → want ≢ Phase

@@ -7,8 +7,8 @@ use Rattle.dom_history.specs.Follows.{Follows, IsPhased}
 use Rattle.node_runs.specs.Setups.{Setup}
 use Rattle.node_runs.specs.Runs.{World, world_of}
 use Rattle.node_runs.specs.RunHistories.{history_of}
-use Rattle.run_calls.specs.Entries.{AreRepliesHeard, AreAskedHeard}
-use Rattle.run_homes.specs.OpenDecisions.{AreOpenRight}
+use Rattle.run_states.specs.Entries.{AreRepliesHeard, AreAskedHeard}
+use Rattle.run_states.specs.OpenDecisions.{AreOpenRight}
 pub use Rattle.run_moves.specs.HomesAtUnlocks.{HomesHaveAll}
 
 -- what is right after these events, which led to this world

@@ -18,21 +18,21 @@ ghost use Rattle.node_runs.specs.Deliveries.{IsPlanned};
 ghost use Rattle.world_runs.specs.ByPlace.{by_place};
 ghost use Rattle.world_runs.specs.EveryTurn.{AfterTurns};
 ghost use Rattle.world_runs.specs.Picked.{IsPicked};
-ghost use Rattle.run_calls.specs.Paced.{IsPacedTo, ArePaced};
-ghost use Rattle.run_calls.specs.DonePrograms.{AreProgramsDone};
+ghost use Rattle.run_states.specs.Paced.{IsPacedTo, ArePaced};
+ghost use Rattle.run_states.specs.DonePrograms.{AreProgramsDone};
 ghost use Rattle.every_run.specs.EveryRun.{IsRightAt, IsRightRun};
 ghost use Rattle.world_runs.specs.EndedRuns.{IsEndedRun, EndsAlike};
 ghost use Rattle.every_run.specs.HeardOf.{heard_by_phase, heard_of, AsksForEachEntry};
 ghost use Rattle.every_run.specs.HeardByHistories.{heard_by_history, AreHeardByPhase, AreHeardByAsks, AreHeardAsSaid};
 ghost use Rattle.every_run.specs.HeardSamples as sample;
 
-use run_calls::laws::{
+use run_ends::laws::no_turn_is_stuck;
+use run_moves::laws::{a_home_has_all_at_an_unlock, each_history_is_one_of_one_store};
+use run_states::calls::{
     ended_runs_have_ended_histories, entries_are_what_programs_heard, histories_follow_programs,
     open_operations_stand_last, phases_never_overlap, programs_of_ended_runs_are_done,
 };
-use run_ends::laws::no_turn_is_stuck;
-use run_homes::laws::an_open_call_finds_what_it_needs;
-use run_moves::laws::{a_home_has_all_at_an_unlock, each_history_is_one_of_one_store};
+use run_states::homes::an_open_call_finds_what_it_needs;
 use world_runs::laws::{ticks_are_few, turns_are_a_run_by_place};
 
 /// A run of at most 2^40 events gives no node a tick above 2^40.

@@ -37,7 +37,6 @@ use version_stamps::Seen;
 /// The desk of a node: its cached pages, the stamps that it has seen, what it knows of objects, and
 /// for each of its four processes the locks, the mappings, the open call, the load or store that is
 /// open, and the page that it moves.
-#[derive(Drop)]
 pub struct Desk {
     node: NodeId,
     nodes: u8,
@@ -48,6 +47,23 @@ pub struct Desk {
     maps: [AddressMap; NODE_PROCESSES],
     calls: [Option<OpenCall>; NODE_PROCESSES],
     tasks: [Option<Task>; NODE_PROCESSES],
+}
+
+// Of its own, so that what drops one calls this and does not take it apart in place.
+impl Drop for Desk {
+    fn drop(self) {
+        let Desk {
+            node: _,
+            nodes: _,
+            pages: _,
+            seen: _,
+            known: _,
+            entries: _,
+            maps: _,
+            calls: _,
+            tasks: _,
+        } = self;
+    }
 }
 
 impl Model for Desk {

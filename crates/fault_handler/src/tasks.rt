@@ -29,11 +29,22 @@ pub enum Work {
 }
 
 /// A load or store at an offset of an object, in bytes.
-#[derive(Drop, Debug)]
+#[derive(Debug)]
 pub struct Task {
     pub uid: Uid,
     pub offset: u32,
     pub work: Work,
+}
+
+// Of its own, so that what drops one calls this and does not take it apart in place.
+impl Drop for Task {
+    fn drop(self) {
+        let Task {
+            uid: _,
+            offset: _,
+            work: _,
+        } = self;
+    }
 }
 
 impl Task {

@@ -5,3 +5,17 @@ pub mod Answers
 pub mod Faults
 pub mod GrantDrops
 pub mod Wants
+pub mod Causes
+pub mod Settled
+pub mod Dropped
+pub mod Loading
+pub mod Releasing
+pub mod Told
+pub mod Calls
+pub mod DeskMoves
+pub mod Refusals
+pub mod Left
+pub mod Turns
+pub mod Untouched
+pub mod Waiting
+pub mod Room

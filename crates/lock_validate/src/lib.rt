@@ -1,8 +1,9 @@
-//! Locking, unlocking and removal at the desk of a node.
+//! Locking, unlocking and removal at the desk of a node, and the laws of all its calls.
 #![tactic(auto)]
 
 pub mod answers;
 pub mod faults;
+pub mod laws;
 pub mod locking;
 pub mod releases;
 mod sends;

@@ -34,12 +34,23 @@ pub enum Stage {
 }
 
 /// How far a stream on an object has come; the refusal that counts, if there was one.
-#[derive(Drop)]
 pub struct Streaming {
     pub uid: Uid,
     pub work: Work,
     pub stage: Stage,
     pub refused: Option<Reply>,
+}
+
+// Of its own, so that what drops one calls this and does not take it apart in place.
+impl Drop for Streaming {
+    fn drop(self) {
+        let Streaming {
+            uid: _,
+            work: _,
+            stage: _,
+            refused: _,
+        } = self;
+    }
 }
 
 /// Whether an operation was done that tells nothing.

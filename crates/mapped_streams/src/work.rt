@@ -22,7 +22,6 @@ pub enum Side {
 }
 
 /// What is done with an object that is open.
-#[derive(Drop)]
 pub enum Work {
     /// Its pages from this one on are loaded.
     Read {
@@ -40,6 +39,24 @@ pub enum Work {
         page: u32,
         loaded: Option<ByteList>,
     },
+}
+
+// Of its own, so that what drops one calls this and does not take it apart in place.
+impl Drop for Work {
+    fn drop(self) {
+        match self {
+            Work::Read {
+                page: _,
+                gathered: _,
+            }
+            | Work::Append { text: _, side: _ }
+            | Work::Copy {
+                source: _,
+                page: _,
+                loaded: _,
+            } => {}
+        }
+    }
 }
 
 /// The store of a text behind the bytes of an object: up to the page border, or what is left there.

@@ -1,11 +1,11 @@
 //! Cases: each is a title and its rows, as `crd d 8: added`, and an empty line ends it. Its rows are done one after
 //! another, in a new store.
 use crate::rows::answer;
-use anyhow::{Context, Result};
 use dom_text::{cut, put_decimal};
+use plain_machines::undone::{Result, Undone};
 use plain_machines::world::World;
 use std::alloc::Global;
-use uid_names::ByteList;
+use uid_names::{ByteList, NoMemory};
 
 /// The cases that were tried, and the one that is under way: its title, how many of its rows came to what they say,
 /// and the first that came to something else.
@@ -50,7 +50,7 @@ impl Cases {
 
     /// A row is compared with what comes of it.
     fn compare(&mut self, row: &[u8]) -> Result<()> {
-        let (command, expected) = cut(row, b':').context("no colon")?;
+        let (command, expected) = cut(row, b':').ok_or(Undone::NoWords)?;
         let come = self.come(command)?;
         if expected.strip_prefix(b" ") == Some(come.bytes()) {
             self.right = self.right.saturating_add(1);
@@ -63,7 +63,7 @@ impl Cases {
     }
 
     /// A case is over.
-    fn end(&mut self) -> Result<()> {
+    fn end(&mut self) -> Result<(), NoMemory> {
         self.said.extend(self.title.bytes())?;
         self.said.extend(b": ")?;
         put_decimal(&mut self.said, self.right)?;
@@ -81,7 +81,7 @@ impl Cases {
         match (self.title.bytes().is_empty(), line.is_empty()) {
             (true, true) => Ok(()),
             (true, false) => self.begin(line),
-            (false, true) => self.end(),
+            (false, true) => Ok(self.end()?),
             (false, false) => self.compare(line),
         }
     }

@@ -1,10 +1,10 @@
 //! Records of directories by words: `f` is the record of a file `f`, `-` a free one; `f@1=0` has the byte 0 at 1, and
 //! `f@1=0@2=0` another one at 2; `f*3` is three of them, and `f/1` the first byte of one.
-use anyhow::{Context, Result, bail};
 use dir_records::{DirFault, DirRows, read_dir, write_row};
 use dom_text::{cut, decimal};
+use plain_machines::undone::{Result, Undone};
 use std::alloc::Global;
-use uid_names::ByteList;
+use uid_names::{ByteList, NoMemory};
 
 /// The 64 bytes of the record of a file with a name of one byte, the second object of node 1.
 fn row(name: u8) -> [u8; 64] {
@@ -16,10 +16,15 @@ fn row(name: u8) -> [u8; 64] {
     bytes
 }
 
+/// The number that a word spells.
+pub fn number_of(word: &[u8]) -> Result<u64> {
+    decimal(word).map_err(|_| Undone::NoWords)
+}
+
 /// What a word says in front of a byte, and the number behind it, or this one.
 fn split_number(word: &[u8], byte: u8, or: u64) -> Result<(&[u8], u64)> {
     match cut(word, byte) {
-        Some((front, number)) => Ok((front, decimal(number)?)),
+        Some((front, number)) => Ok((front, number_of(number)?)),
         None => Ok((word, or)),
     }
 }
@@ -29,15 +34,17 @@ fn record_of(name: &[u8]) -> Result<[u8; 64]> {
     match name {
         [b'-'] => Ok([0; 64]),
         [letter] => Ok(row(*letter)),
-        _ => bail!("no record"),
+        _ => Err(Undone::NoWords),
     }
 }
 
 /// Changes the byte of a record that `AT=BYTE` says.
 fn change(bytes: &mut [u8; 64], words: &[u8]) -> Result<()> {
-    let (at, byte) = cut(words, b'=').context("no change")?;
-    let at = usize::try_from(decimal(at)?)?;
-    *bytes.get_mut(at).context("no such byte")? = u8::try_from(decimal(byte)?)?;
+    let (at, byte) = cut(words, b'=').ok_or(Undone::NoWords)?;
+    let at = usize::try_from(number_of(at)?).map_err(|_| Undone::NoWords)?;
+    *bytes.get_mut(at).ok_or(Undone::NoWords)? = u8::try_from(number_of(byte)?).map_err(
+        |_| Undone::NoWords,
+    )?;
     Ok(())
 }
 
@@ -63,8 +70,8 @@ fn put_word(to: &mut ByteList, word: &[u8]) -> Result<()> {
     let (one, count) = split_number(one, b'/', 64)?;
     let bytes = changed(one)?;
     let part = bytes
-        .get(..usize::try_from(count)?)
-        .context("no such part")?;
+        .get(..usize::try_from(count).map_err(|_| Undone::NoWords)?)
+        .ok_or(Undone::NoWords)?;
     for _ in 0..times {
         to.extend(part)?;
     }
@@ -84,7 +91,7 @@ pub fn record_bytes(alloc: Global, words: &[u8]) -> Result<ByteList> {
 }
 
 /// The rows that have names, by these.
-pub fn put_names(to: &mut ByteList, rows: &DirRows) -> Result<()> {
+pub fn put_names(to: &mut ByteList, rows: &DirRows) -> Result<(), NoMemory> {
     to.extend(b"rows")?;
     for row in rows.items() {
         to.push(b' ')?;
@@ -93,23 +100,31 @@ pub fn put_names(to: &mut ByteList, rows: &DirRows) -> Result<()> {
     Ok(())
 }
 
+/// The bytes of a directory of these rows.
+fn written(alloc: Global, rows: &DirRows) -> Result<ByteList, NoMemory> {
+    let mut bytes = ByteList::new(alloc);
+    for row in rows.items() {
+        bytes.extend(&write_row(row))?;
+    }
+    Ok(bytes)
+}
+
+/// What is read of a directory, and whether it is written as it was.
+fn said_of(alloc: Global, rows: &DirRows, bytes: &[u8]) -> Result<ByteList, NoMemory> {
+    let mut said = ByteList::new(alloc);
+    put_names(&mut said, rows)?;
+    if written(alloc, rows)?.bytes() == bytes {
+        said.extend(b" as written")?;
+    }
+    Ok(said)
+}
+
 /// What is read of the directory that words spell, and whether it is written as it was.
 pub fn read_again(alloc: Global, words: &[u8]) -> Result<ByteList> {
     let bytes = record_bytes(alloc, words)?;
-    let mut said = ByteList::new(alloc);
-    match read_dir(alloc, bytes.bytes()) {
-        Ok(rows) => {
-            put_names(&mut said, &rows)?;
-            let mut again = ByteList::new(alloc);
-            for row in rows.items() {
-                again.extend(&write_row(row))?;
-            }
-            if again.bytes() == bytes.bytes() {
-                said.extend(b" as written")?;
-            }
-        }
-        Err(DirFault::BadDir) => said.extend(b"bad directory")?,
-        Err(DirFault::NoMemory) => bail!("no memory"),
-    }
-    Ok(said)
+    Ok(match read_dir(alloc, bytes.bytes()) {
+        Ok(rows) => said_of(alloc, &rows, bytes.bytes())?,
+        Err(DirFault::BadDir) => ByteList::from_slice(alloc, b"bad directory")?,
+        Err(DirFault::NoMemory) => return Err(Undone::NoMemory),
+    })
 }

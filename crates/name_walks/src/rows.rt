@@ -3,18 +3,18 @@ ghost use Rattle.std.specs.Prelude.{IsSome, IfOk};
 ghost use Rattle.uid_names.specs.Rooms.{IsRoom};
 ghost use Rattle.dir_records.specs.Paths.{route_of};
 
-use crate::records::{put_names, read_again, record_bytes};
-use anyhow::{Context, Result, bail};
+use crate::records::{number_of, put_names, read_again, record_bytes};
 use dir_records::{Component, is_path};
 use dom_history::{EndWord, Op, Reply};
-use dom_text::{cut, decimal, put_decimal};
+use dom_text::{cut, put_decimal};
 use mapped_streams::StreamResult;
 use naming_tree::{Addition, NameResult, Walked};
 use plain_machines::machines::{add, add_at, list, remove, remove_at, walk};
 use plain_machines::refusals::{Refusal, refused};
 use plain_machines::streams::{
-    Served, appending, copy, fill, leave, open, read, serve, some_bytes,
+    Served, append_bytes, appending, copy, fill, leave, open, read, serve, some_bytes,
 };
+use plain_machines::undone::{Result, Undone};
 use plain_machines::world::World;
 use std::alloc::Global;
 use uid_names::{ByteList, MAX_ROOM, Mode, ObjKind, Uid};
@@ -49,26 +49,36 @@ fn words(alloc: Global, come: &NameResult) -> Result<ByteList> {
     Ok(words)
 }
 
-/// What a stream asked and came to, in words. Bytes that are as many of those that files are filled with are counted, and
-/// so are other ones where they are many.
-fn stream_words(alloc: Global, served: &Served) -> Result<ByteList> {
-    let mut words = served.words.copy(alloc)?;
-    match &served.result {
-        StreamResult::Bytes(bytes) => {
-            let count = bytes.bytes().len() as u64;
-            if bytes.bytes() == some_bytes(alloc, count)?.bytes() {
-                put_decimal(&mut words, count)?;
-            } else if count > 64 {
-                put_decimal(&mut words, count)?;
-                words.extend(b" bytes")?;
-            } else {
-                words.extend(bytes.bytes())?;
-            }
-        }
+/// Puts the bytes that a stream read. Bytes that are as many of those that files are filled with are counted, and so are
+/// other ones where they are many.
+fn put_read(alloc: Global, words: &mut ByteList, bytes: &[u8]) -> Result<()> {
+    let count = bytes.len() as u64;
+    if bytes == some_bytes(alloc, count)?.bytes() {
+        put_decimal(words, count)?;
+    } else if count > 64 {
+        put_decimal(words, count)?;
+        words.extend(b" bytes")?;
+    } else {
+        words.extend(bytes)?;
+    }
+    Ok(())
+}
+
+/// Puts what a stream came to.
+fn put_result(alloc: Global, words: &mut ByteList, came: &StreamResult) -> Result<()> {
+    match came {
+        StreamResult::Bytes(bytes) => put_read(alloc, words, bytes.bytes())?,
         StreamResult::Fine => words.extend(b"ok")?,
-        StreamResult::Count(count) => put_decimal(&mut words, *count)?,
+        StreamResult::Count(count) => put_decimal(words, *count)?,
         StreamResult::Store(reply) => words.extend(EndWord::of(reply).word().as_bytes())?,
     }
+    Ok(())
+}
+
+/// What a stream asked and came to, in words.
+fn stream_words(alloc: Global, served: &Served) -> Result<ByteList> {
+    let mut words = served.words.copy(alloc)?;
+    put_result(alloc, &mut words, &served.result)?;
     Ok(words)
 }
 
@@ -79,9 +89,9 @@ fn room(word: &[u8]) -> Result<u32>
     if word.is_empty() {
         return Ok(1);
     }
-    let room = decimal(word)?;
+    let room = number_of(word)?;
     if room < 1 || room > MAX_ROOM as u64 {
-        bail!("no room");
+        return Err(Undone::NoWords);
     }
     Ok(room as u32)
 }
@@ -91,7 +101,7 @@ fn link(world: &mut World, path: &[u8], text: &[u8]) -> Result<NameResult>
     requires { IsSome (route_of path.now) }
 {
     if !is_path(world.alloc, text)? {
-        bail!("a link to no path");
+        return Err(Undone::NoWords);
     }
     let text = Some(ByteList::from_slice(world.alloc, text)?);
     add(world, path, ObjKind::Link, 1, text)
@@ -106,11 +116,11 @@ fn crowd(world: &mut World, path: &[u8], number: u64) -> Result<NameResult>
         name.push(b'/')?;
         put_decimal(&mut name, i)?;
         if !is_path(world.alloc, name.bytes())? {
-            bail!("no path to fill");
+            return Err(Undone::NoWords);
         }
-        match add(world, name.bytes(), ObjKind::File, 1, None)? {
-            NameResult::Added(_) => {}
-            refused => return Ok(refused),
+        let come = add(world, name.bytes(), ObjKind::File, 1, None)?;
+        if !matches!(&come, NameResult::Added(_)) {
+            return Ok(come);
         }
     }
     walk(world, path, true)
@@ -120,7 +130,7 @@ fn crowd(world: &mut World, path: &[u8], number: u64) -> Result<NameResult>
 fn add_there(world: &mut World, name: &[u8]) -> Result<NameResult> {
     let dir = world.entry();
     let what = Addition {
-        name: Component::read(name).context("no name")?,
+        name: Component::read(name).ok_or(Undone::NoWords)?,
         kind: ObjKind::File,
         room: 1,
         text: None,
@@ -131,7 +141,7 @@ fn add_there(world: &mut World, name: &[u8]) -> Result<NameResult> {
 /// Removes a name by its directory, the one in which the process works.
 fn remove_there(world: &mut World, name: &[u8]) -> Result<NameResult> {
     let dir = world.entry();
-    remove_at(world, dir, Component::read(name).context("no name")?)
+    remove_at(world, dir, Component::read(name).ok_or(Undone::NoWords)?)
 }
 
 /// The object to which a path led.
@@ -147,24 +157,25 @@ fn object(world: &mut World, path: &[u8]) -> Result<Uid>
     requires { IsSome (route_of path.now) }
 {
     let come = walk(world, path, false)?;
-    Ok(object_of(&come).context("no object")?)
+    object_of(&come).ok_or(Undone::NoObject)
 }
 
 /// Stores the records that words spell, behind the byte where they go, into a directory that another process locks.
 fn put(world: &mut World, uid: Uid, words: &[u8]) -> Result<Reply> {
-    let (at, records) = cut(words, b' ').context("no place")?;
-    let at = u32::try_from(decimal(at)?)?;
+    let (at, records) = cut(words, b' ').ok_or(Undone::NoWords)?;
+    let at = u32::try_from(number_of(at)?).map_err(|_| Undone::NoWords)?;
     let bytes = record_bytes(world.alloc, records)?;
     let _number = uid.number();
     let mode = Mode::Write;
-    match world.reply_to_other(&Op::Lock { uid, mode })? {
-        Reply::Fine => {}
-        refused => return Ok(refused),
+    let locked = world.reply_to_other(&Op::Lock { uid, mode })?;
+    if !matches!(&locked, Reply::Fine) {
+        return Ok(locked);
     }
-    match world.store_by_other(uid, at, bytes.bytes())? {
-        Reply::Fine => world.reply_to_other(&Op::Unlock { uid }),
-        refused => Ok(refused),
+    let stored = world.store_by_other(uid, at, bytes.bytes())?;
+    if !matches!(&stored, Reply::Fine) {
+        return Ok(stored);
     }
+    world.reply_to_other(&Op::Unlock { uid })
 }
 
 /// What another process is answered that works on an object itself.
@@ -177,14 +188,14 @@ fn done_to(world: &mut World, verb: &[u8], uid: Uid, word: &[u8]) -> Result<Repl
         b"delete" => world.reply_to_other(&Op::Delete { uid }),
         b"store" => world.store_by_other(uid, 0, word),
         b"put" => put(world, uid, word),
-        _ => bail!("no such verb"),
+        _ => Err(Undone::NoWords),
     }
 }
 
 /// Whether there is an object of this counter at the node: what another process is answered that locks it.
 fn made(world: &mut World, counter: u64) -> Result<Reply> {
     if counter < 1 || counter > 1000 {
-        bail!("no counter");
+        return Err(Undone::NoWords);
     }
     let uid = Uid::from_parts(counter, world.own());
     done_to(world, b"lock", uid, b"")
@@ -213,8 +224,8 @@ fn come_of(world: &mut World, verb: &[u8], path: &[u8], word: &[u8]) -> Result<N
         b"add-there" => add_there(world, path),
         b"remove-there" => remove_there(world, path),
         b"go" => go(world, path),
-        b"made" => Ok(NameResult::Store(made(world, decimal(path)?)?)),
-        b"crowd" => crowd(world, path, decimal(word)?),
+        b"made" => Ok(NameResult::Store(made(world, number_of(path)?)?)),
+        b"crowd" => crowd(world, path, number_of(word)?),
         b"fail" => {
             world.fail_deletion();
             walk(world, path, true)
@@ -226,11 +237,13 @@ fn come_of(world: &mut World, verb: &[u8], path: &[u8], word: &[u8]) -> Result<N
     }
 }
 
-/// A text of some of the bytes that files are filled with, put behind a file.
-fn append_some(world: &mut World, uid: Uid, count: u64) -> Result<Served> {
-    let text = some_bytes(world.alloc, count)?;
-    let machine = appending(world.alloc, uid, text.bytes())?;
-    serve(world, machine, &None)
+/// Copies a file to the one at a path.
+fn copy_to(world: &mut World, uid: Uid, path: &[u8]) -> Result<Served> {
+    if !is_path(world.alloc, path)? {
+        return Err(Undone::NoWords);
+    }
+    let to = object(world, path)?;
+    copy(world, uid, to, &None)
 }
 
 /// What comes of a command on the bytes of a file: `catf`, `lnf`, `apf`, `cpf` of the shell, and `apn` of a number.
@@ -242,22 +255,16 @@ fn stream(world: &mut World, verb: &[u8], uid: Uid, word: &[u8]) -> Result<Serve
             let machine = appending(world.alloc, uid, word)?;
             serve(world, machine, &None)
         }
-        b"apn" => append_some(world, uid, decimal(word)?),
-        b"cpf" => {
-            if !is_path(world.alloc, word)? {
-                bail!("no path to copy to");
-            }
-            let to = object(world, word)?;
-            copy(world, uid, to, &None)
-        }
-        _ => bail!("no such stream"),
+        b"apn" => append_bytes(world, uid, number_of(word)?, &None),
+        b"cpf" => copy_to(world, uid, word),
+        _ => Err(Undone::NoWords),
     }
 }
 
 /// What comes of the process's own work on a file: it is filled with so many bytes, opened in a mode, or left.
 fn prepare(world: &mut World, verb: &[u8], uid: Uid, word: &[u8]) -> Result<()> {
     match (verb, word) {
-        (b"fill", count) => fill(world, uid, decimal(count)?),
+        (b"fill", count) => fill(world, uid, number_of(count)?),
         (b"open", b"r") => {
             let _address = open(world, uid, Mode::Read)?;
             Ok(())
@@ -278,42 +285,60 @@ fn first_word(text: &[u8]) -> (&[u8], &[u8]) {
     }
 }
 
+/// The refusal that words spell.
+fn refusal(at: &[u8], which: &[u8], closings: bool) -> Result<Refusal> {
+    Ok(Refusal {
+        at: number_of(at)?,
+        which: number_of(which)?,
+        closings,
+    })
+}
+
 /// What a stream asks and comes to that is refused as a row says it: `catf 3 1 mapped closings`.
 fn refused_so(alloc: Global, words: &[u8]) -> Result<ByteList> {
     let (verb, rest) = first_word(words);
     let (at, rest) = first_word(rest);
     let (which, rest) = first_word(rest);
-    let refusal = Refusal {
-        at: decimal(at)?,
-        which: decimal(which)?,
-        closings: matches!(rest, b"closings" | b"mapped closings"),
-    };
+    let closings = matches!(rest, b"closings" | b"mapped closings");
     let mapped = matches!(rest, b"mapped" | b"mapped closings");
+    let refusal = refusal(at, which, closings)?;
     stream_words(alloc, &refused(alloc, verb, mapped, refusal)?)
+}
+
+/// What comes of a command on a file, in words.
+fn on_file(world: &mut World, verb: &[u8], path: &[u8], word: &[u8]) -> Result<ByteList>
+    requires { IsSome (route_of path.now) }
+{
+    let uid = object(world, path)?;
+    match verb {
+        b"fill" | b"open" | b"leave" => {
+            prepare(world, verb, uid, word)?;
+            Ok(ByteList::from_slice(world.alloc, b"ok")?)
+        }
+        _ => stream_words(world.alloc, &stream(world, verb, uid, word)?),
+    }
+}
+
+/// What comes of a command at a path, in words.
+fn at_path(world: &mut World, verb: &[u8], rest: &[u8]) -> Result<ByteList> {
+    let (path, word) = first_word(rest);
+    if !is_path(world.alloc, path)? {
+        return Ok(ByteList::from_slice(world.alloc, b"no path")?);
+    }
+    match verb {
+        b"catf" | b"lnf" | b"apf" | b"apn" | b"cpf" | b"fill" | b"open" | b"leave" => {
+            on_file(world, verb, path, word)
+        }
+        _ => words(world.alloc, &come_of(world, verb, path, word)?),
+    }
 }
 
 /// What comes of a command, in words.
 pub fn answer(world: &mut World, command: &[u8]) -> Result<ByteList> {
     let (verb, rest) = first_word(command);
     match verb {
-        b"records" => return read_again(world.alloc, rest),
-        b"refused" => return refused_so(world.alloc, rest),
-        _ => {}
-    }
-    let (path, word) = first_word(rest);
-    if !is_path(world.alloc, path)? {
-        return Ok(ByteList::from_slice(world.alloc, b"no path")?);
-    }
-    match verb {
-        b"catf" | b"lnf" | b"apf" | b"apn" | b"cpf" => {
-            let uid = object(world, path)?;
-            stream_words(world.alloc, &stream(world, verb, uid, word)?)
-        }
-        b"fill" | b"open" | b"leave" => {
-            let uid = object(world, path)?;
-            prepare(world, verb, uid, word)?;
-            Ok(ByteList::from_slice(world.alloc, b"ok")?)
-        }
-        _ => words(world.alloc, &come_of(world, verb, path, word)?),
+        b"records" => read_again(world.alloc, rest),
+        b"refused" => refused_so(world.alloc, rest),
+        _ => at_path(world, verb, rest),
     }
 }

@@ -26,12 +26,22 @@ use std::alloc::Global;
 use uid_names::{ByteList, NoMemory, ObjKind, Uid};
 
 /// How far a task by a path has come. `alone` is the result of a path that leads to nothing.
-#[derive(Drop)]
 pub struct ByPath {
     pub alone: Option<NameResult>,
     /// The walk; None once it led to a directory.
     pub walking: Option<Walking>,
     pub task: Task,
+}
+
+// Of its own, so that what drops one calls this and does not take it apart in place.
+impl Drop for ByPath {
+    fn drop(self) {
+        let ByPath {
+            alone: _,
+            walking: _,
+            task: _,
+        } = self;
+    }
 }
 
 impl ByPath {

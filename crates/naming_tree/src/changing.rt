@@ -45,13 +45,25 @@ pub enum Next {
 }
 
 /// How far a change of a directory has come; without a stage it comes to its end.
-#[derive(Drop)]
 pub struct Changing {
     pub parent: Uid,
     pub change: Change,
     pub stage: Option<Stage>,
     pub bytes: ByteList,
     pub ending: Ending,
+}
+
+// Of its own, so that what drops one calls this and does not take it apart in place.
+impl Drop for Changing {
+    fn drop(self) {
+        let Changing {
+            parent: _,
+            change: _,
+            stage: _,
+            bytes: _,
+            ending: _,
+        } = self;
+    }
 }
 
 impl Next {

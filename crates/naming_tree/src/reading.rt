@@ -11,7 +11,6 @@ use std::alloc::Global;
 use uid_names::{ByteList, Mode, NoMemory, Uid};
 
 /// The reading of an object: it is opened, loaded and closed.
-#[derive(Drop)]
 pub struct Reading {
     pub uid: Uid,
     /// How far it is opened and loaded; None once it is closed or being closed.
@@ -19,6 +18,18 @@ pub struct Reading {
     /// What was loaded so far.
     pub bytes: ByteList,
     pub closing: Closing,
+}
+
+// Of its own, so that what drops one calls this and does not take it apart in place.
+impl Drop for Reading {
+    fn drop(self) {
+        let Reading {
+            uid: _,
+            enter: _,
+            bytes: _,
+            closing: _,
+        } = self;
+    }
 }
 
 impl Reading {

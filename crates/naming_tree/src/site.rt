@@ -8,10 +8,16 @@ use dom_history::NodeNames;
 use uid_names::{NodeId, ObjKind, Uid};
 
 /// The node of a process, and the names of all nodes.
-#[derive(Drop)]
 pub struct Site {
     pub own: NodeId,
     pub names: NodeNames,
+}
+
+// Of its own, so that what drops one calls this and does not take it apart in place.
+impl Drop for Site {
+    fn drop(self) {
+        let Site { own: _, names: _ } = self;
+    }
 }
 
 impl Site {

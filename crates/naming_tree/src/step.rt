@@ -44,7 +44,7 @@ impl Walked {
 }
 
 /// What a machine comes to.
-#[derive(Drop, Debug)]
+#[derive(Debug)]
 pub enum NameResult {
     Found(Walked),
     Added(Uid),
@@ -61,6 +61,27 @@ pub enum NameResult {
     BadDir,
     /// The first reply that refused an operation.
     Store(Reply),
+}
+
+// Of its own, so that what drops one calls this and does not take it apart in place.
+impl Drop for NameResult {
+    fn drop(self) {
+        match self {
+            NameResult::Found(_)
+            | NameResult::Added(_)
+            | NameResult::Removed
+            | NameResult::Rows(_)
+            | NameResult::Nodes
+            | NameResult::NoName
+            | NameResult::NameExists
+            | NameResult::NotDir
+            | NameResult::IsDir
+            | NameResult::DirFull
+            | NameResult::LinkLoop
+            | NameResult::BadDir
+            | NameResult::Store(_) => {}
+        }
+    }
 }
 
 /// What a machine says: the next operation, or what it has come to.

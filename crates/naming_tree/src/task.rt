@@ -17,10 +17,18 @@ use std::alloc::Global;
 use uid_names::{NoMemory, Uid};
 
 /// What is done in a directory: it is listed, or changed.
-#[derive(Drop)]
 pub enum Task {
     List(Reading),
     Change(Changing),
+}
+
+// Of its own, so that what drops one calls this and does not take it apart in place.
+impl Drop for Task {
+    fn drop(self) {
+        match self {
+            Task::List(_) | Task::Change(_) => {}
+        }
+    }
 }
 
 /// The rows of a directory that was read, by their names.

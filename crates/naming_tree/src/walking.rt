@@ -35,7 +35,6 @@ pub enum Aim {
 }
 
 /// How far a walk has come: the links that it may still follow, the names behind, and what it reads.
-#[derive(Drop)]
 pub struct Walking {
     pub site: Site,
     /// Whether a link at the end is followed.
@@ -44,6 +43,20 @@ pub struct Walking {
     pub rest: Names,
     pub aim: Aim,
     pub reading: Reading,
+}
+
+// Of its own, so that what drops one calls this and does not take it apart in place.
+impl Drop for Walking {
+    fn drop(self) {
+        let Walking {
+            site: _,
+            last: _,
+            links: _,
+            rest: _,
+            aim: _,
+            reading: _,
+        } = self;
+    }
 }
 
 /// The directory that holds an object with this place; a directory where a path starts is its own.

@@ -65,7 +65,6 @@ fn is_call(number: u64, awaits: &Await) -> bool
 
 /// The state of a node: its home side, its desk, its four processes with their programs by rising number, how many
 /// frames it sent to each node, its tick and phase, whether it sent the mark of its phase, and the marks that it took.
-#[derive(Drop)]
 pub(crate) struct Machine<P: Program, G: Pages> {
     pub(crate) greatest: u32,
     pub(crate) phases: u32,
@@ -78,6 +77,25 @@ pub(crate) struct Machine<P: Program, G: Pages> {
     pub(crate) phase: u32,
     pub(crate) ready: bool,
     pub(crate) marks: Marks,
+}
+
+// Of its own, so that what drops one calls this and does not take it apart in place.
+impl<P: Program, G: Pages> Drop for Machine<P, G> {
+    fn drop(self) {
+        let Machine {
+            greatest: _,
+            phases: _,
+            server: _,
+            desk: _,
+            programs: _,
+            procs: _,
+            emitted: _,
+            tick: _,
+            phase: _,
+            ready: _,
+            marks: _,
+        } = self;
+    }
 }
 
 impl<P: Program, G: Pages> Machine<P, G> {
@@ -128,6 +146,26 @@ impl<P: Program, G: Pages> Machine<P, G> {
             ready: false,
             marks: Marks::new(alloc),
         })
+    }
+
+    /// Its programs, by rising number.
+    pub(crate) fn into_programs(self) -> Vec<(u8, P)>
+        ensures { result ≡ self.programs }
+    {
+        let Machine {
+            greatest: _,
+            phases: _,
+            server: _,
+            desk: _,
+            programs,
+            procs: _,
+            emitted: _,
+            tick: _,
+            phase: _,
+            ready: _,
+            marks: _,
+        } = self;
+        programs
     }
 
     /// The node, once each program was asked for the first time.

@@ -80,11 +80,21 @@ fn write(
 /// A node: its home side, its desk, its processes with their programs, and its journal.
 ///
 /// A node that found no memory at an event is spent: no event of it is enabled.
-#[derive(Drop)]
 pub struct Node<P: Program, G: Pages> {
     machine: Machine<P, G>,
     log: NodeLog,
     spent: bool,
+}
+
+// Of its own, so that what drops one calls this and does not take it apart in place.
+impl<P: Program, G: Pages> Drop for Node<P, G> {
+    fn drop(self) {
+        let Node {
+            machine: _,
+            log: _,
+            spent: _,
+        } = self;
+    }
 }
 
 impl<P: Program, G: Pages> Model for Node<P, G> {
@@ -210,7 +220,12 @@ impl<P: Program, G: Pages> Node<P, G> {
         ensures programs { (p : ℕ) → program_in result.1.items p ≡ program_of self p }
         ensures rising { self.spent ≡ false → AreRising (numbers_in result.1.items) }
     {
-        (self.log, self.machine.programs)
+        let Node {
+            machine,
+            log,
+            spent: _,
+        } = self;
+        (log, machine.into_programs())
     }
 
     /// The program of a process, as it is now: it lives, unless the node is spent. Takes no memory.

@@ -43,13 +43,25 @@ pub(crate) struct Open {
 
 /// A process: what its program wants, which is known before the process asks; its open operation; the number of its last
 /// call; the phase of what its program wants next; and what its last call asks.
-#[derive(Drop)]
 pub(crate) struct Proc {
     pub(crate) want: Want,
     pub(crate) opened: Option<Open>,
     pub(crate) last: u64,
     pub(crate) phase: u32,
     pub(crate) asked: Request,
+}
+
+// Of its own, so that what drops one calls this and does not take it apart in place.
+impl Drop for Proc {
+    fn drop(self) {
+        let Proc {
+            want: _,
+            opened: _,
+            last: _,
+            phase: _,
+            asked: _,
+        } = self;
+    }
 }
 
 /// A request that is sent again: to which home, the number of its call, and what it asks.

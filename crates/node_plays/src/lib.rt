@@ -2,5 +2,6 @@
 //! `node_walks` reads cases and plays them; what plays them is this library, so that it is proved once.
 #![tactic(auto)]
 
+pub mod fault;
 mod nodes;
 pub mod play;

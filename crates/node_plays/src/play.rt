@@ -1,6 +1,6 @@
 //! Plays a journal at the nodes of its script, event by event.
+use crate::fault::PlayFault;
 use crate::nodes::{ShellNode, nodes};
-use anyhow::Result;
 use case_files::FileCase;
 use dom_history::{Event, EventList, NodeNames, What};
 use journal_text::read_journal;
@@ -63,7 +63,7 @@ impl<'a> Play<'a> {
     }
 
     /// What an event at a node receives. Where nothing of that kind was sent it receives nothing, and is not enabled.
-    fn incoming(&self, at: NodeId, what: What) -> Result<Incoming> {
+    fn incoming(&self, at: NodeId, what: What) -> Result<Incoming, PlayFault> {
         Ok(match what {
             What::Take(from, index) => match self.frame(from, at, index) {
                 Some(frame) => Incoming::Frame(read(self.alloc, frame.bytes.bytes())?),
@@ -97,7 +97,7 @@ impl<'a> Play<'a> {
     }
 
     /// Does an event; whether it was enabled and did what was written of it.
-    fn step(&mut self, event: &Event) -> Result<bool> {
+    fn step(&mut self, event: &Event) -> Result<bool, PlayFault> {
         let at = event.place().node;
         let incoming = self.incoming(at, event.what())?;
         let number = usize::from(at.number());
@@ -199,19 +199,14 @@ fn tell(
     Ok(())
 }
 
-/// The nodes of a script at the start.
-fn begun(alloc: Global, script: &Script) -> Result<Play<'_>> {
-    Ok(Play::new(alloc, nodes(alloc, script)?))
-}
-
 /// The events of a journal.
-fn events(alloc: Global, journal: &[u8]) -> Result<EventList> {
+fn events(alloc: Global, journal: &[u8]) -> Result<EventList, PlayFault> {
     let names = names(alloc)?;
     Ok(read_journal(alloc, journal, &names)?)
 }
 
 /// Does events; the tick of the first that was not enabled, or did something else.
-fn first_wrong(play: &mut Play<'_>, events: &[Event]) -> Result<Option<u64>> {
+fn first_wrong(play: &mut Play<'_>, events: &[Event]) -> Result<Option<u64>, PlayFault> {
     for event in events {
         if !play.step(event)? {
             return Ok(Some(event.place().tick));
@@ -233,19 +228,32 @@ fn found_at_end(play: Play<'_>, phases: u32, report: &[u8]) -> Result<Found, NoM
     })
 }
 
-/// Plays a case; what was found of it, and how many events its journal has.
-pub fn play_case(alloc: Global, case: &FileCase) -> Result<(Found, u64)> {
-    let script = read_script(alloc, case.script.bytes())?;
-    let mut play = begun(alloc, &script)?;
-    let journal = match &case.journal {
+/// Does events at the nodes of a script; what was found of them.
+fn found_in(
+    alloc: Global,
+    script: &Script,
+    events: &[Event],
+    report: &[u8],
+) -> Result<Found, PlayFault> {
+    let mut play = Play::new(alloc, nodes(alloc, script)?);
+    match first_wrong(&mut play, events)? {
+        Some(tick) => Ok(Found::Event(tick)),
+        None => Ok(found_at_end(play, script.phases(), report)?),
+    }
+}
+
+/// The journal of a case; one of no events where it has none.
+fn journal(case: &FileCase) -> &[u8] {
+    match &case.journal {
         Some(journal) => journal.bytes(),
         None => b"",
-    };
-    let events = events(alloc, journal)?;
-    let count = events.items().len() as u64;
-    if let Some(tick) = first_wrong(&mut play, events.items())? {
-        return Ok((Found::Event(tick), count));
     }
-    let found = found_at_end(play, script.phases(), case.report.bytes())?;
-    Ok((found, count))
+}
+
+/// Plays a case; what was found of it, and how many events its journal has.
+pub fn play_case(alloc: Global, case: &FileCase) -> Result<(Found, u64), PlayFault> {
+    let script = read_script(alloc, case.script.bytes())?;
+    let events = events(alloc, journal(case))?;
+    let found = found_in(alloc, &script, events.items(), case.report.bytes())?;
+    Ok((found, events.items().len() as u64))
 }

@@ -1,5 +1,5 @@
 //! What comes to a post: entries of its rings, frames of its own link, notices.
-ghost use Rattle.std.specs.Prelude.{◌≡◌, ◌≤◌, ◌<◌, ◌^◌, ◌==◌, [], None, length, IfSome, IfNone};
+ghost use Rattle.std.specs.Prelude.{◌≡◌, ◌≤◌, ◌<◌, ◌^◌, ◌==◌, ℕ, [], None, length, IfSome, IfNone};
 ghost use Rattle.std.specs.List.{AllZip};
 ghost use Rattle.fault_handler.specs.Desks.{IsNode};
 ghost use Rattle.wire_links.specs.Wires.{SameIn};
@@ -31,6 +31,17 @@ fn take_at(ins: &mut Vec<WireIn>, at: usize) -> Option<Carried>
     ins[at].take()
 }
 
+/// Whether an entry waits in the ring at a place, as far as is seen now.
+fn waits_at(ins: &mut Vec<WireIn>, at: usize) -> bool
+    ensures none { AreTaken (λ k. []) ins.old.items ins.new.items }
+    ensures same { AllZip SameIn ins.old.items ins.new.items }
+{
+    if at >= ins.len() {
+        return false;
+    }
+    !ins[at].is_empty()
+}
+
 /// The event that takes what waits on a node's link to itself.
 fn taking(number: NodeId, waiting: Waiting) -> What
     ensures { result ≡ own_event number waiting }
@@ -59,6 +70,29 @@ impl<P: Program, G: Pages> Post<P, G> {
         if let Some((what, incoming)) = read {
             self.event(alloc, what, &incoming, last_tick);
         }
+    }
+
+    /// Whether an entry waits in the ring at a place, as far as is seen now.
+    fn waits(&mut self, at: usize) -> bool
+        ensures goes { (limit : ℕ) → limit ≤ 2 ^ 40 → GoesOn P.wants P.becomes limit self.old self.new }
+    {
+        if self.has_fault() {
+            return false;
+        }
+        waits_at(&mut self.ins, at)
+    }
+
+    /// Whether an entry waits in one of the rings, as far as is seen now: what is pushed behind the look is not. False where a fault came.
+    /// Takes no memory, and does nothing else.
+    pub fn has_incoming(&mut self) -> bool
+        ensures goes { (limit : ℕ) → limit ≤ 2 ^ 40 → GoesOn P.wants P.becomes limit self.old self.new }
+    {
+        for at in 0..self.ins.len() {
+            if self.waits(at) {
+                return true;
+            }
+        }
+        false
     }
 
     /// Takes the oldest entry of the ring at a place, unless its node has ended or a fault came; false where nothing came out. An entry

@@ -42,13 +42,13 @@ use Rattle.lock_validate.specs.Releases.{begin_unlock_of, begin_delete_of}
 use Rattle.lock_validate.specs.Answers.{answer_came_of}
 use Rattle.lock_validate.specs.Faults.{call_failed_of}
 use Rattle.lock_validate.proofs.Standing.{lock_call-is, answer-is}
-use Rattle.desk_laws.specs.Causes.{Cause, comes_of, MayCome, IsOf}
-use Rattle.desk_laws.specs.Untouched.{IsUntouched, IsSameDesk}
-use Rattle.desk_laws.proofs.Beside.{moves-beside, moves-same}
-use Rattle.desk_laws.proofs.DeskStays.{moves-desk}
-use Rattle.desk_laws.proofs.DroppedOrder.{moves-rise}
-use Rattle.desk_laws.proofs.EachCall.{after-each}
-use Rattle.desk_laws.proofs.Leaving.{IsLeft, comes_of-left}
+use Rattle.lock_validate.specs.Causes.{Cause, comes_of, MayCome, IsOf}
+use Rattle.lock_validate.specs.Untouched.{IsUntouched, IsSameDesk}
+use Rattle.lock_validate.proofs.Beside.{moves-beside, moves-same}
+use Rattle.lock_validate.proofs.DeskStays.{moves-desk}
+use Rattle.lock_validate.proofs.DroppedOrder.{moves-rise}
+use Rattle.lock_validate.proofs.EachCall.{after-each}
+use Rattle.lock_validate.proofs.Leaving.{IsLeft, comes_of-left}
 use Rattle.node_runs.specs.Operations.{new_by, list_by, begun, gone_on, Said, said_to_new, said_to_list, said_to_lock, said_to_call, said_by, said_of, answered, access_failed, call_failed, failed}
 use Rattle.node_runs.specs.Agreements.{IsCallOpen, IsCalling, IsWaiting}
 use Rattle.node_runs.specs.SentFrames.{IsNamedBody}

@@ -33,7 +33,7 @@ use Rattle.fault_handler.specs.Accesses.{Accessed}
 use Rattle.fault_handler.specs.Invariant.{IsProc, IsDesk}
 use Rattle.fault_handler.proofs.Fours.{each-put, length-put}
 use Rattle.fault_handler.proofs.Outcomes.{Holds, Holds-always}
-use Rattle.desk_laws.specs.Untouched.{IsUntouched, IsSameDesk}
+use Rattle.lock_validate.specs.Untouched.{IsUntouched, IsSameDesk}
 use Rattle.node_runs.specs.Setups.{Given, AreWants}
 use Rattle.node_runs.specs.NodeStates.{Asked, Await, BegunOp, OpenOp, ProcState, NodeState, first_proc, proc_of}
 use Rattle.node_runs.specs.Operations.{begun, gone_on, Said, said_of, answered, failed}

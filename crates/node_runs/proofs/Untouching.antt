@@ -11,8 +11,8 @@ use Rattle.fault_handler.specs.declared.transits.Transit.{Transit}
 use Rattle.fault_handler.specs.Entries.{state_in, entry_of}
 use Rattle.fault_handler.specs.Desks.{DeskState, IsNode, open_call_of, task_of, moving_of}
 use Rattle.fault_handler.specs.Next.{IsCallOf, IsRequest, MayGoOn}
-use Rattle.desk_laws.specs.Untouched.{IsUntouched}
-use Rattle.desk_laws.proofs.Beside.{IsIdle-untouched, IsReady-untouched}
+use Rattle.lock_validate.specs.Untouched.{IsUntouched}
+use Rattle.lock_validate.proofs.Beside.{IsIdle-untouched, IsReady-untouched}
 use Rattle.node_runs.specs.NodeStates.{Await, OpenOp}
 use Rattle.node_runs.specs.Agreements.{IsCallOpen, IsCalling, IsDoing, Agrees}
 

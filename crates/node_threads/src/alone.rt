@@ -1,5 +1,5 @@
 //! A node in a thread of its own.
-ghost use Rattle.std.specs.Prelude.{◌≤◌, ◌^◌};
+ghost use Rattle.std.specs.Prelude.{ℕ, ◌≤◌, ◌^◌};
 ghost use Rattle.node_posts.specs.Posts.{HasRun, GoesOn};
 
 use crate::flag::StopFlag;
@@ -22,6 +22,38 @@ fn is_flushed<P: Program, G: Pages>(post: &Post<P, G>) -> bool {
         }
     }
     true
+}
+
+/// Looks at the rings alone until something waits there, the flag was set, or the thread looked in vain so often that it may sleep. Nothing
+/// else can come to a node where all that was there is served and pushed.
+fn look_out<P: Program, G: Pages>(post: &mut Post<P, G>, looks: &mut Looks, stop: &StopFlag)
+    ensures { (limit : ℕ) → limit ≤ 2 ^ 40 → GoesOn P.wants P.becomes limit post.old post.new }
+{
+    for _ in 0..looks.left() {
+        if stop.is_set() {
+            return;
+        }
+        if post.has_incoming() {
+            return;
+        }
+        looks.found(false);
+        looks.pause();
+    }
+}
+
+/// Lets a moment pass behind a round in which nothing came; where nothing is ready either, until something comes.
+fn rest<P: Program, G: Pages>(
+    post: &mut Post<P, G>,
+    looks: &mut Looks,
+    stop: &StopFlag,
+    is_quiet: bool,
+)
+    ensures { (limit : ℕ) → limit ≤ 2 ^ 40 → GoesOn P.wants P.becomes limit post.old post.new }
+{
+    looks.pause();
+    if is_quiet {
+        look_out(post, looks, stop);
+    }
 }
 
 /// Serves a node until it has ended and no mark of it is left, a fault came, or the flag was found set. Where a fault comes the flag is
@@ -52,10 +84,11 @@ pub(crate) fn serve_alone<P: Program, G: Pages, K: Gate, R: Wait>(
             return post;
         }
         looks.found(round.moved);
-        if looks.are_enough() && !round.put_off && is_flushed(&post) {
+        let is_quiet = !round.moved && !round.put_off && is_flushed(&post);
+        if is_quiet && looks.are_enough() {
             stop.park(rt, post.number());
         } else {
-            looks.pause();
+            rest(&mut post, &mut looks, stop, is_quiet);
         }
     }
     unreachable!()

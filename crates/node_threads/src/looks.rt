@@ -40,6 +40,14 @@ impl Looks {
         self.count > self.spins.saturating_add(YIELDS)
     }
 
+    /// How often it looks on before it may sleep.
+    pub(crate) fn left(&self) -> u32 {
+        self.spins
+            .saturating_add(YIELDS)
+            .saturating_sub(self.count)
+            .saturating_add(1)
+    }
+
     /// Lets a moment pass before the next look, if this one found nothing.
     pub(crate) fn pause(&self) {
         if self.count == 0 {

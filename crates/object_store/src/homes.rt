@@ -20,7 +20,6 @@ use std::marker::Model;
 use uid_names::{MAX_ROOM, NoMemory, NodeId, ObjKind, Opening, PAGE_BYTES, Uid, VOLUME_ROOM};
 
 /// The objects of a node and their pages.
-#[derive(Drop)]
 pub struct Home<P: Pages> {
     node: NodeId,
     objects: Vec<ObjectRow>,
@@ -29,6 +28,19 @@ pub struct Home<P: Pages> {
     // The sum of the rooms.
     taken: u32,
     pages: P,
+}
+
+// Of its own, so that what drops one calls this and does not take it apart in place.
+impl<P: Pages> Drop for Home<P> {
+    fn drop(self) {
+        let Home {
+            node: _,
+            objects: _,
+            greatest: _,
+            taken: _,
+            pages: _,
+        } = self;
+    }
 }
 
 impl<P: Pages> Model for Home<P> {

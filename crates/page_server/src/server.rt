@@ -22,13 +22,24 @@ use std::marker::Model;
 use uid_names::{NoMemory, NodeId, ProcId};
 
 /// The home side of a node: its objects, its locks, and its last answer to each process.
-#[derive(Drop)]
 pub struct PageServer<P: Pages> {
     home: Home<P>,
     locks: Locks,
     served: Served<HomeAnswer>,
     // The tick of the last call of `serve`, 0 at first.
     tick: u64,
+}
+
+// Of its own, so that what drops one calls this and does not take it apart in place.
+impl<P: Pages> Drop for PageServer<P> {
+    fn drop(self) {
+        let PageServer {
+            home: _,
+            locks: _,
+            served: _,
+            tick: _,
+        } = self;
+    }
 }
 
 impl<P: Pages> Model for PageServer<P> {

@@ -14,11 +14,21 @@ use uid_names::{NoMemory, PAGE_BYTES};
 
 /// Pages in blocks of 32, each with a list of its free places. A page is found by a map from its object's counter to
 /// a map from its number to its place.
-#[derive(Drop)]
 pub struct BlockPages {
     alloc: Global,
     places: Places,
     blocks: Blocks,
+}
+
+// Of its own, so that what drops one calls this and does not take it apart in place.
+impl Drop for BlockPages {
+    fn drop(self) {
+        let BlockPages {
+            alloc: _,
+            places: _,
+            blocks: _,
+        } = self;
+    }
 }
 
 impl Model for BlockPages {

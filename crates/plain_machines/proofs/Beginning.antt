@@ -5,7 +5,6 @@ use Rattle.uid_names.specs.Names.{ObjectName}
 use Rattle.uid_names.specs.declared.mode.ObjKind.{ObjKind}
 use Rattle.dom_history.specs.declared.op.Op.{Op}
 use Rattle.dom_history.specs.declared.op.Reply.{Reply}
-use Rattle.dom_history.specs.Fitting.{Fits}
 use Rattle.naming_tree.specs.declared.by_path.ByPath.{ByPath}
 use Rattle.naming_tree.specs.declared.changing.Change.{Change}
 use Rattle.naming_tree.specs.declared.changing.Change.TheVariants.{Add, Remove}
@@ -14,8 +13,8 @@ use Rattle.dir_records.specs.declared.path.Route.{Route}
 use Rattle.dir_records.specs.declared.path.Start.{Start}
 use Rattle.naming_tree.specs.declared.site.Site.{Site}
 use Rattle.naming_tree.specs.declared.step.NameResult.{NameResult}
-use Rattle.naming_tree.specs.Dialogues.{NameStep}
-use Rattle.naming_tree.specs.declared.step.Step.TheVariants.{Do}
+use Rattle.naming_tree.specs.Dialogues.{NameStep, FitsSaid}
+use Rattle.naming_tree.specs.declared.step.Step.TheVariants.{Do, Over}
 use Rattle.naming_tree.specs.declared.step.Walked.{Walked}
 use Rattle.naming_tree.specs.declared.task.Task.{Task}
 use Rattle.naming_tree.specs.declared.task.Task.TheVariants as tasks
@@ -29,10 +28,11 @@ use Rattle.naming_tree.specs.Walking.{walking_asks, walk_of}
 use Rattle.naming_tree.proofs.Ready.{ready}
 
 module _ {S : Type 0} (asks : S → Option Op) where
-  -- one that said an operation may be told each reply that fits it
-  pub goes_on : (after : S → Option Reply → Turn S) (m new : Option S) (last : Option Reply) (said : NameStep) (op : Op) (reply : Reply)
-      → new ≡ stood_after after m last → Some said ≡ stood_says asks after m last → said ≡ Do op → Fits op reply → IsReady asks new (Some reply)
-  goes_on after m new last said op reply n e d fits = ready asks after m new last op reply n (subst (λ s. Some s ≡ stood_says asks after m last) d e) fits
+  -- one that said a step may be told each reply that fits it
+  pub goes_on : (after : S → Option Reply → Turn S) (m new : Option S) (last : Option Reply) (said : NameStep) (reply : Reply)
+      → new ≡ stood_after after m last → Some said ≡ stood_says asks after m last → FitsSaid said reply → IsReady asks new (Some reply)
+  goes_on after m new last (Do op) reply n e fits = ready asks after m new last op reply n e fits
+  goes_on after m new last (Over result) reply n e fits = absurd fits
 
   by_value : (m made : Option S) → m ≡ made → IsReady asks made None → IsReady asks m None
   by_value m made e ready = subst (λ s. IsReady asks s None) (sym e) ready

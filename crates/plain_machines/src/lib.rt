@@ -5,4 +5,5 @@
 pub mod machines;
 pub mod refusals;
 pub mod streams;
+pub mod undone;
 pub mod world;

@@ -2,12 +2,12 @@
 ghost use Rattle.std.specs.Prelude.{IfOk, IfSome};
 ghost use Rattle.dom_history.specs.Fitting.{Fits};
 
-use crate::streams::{Served, appending, copy, fill, leave, made, open, read, serve, some_bytes};
+use crate::streams::{Served, append_bytes, copy, fill, leave, made, open, read};
+use crate::undone::{Result, Undone};
 use crate::world::{World, node, proc};
-use anyhow::{Result, bail};
 use dom_history::{Op, Reply, Spot};
 use std::alloc::Global;
-use uid_names::Mode;
+use uid_names::{Mode, Uid};
 
 /// At which operation of a stream it is refused, with which of the replies that this can have, and whether what is
 /// closed behind it is refused too.
@@ -80,6 +80,29 @@ fn refusal_of(op: &Op, which: u64) -> Result<Option<Reply>>
     })
 }
 
+/// A stream on a file, which is copied to the other one, that is refused so.
+fn refused_on(
+    world: &mut World,
+    verb: &[u8],
+    file: Uid,
+    other: Uid,
+    refusal: &Option<Refusal>,
+) -> Result<Served> {
+    match verb {
+        b"catf" => read(world, file, false, refusal),
+        b"lnf" => read(world, file, true, refusal),
+        b"apf" => append_bytes(world, file, 1024, refusal),
+        b"cpf" => copy(world, file, other, refusal),
+        _ => Err(Undone::NoStream),
+    }
+}
+
+/// Maps a file and ends its lock.
+fn map(world: &mut World, uid: Uid) -> Result<()> {
+    let _address = open(world, uid, Mode::Read)?;
+    leave(world, uid)
+}
+
 /// What a stream asks and comes to that is refused so, in a new store: on a file of 1,025 bytes, where it is copied to
 /// another file. Both were mapped before, or not.
 pub fn refused(alloc: Global, verb: &[u8], mapped: bool, refusal: Refusal) -> Result<Served> {
@@ -88,21 +111,8 @@ pub fn refused(alloc: Global, verb: &[u8], mapped: bool, refusal: Refusal) -> Re
     let other = made(&mut world, 3)?;
     fill(&mut world, file, 1025)?;
     if mapped {
-        for uid in [file, other] {
-            let _address = open(&mut world, uid, Mode::Read)?;
-            leave(&mut world, uid)?;
-        }
+        map(&mut world, file)?;
+        map(&mut world, other)?;
     }
-    let refusal = Some(refusal);
-    match verb {
-        b"catf" => read(&mut world, file, false, &refusal),
-        b"lnf" => read(&mut world, file, true, &refusal),
-        b"apf" => {
-            let text = some_bytes(alloc, 1024)?;
-            let machine = appending(alloc, file, text.bytes())?;
-            serve(&mut world, machine, &refusal)
-        }
-        b"cpf" => copy(&mut world, file, other, &refusal),
-        _ => bail!("no such stream"),
-    }
+    refused_on(&mut world, verb, file, other, &Some(refusal))
 }

@@ -8,8 +8,8 @@ ghost use Rattle.mapped_streams.specs.Dialogues.{MayHear};
 ghost use Rattle.mapped_streams.specs.States.{rest};
 
 use crate::refusals::{Refusal, refusal_at};
+use crate::undone::{Result, Undone};
 use crate::world::World;
-use anyhow::{Result, bail};
 use dom_history::{Op, Reply};
 use mapped_streams::{Stream, StreamResult, StreamStep};
 use std::alloc::Global;
@@ -109,7 +109,7 @@ pub fn serve(world: &mut World, machine: Stream, refusal: &Option<Refusal>) -> R
             }
         }
     }
-    bail!("it does not end")
+    Err(Undone::NoEnd)
 }
 
 /// So many bytes; every seventh ends a line.
@@ -130,7 +130,7 @@ pub fn appending(alloc: Global, uid: Uid, text: &[u8]) -> Result<Stream>
     ensures { IfOk result (λ m. MayHear (rest m) None) }
 {
     if text.is_empty() || text.len() > PAGE_BYTES {
-        bail!("no such text");
+        return Err(Undone::NoText);
     }
     Ok(Stream::append(alloc, uid, text)?)
 }
@@ -139,22 +139,22 @@ pub fn appending(alloc: Global, uid: Uid, text: &[u8]) -> Result<Stream>
 fn have_done(world: &mut World, op: &Op) -> Result<()>
     requires { IsOp op.now }
 {
-    match world.reply(op)? {
+    match &world.reply(op)? {
         Reply::Fine => Ok(()),
-        _ => bail!("it is not done"),
+        _ => Err(Undone::Refused),
     }
 }
 
 /// A file with room for so many pages.
 pub fn made(world: &mut World, room: u32) -> Result<Uid> {
     if room == 0 || room > MAX_ROOM {
-        bail!("no such room");
+        return Err(Undone::NoRoom);
     }
     let (home, kind) = (world.own(), ObjKind::File);
     let _number = home.number();
-    match world.reply(&Op::New { home, kind, room })? {
-        Reply::Made(uid) => Ok(uid),
-        _ => bail!("it is not made"),
+    match &world.reply(&Op::New { home, kind, room })? {
+        Reply::Made(uid) => Ok(*uid),
+        _ => Err(Undone::Refused),
     }
 }
 
@@ -164,9 +164,9 @@ pub fn open(world: &mut World, uid: Uid, mode: Mode) -> Result<u32>
 {
     let _number = uid.number();
     have_done(world, &Op::Lock { uid, mode })?;
-    match world.reply(&Op::Map { uid })? {
-        Reply::At { address, fresh: _ } => Ok(address),
-        _ => bail!("it is not mapped"),
+    match &world.reply(&Op::Map { uid })? {
+        Reply::At { address, fresh: _ } => Ok(*address),
+        _ => Err(Undone::Refused),
     }
 }
 
@@ -186,9 +186,9 @@ fn close(world: &mut World, uid: Uid) -> Result<()> {
 /// The length of an object that is locked.
 fn length(world: &mut World, uid: Uid) -> Result<u32> {
     let _number = uid.number();
-    match world.reply(&Op::Length { uid })? {
-        Reply::Size(length) => Ok(length),
-        _ => bail!("no length"),
+    match &world.reply(&Op::Length { uid })? {
+        Reply::Size(length) => Ok(*length),
+        _ => Err(Undone::Refused),
     }
 }
 
@@ -211,22 +211,43 @@ pub fn copy(world: &mut World, from: Uid, to: Uid, refusal: &Option<Refusal>) ->
     let address = open(world, from, Mode::Read)?;
     let length = length(world, from)?;
     if length > MAX_LENGTH {
-        bail!("no such length");
+        return Err(Undone::NoLength);
     }
     let served = serve(world, Stream::copy(address, length, to), refusal)?;
     close(world, from)?;
     Ok(served)
 }
 
+/// Puts a text behind an object.
+fn append(world: &mut World, uid: Uid, text: &[u8], refusal: &Option<Refusal>) -> Result<Served> {
+    let machine = appending(world.alloc, uid, text)?;
+    serve(world, machine, refusal)
+}
+
+/// Puts so many bytes behind an object.
+pub fn append_bytes(
+    world: &mut World,
+    uid: Uid,
+    count: u64,
+    refusal: &Option<Refusal>,
+) -> Result<Served> {
+    let text = some_bytes(world.alloc, count)?;
+    append(world, uid, text.bytes(), refusal)
+}
+
+/// Puts a piece behind an object, or fails.
+fn put_behind(world: &mut World, uid: Uid, piece: &[u8]) -> Result<()> {
+    match append(world, uid, piece, &None)?.result {
+        StreamResult::Fine => Ok(()),
+        _ => Err(Undone::Refused),
+    }
+}
+
 /// Puts so many bytes behind an object, in pieces.
 pub fn fill(world: &mut World, uid: Uid, count: u64) -> Result<()> {
     let bytes = some_bytes(world.alloc, count)?;
     for piece in bytes.bytes().chunks(700) {
-        let machine = appending(world.alloc, uid, piece)?;
-        match serve(world, machine, &None)?.result {
-            StreamResult::Fine => (),
-            _ => bail!("it is not put behind"),
-        }
+        put_behind(world, uid, piece)?;
     }
     Ok(())
 }

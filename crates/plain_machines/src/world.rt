@@ -3,7 +3,7 @@ ghost use Rattle.std.specs.Prelude.{◌≡◌, ◌≤◌, length, IfOk};
 ghost use Rattle.dom_history.specs.Ranges.{IsOp};
 ghost use Rattle.dom_history.specs.Fitting.{Fits};
 
-use anyhow::{Context, Result, bail};
+use crate::undone::{Result, Undone};
 use dom_history::{NodeNames, Op, Reply, Spot};
 use naming_tree::Site;
 use plain_store::PlainStore;
@@ -29,12 +29,12 @@ pub struct World {
 pub fn node(number: u8) -> Result<NodeId>
     ensures { IfOk result (λ node. node ≡ number) }
 {
-    Ok(NodeId::new(number).context("no such node")?)
+    NodeId::new(number).ok_or(Undone::NoNode)
 }
 
 /// The process of this number at a node.
 pub fn proc(node: NodeId, number: u8) -> Result<ProcId> {
-    Ok(ProcId::new(node, number).context("no such process")?)
+    ProcId::new(node, number).ok_or(Undone::NoProcess)
 }
 
 impl World {
@@ -69,12 +69,11 @@ impl World {
 
     /// Where the process walks.
     pub fn site(&self) -> Result<Site> {
-        let mut names = Vec::new(self.alloc);
-        names.push(ByteList::from_slice(self.alloc, b"a")?)?;
-        names.push(ByteList::from_slice(self.alloc, b"b")?)?;
+        let a = ByteList::from_slice(self.alloc, b"a")?;
+        let b = ByteList::from_slice(self.alloc, b"b")?;
         Ok(Site {
             own: self.own,
-            names: NodeNames::from_list(self.alloc, names.as_slice())?,
+            names: NodeNames::from_list(self.alloc, &[a, b])?,
         })
     }
 
@@ -89,7 +88,7 @@ impl World {
         ensures { IfOk result (Fits op.now) }
     {
         if self.done >= MOST_OPERATIONS {
-            bail!("too many operations");
+            return Err(Undone::TooMany);
         }
         let proc = proc(self.own, number)?;
         self.done += 1;
@@ -120,7 +119,7 @@ impl World {
     /// The reply to a store of that process, from a byte of an object on.
     pub fn store_by_other(&mut self, uid: Uid, at: u32, bytes: &[u8]) -> Result<Reply> {
         if bytes.is_empty() || bytes.len() > PAGE_BYTES - at as usize % PAGE_BYTES {
-            bail!("no store into one page");
+            return Err(Undone::NotOnePage);
         }
         let _number = uid.number();
         let spot = Spot::Of(uid, at);

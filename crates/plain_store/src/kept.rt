@@ -74,13 +74,26 @@ fn write(
 }
 
 /// What the deeds left.
-#[derive(Drop, Debug)]
+#[derive(Debug)]
 pub struct Kept {
     pub objects: ObjectTable,
     pub locks: LockTable,
     pub maps: MapTable,
     pub pages: Pages,
     pub lengths: Lengths,
+}
+
+// Of its own, so that what drops one calls this and does not take it apart in place.
+impl Drop for Kept {
+    fn drop(self) {
+        let Kept {
+            objects: _,
+            locks: _,
+            maps: _,
+            pages: _,
+            lengths: _,
+        } = self;
+    }
 }
 
 impl Kept {

@@ -11,12 +11,23 @@ use uid_names::{NoMemory, Opening, ProcId};
 
 /// The store without nodes or caches: it keeps all that was done, and answers each operation as one store does.
 /// It gives no reply of a link fault.
-#[derive(Drop, Debug)]
+#[derive(Debug)]
 pub struct PlainStore {
     opening: Opening,
     deeds: Vec<Deed>,
     /// What the deeds left, so that no reply needs a pass over them.
     kept: Kept,
+}
+
+// Of its own, so that what drops one calls this and does not take it apart in place.
+impl Drop for PlainStore {
+    fn drop(self) {
+        let PlainStore {
+            opening: _,
+            deeds: _,
+            kept: _,
+        } = self;
+    }
 }
 
 impl Model for PlainStore {

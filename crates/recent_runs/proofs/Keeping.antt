@@ -9,9 +9,9 @@ use Rattle.fault_handler.specs.declared.tasks.Task.{Task}
 use Rattle.fault_handler.specs.Desks.{DeskState, moving_of}
 use Rattle.fault_handler.specs.Outcomes.{Turn}
 use Rattle.fault_handler.specs.Changes.{settled_by}
-use Rattle.desk_laws.specs.Causes.{Cause}
-use Rattle.desk_laws.specs.Loading.{IsTaskIn}
-use Rattle.desk_laws.specs.DeskMoves.{Change, DeskMoves}
+use Rattle.lock_validate.specs.Causes.{Cause}
+use Rattle.lock_validate.specs.Loading.{IsTaskIn}
+use Rattle.lock_validate.specs.DeskMoves.{Change, DeskMoves}
 use Rattle.recent_runs.specs.Uses.{PageName}
 use Rattle.recent_runs.proofs.Orders.{apart}
 use Rattle.recent_runs.proofs.PageNames.{names, Kept, kept-same, kept-fewer, sent-names, settled-names, without-names, objectless-names}

@@ -32,20 +32,20 @@ use Rattle.fault_handler.specs.LockCalls.{LockAnswer}
 use Rattle.fault_handler.specs.Invariant.{IsProc, IsDesk}
 use Rattle.fault_handler.specs.Conditions.{IsIdle}
 use Rattle.fault_handler.proofs.Fours.{at-put_same, length-put}
-use Rattle.desk_laws.specs.Causes.{Cause}
-use Rattle.desk_laws.specs.Loading.{IsTaskIn}
-use Rattle.desk_laws.specs.Releasing.{releasing_in}
-use Rattle.desk_laws.specs.Dropped.{MayDropSome, MayDropPages}
-use Rattle.desk_laws.specs.Turns.{Says, IsMade}
-use Rattle.desk_laws.proofs.EachCall.{comes_of-made}
+use Rattle.lock_validate.specs.Causes.{Cause}
+use Rattle.lock_validate.specs.Loading.{IsTaskIn}
+use Rattle.lock_validate.specs.Releasing.{releasing_in}
+use Rattle.lock_validate.specs.Dropped.{MayDropSome, MayDropPages}
+use Rattle.lock_validate.specs.Turns.{Says, IsMade}
+use Rattle.lock_validate.proofs.EachCall.{comes_of-made}
 use Rattle.node_runs.specs.NodeStates.{OpenOp}
 use Rattle.node_runs.specs.Operations.{begun, gone_on, Said, said_of, answered, new_by, list_by}
 use Rattle.node_runs.specs.Incomings.{Incoming}
 use Rattle.node_runs.specs.Outcomes.{Stage}
 use Rattle.node_runs.specs.Agreements.{IsCalling}
-use Rattle.run_calls.specs.LastCalls.{IsOpenNumber}
-use Rattle.run_desks.specs.DeskSteps.{OpMove, IsStageOf, IsHomeTurn}
-use Rattle.run_desks.proofs.DeskSteps.{heard-turn}
+use Rattle.run_states.specs.LastCalls.{IsOpenNumber}
+use Rattle.run_states.specs.DeskSteps.{OpMove, IsStageOf, IsHomeTurn}
+use Rattle.run_states.proofs.DeskSteps.{heard-turn}
 use Rattle.recent_runs.specs.Uses.{PageName}
 use Rattle.recent_runs.proofs.PageNames.{names, settled-names}
 

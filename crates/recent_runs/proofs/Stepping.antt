@@ -32,9 +32,9 @@ use Rattle.fault_handler.specs.LockCalls.{LockCall, lock_call, lock_answer}
 use Rattle.fault_handler.specs.Invariant.{IsProc, IsDesk}
 use Rattle.fault_handler.specs.Conditions.{IsIdle}
 use Rattle.fault_handler.specs.Next.{IsTaskOf, IsCallOf}
-use Rattle.desk_laws.specs.Causes.{Cause, MayCome, comes_of}
-use Rattle.desk_laws.specs.Turns.{IsMade}
-use Rattle.desk_laws.proofs.EachCall.{comes_of-made}
+use Rattle.lock_validate.specs.Causes.{Cause, MayCome, comes_of}
+use Rattle.lock_validate.specs.Turns.{IsMade}
+use Rattle.lock_validate.proofs.EachCall.{comes_of-made}
 use Rattle.node_runs.specs.Setups.{Given, IsGiven}
 use Rattle.node_runs.specs.NodeStates.{Asked, BegunOp, OpenOp, NodeState, proc_of}
 use Rattle.node_runs.specs.Operations.{begun, gone_on, Said, said_to_new, said_to_list, said_to_lock, said_to_call, said_by, said_of, answered, new_by, list_by}
@@ -51,15 +51,15 @@ use Rattle.node_runs.proofs.MakingRoom.{always-may}
 use Rattle.node_runs.proofs.Doing.{step_of-did}
 use Rattle.node_runs.proofs.Nodes.{node-with}
 use Rattle.node_runs.proofs.SettingUp.{given-procs}
-use Rattle.run_calls.specs.LastCalls.{IsOpenNumber}
-use Rattle.run_desks.specs.DeskSteps.{OpMove, IsStageOf}
-use Rattle.run_desks.specs.OpenTasks.{IsAtSpot, IsPlacedAt, AreTasksPlaced}
-use Rattle.run_desks.proofs.OpenTasks.{open_task_of, answer-task}
+use Rattle.run_states.specs.LastCalls.{IsOpenNumber}
+use Rattle.run_states.specs.DeskSteps.{OpMove, IsStageOf}
+use Rattle.run_states.specs.OpenTasks.{IsAtSpot, IsPlacedAt, AreTasksPlaced}
+use Rattle.run_states.proofs.OpenTasks.{open_task_of, answer-task}
 use Rattle.recent_runs.specs.Uses.{used_by, used_in}
 use Rattle.recent_runs.proofs.PageNames.{Kept}
 use Rattle.recent_runs.proofs.Keeping.{UsesNone, moves-kept}
 use Rattle.recent_runs.proofs.Performing.{DoneKept, OpKept, op_use, load-use, store-use, answer-kept, load-kept, store-kept}
-use Rattle.run_desks.proofs.DeskSteps.{heard-turn, gave_up-turn}
+use Rattle.run_states.proofs.DeskSteps.{heard-turn, gave_up-turn}
 
 -- an operation that is neither a load nor a store uses nothing
 unused : (d : DeskState) (p : ℕ) (op : Op) → ((reply : Reply) → used_by d p op reply ≡ None) → (turn : Turn) → op_use d p op turn ≡ None

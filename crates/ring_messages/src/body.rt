@@ -8,7 +8,7 @@ use uid_names::{FrameKind, LockRows, Mode, NoMemory, ObjKind, ProcId, Uid};
 
 /// A request to a home, or a reply of one: the first eight are the requests. Rooms are in pages,
 /// lengths in bytes.
-#[derive(Drop, Debug)]
+#[derive(Debug)]
 pub enum Body {
     PageIn {
         uid: Uid,
@@ -77,6 +77,50 @@ pub enum Body {
         rows: LockRows,
         more: bool,
     },
+}
+
+// Of its own, so that what drops one calls this and does not take it apart in place.
+impl Drop for Body {
+    fn drop(self) {
+        match self {
+            Body::PageIn { uid: _, page: _ }
+            | Body::PageOut {
+                uid: _,
+                page: _,
+                grant: _,
+                base: _,
+                bytes: _,
+            }
+            | Body::AttrOut {
+                uid: _,
+                length: _,
+                grant: _,
+                base: _,
+            }
+            | Body::Lock { uid: _, mode: _ }
+            | Body::Unlock { uid: _ }
+            | Body::Remove { uid: _ }
+            | Body::Make { kind: _, room: _ }
+            | Body::List { after: _ }
+            | Body::Page { stamp: _, bytes: _ }
+            | Body::Stored { stamp: _ }
+            | Body::Stale { stamp: _ }
+            | Body::NoGrant
+            | Body::NoObject
+            | Body::Granted {
+                grant: _,
+                stamp: _,
+                kind: _,
+                room: _,
+                length: _,
+            }
+            | Body::Conflict { proc: _, mode: _ }
+            | Body::Done
+            | Body::Made { uid: _ }
+            | Body::NoSpace
+            | Body::Listed { rows: _, more: _ } => {}
+        }
+    }
 }
 
 impl Body {

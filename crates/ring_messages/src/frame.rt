@@ -12,7 +12,7 @@ use uid_names::{FrameKind, NoMemory, NodeId, ProcId};
 
 /// A frame: from which node to which, for which process, with the number of its call and the tick
 /// of the event that sends it. It keeps all ranges that its spelling has.
-#[derive(Drop, Debug)]
+#[derive(Debug)]
 pub struct Frame {
     from: NodeId,
     to: NodeId,
@@ -20,6 +20,20 @@ pub struct Frame {
     number: u64,
     tick: u64,
     body: Body,
+}
+
+// Of its own, so that what drops one calls this and does not take it apart in place.
+impl Drop for Frame {
+    fn drop(self) {
+        let Frame {
+            from: _,
+            to: _,
+            proc: _,
+            number: _,
+            tick: _,
+            body: _,
+        } = self;
+    }
 }
 
 impl Model for Frame {
@@ -156,7 +170,15 @@ impl Frame {
         ensures value { result ≡ self.body }
         ensures ranges { IsInRange self }
     {
-        self.body
+        let Frame {
+            from: _,
+            to: _,
+            proc: _,
+            number: _,
+            tick: _,
+            body,
+        } = self;
+        body
     }
 }
 

@@ -17,9 +17,9 @@ use Rattle.fault_handler.specs.PageReplies.{PageAnswer, answer_inward, answer_ou
 use Rattle.fault_handler.specs.LockCalls.{LockCall, LockAnswer, lock_answer, open_call}
 use Rattle.fault_handler.specs.Next.{IsCallOf, IsRequestOf}
 use Rattle.fault_handler.specs.Invariant.{IsProc, IsDesk}
-use Rattle.desk_laws.specs.Causes.{Cause, MayCome, IsOf}
-use Rattle.desk_laws.specs.Told.{told_stamp}
-use Rattle.desk_laws.proofs.PageSaid.{page-said}
+use Rattle.lock_validate.specs.Causes.{Cause, MayCome, IsOf}
+use Rattle.lock_validate.specs.Told.{told_stamp}
+use Rattle.lock_validate.proofs.PageSaid.{page-said}
 use Rattle.node_runs.specs.Setups.{Setup, given}
 use Rattle.node_runs.specs.NodeStates.{Asked, Await, BegunOp, OpenOp, proc_of}
 use Rattle.node_runs.specs.Dones.{asking}
@@ -29,16 +29,16 @@ use Rattle.node_runs.specs.Notes.{Note}
 use Rattle.node_runs.specs.Runs.{World, Noted, Choice, numbered}
 use Rattle.node_runs.specs.CallsKeep.{IsCallAt, EachOf, IsOpenAt}
 use Rattle.node_runs.specs.DecidedCalls.{IsDecided}
-use Rattle.run_calls.specs.DecidedReplies.{proc_at, IsAnswerOf, WasAnswered}
-use Rattle.run_calls.specs.LastCalls.{HasNumber, IsOpenNumber}
-use Rattle.run_calls.proofs.HearingRuns.{IsKeptNext, event}
-use Rattle.run_desks.specs.DeskSteps.{Takes, IsTaken, IsAt}
-use Rattle.run_desks.specs.AskedHomes.{IsAtHome, IsOpenAtHome, AreOpenAtHomes}
-use Rattle.run_desks.specs.OpenCalls.{HasSent, IsPageSent, Carries, CarriesOpen, AreCarried}
-use Rattle.run_desks.proofs.EndedOps.{op-request}
-use Rattle.run_desks.proofs.GoingPages.{going-uid, going-page, not-coming}
-use Rattle.run_desks.proofs.ToldAnswers.{taken-decided}
-use Rattle.run_homes.proofs.HomeEffects.{same-home}
+use Rattle.run_states.specs.DecidedReplies.{proc_at, IsAnswerOf, WasAnswered}
+use Rattle.run_states.specs.LastCalls.{HasNumber, IsOpenNumber}
+use Rattle.run_states.proofs.HearingRuns.{IsKeptNext, event}
+use Rattle.run_states.specs.DeskSteps.{Takes, IsTaken, IsAt}
+use Rattle.run_states.specs.AskedHomes.{IsAtHome, IsOpenAtHome, AreOpenAtHomes}
+use Rattle.run_states.specs.OpenCalls.{HasSent, IsPageSent, Carries, CarriesOpen, AreCarried}
+use Rattle.run_states.proofs.EndedOps.{op-request}
+use Rattle.run_states.proofs.GoingPages.{going-uid, going-page, not-coming}
+use Rattle.run_states.proofs.ToldAnswers.{taken-decided}
+use Rattle.run_states.proofs.HomeEffects.{same-home}
 use Rattle.run_contents.specs.Items.{Item, Value, page_value, write_of}
 use Rattle.run_contents.specs.Stamps.{TellsItem, IsItemTold, AreStamped}
 use Rattle.run_contents.specs.Writes.{IsStillSent, IsUnchanged, IsAcknowledged}

@@ -34,15 +34,15 @@ use Rattle.node_runs.specs.CallsKeep.{IsCallAt, AsksThis}
 use Rattle.node_runs.proofs.Calls.{put-same, put-other}
 use Rattle.node_runs.proofs.Decisions.{HomeStep, apart, decides}
 use Rattle.node_runs.proofs.SettingUp.{setup-procs}
-use Rattle.run_calls.specs.DecidedReplies.{proc_at}
-use Rattle.run_calls.proofs.HearingRuns.{IsKeptNext, every-kept-run, event, event-home}
-use Rattle.run_desks.specs.DeskSteps.{doing_after, turn_call, NodeMove, still, moved}
-use Rattle.run_desks.specs.OpenCalls.{writes_under, Carries, CarriesOpen, AreCarried}
-use Rattle.run_desks.proofs.OpenCalls.{runs-carry}
-use Rattle.run_desks.proofs.EventMoves.{desk-moves}
-use Rattle.run_homes.specs.LiveLocks.{row_at, locks_of, AreLive}
-use Rattle.run_homes.proofs.LiveRun.{live-are}
-use Rattle.run_homes.proofs.Standing.{table-now}
+use Rattle.run_states.specs.DecidedReplies.{proc_at}
+use Rattle.run_states.proofs.HearingRuns.{IsKeptNext, every-kept-run, event, event-home}
+use Rattle.run_states.specs.DeskSteps.{doing_after, turn_call, NodeMove, still, moved}
+use Rattle.run_states.specs.OpenCalls.{writes_under, Carries, CarriesOpen, AreCarried}
+use Rattle.run_states.proofs.OpenCalls.{runs-carry}
+use Rattle.run_states.proofs.EventMoves.{desk-moves}
+use Rattle.run_states.specs.LiveLocks.{row_at, locks_of, AreLive}
+use Rattle.run_states.proofs.LiveRun.{live-are}
+use Rattle.run_states.proofs.Standing.{table-now}
 use Rattle.run_contents.specs.Items.{Write, write_of}
 use Rattle.run_contents.proofs.Decisions.{row-given}
 

@@ -24,11 +24,11 @@ use Rattle.node_runs.specs.Setups.{Setup}
 use Rattle.node_runs.specs.Notes.{Note}
 use Rattle.node_runs.specs.Runs.{World, Noted, numbered}
 use Rattle.node_runs.specs.CallsKeep.{IsCallAt, IsOpenAt}
-use Rattle.run_calls.specs.DecidedReplies.{proc_at, WasAnswered}
-use Rattle.run_calls.proofs.HearingRuns.{same-ask}
-use Rattle.run_desks.specs.OpenCalls.{Carries, CarriesOpen}
-use Rattle.run_homes.proofs.HomeObjects.{there_after, decide-there}
-use Rattle.run_homes.specs.LiveLocks.{row_at, locks_of, served_of}
+use Rattle.run_states.specs.DecidedReplies.{proc_at, WasAnswered}
+use Rattle.run_states.proofs.HearingRuns.{same-ask}
+use Rattle.run_states.specs.OpenCalls.{Carries, CarriesOpen}
+use Rattle.run_states.proofs.HomeObjects.{there_after, decide-there}
+use Rattle.run_states.specs.LiveLocks.{row_at, locks_of, served_of}
 use Rattle.run_contents.specs.Items.{Item, Value, same_item, desk_value, is_dirty_at, Write, write_of}
 use Rattle.run_contents.specs.Contents.{value_if, left_by, content, told_with, since}
 use Rattle.run_contents.specs.Stamps.{home_at, stamp_at, IsThere, IsStampOf}

@@ -29,8 +29,8 @@ use Rattle.lock_manager.specs.Tables.{Table, IsTable}
 use Rattle.ring_messages.specs.Bodies.{Ask, Answer}
 use Rattle.page_server.specs.Decisions.{decide, write_answer, remove_answer, make_answer, lock_answer, is_granted, may_remove}
 use Rattle.page_server.proofs.Sides.{length-there, page-there}
-use Rattle.run_homes.proofs.Grants.{grant_after, decide-grant}
-use Rattle.run_homes.proofs.Standing.{any-writes}
+use Rattle.run_states.proofs.Grants.{grant_after, decide-grant}
+use Rattle.run_states.proofs.Standing.{any-writes}
 use Rattle.run_contents.specs.Items.{Item, Value, same_item, Write, write_of}
 use Rattle.run_contents.specs.Contents.{value_if, left_by}
 use Rattle.run_contents.specs.Writes.{HasRoom}

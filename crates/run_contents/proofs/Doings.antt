@@ -13,14 +13,14 @@ use Rattle.fault_handler.specs.Desks.{DeskState, at}
 use Rattle.fault_handler.specs.Outcomes.{Turn}
 use Rattle.fault_handler.specs.Accesses.{DeskOp, target_of}
 use Rattle.fault_handler.specs.PageReplies.{PageAnswer}
-use Rattle.desk_laws.specs.Causes.{Cause}
-use Rattle.desk_laws.specs.Releasing.{releasing_in}
-use Rattle.desk_laws.specs.Told.{state_set}
-use Rattle.desk_laws.specs.Loading.{IsTaskIn}
-use Rattle.desk_laws.specs.Refusals.{Refuses}
-use Rattle.desk_laws.specs.Turns.{Says}
-use Rattle.desk_laws.specs.DeskMoves.{Change, DeskMoves}
-use Rattle.desk_laws.proofs.Facts.{target_of-same}
+use Rattle.lock_validate.specs.Causes.{Cause}
+use Rattle.lock_validate.specs.Releasing.{releasing_in}
+use Rattle.lock_validate.specs.Told.{state_set}
+use Rattle.lock_validate.specs.Loading.{IsTaskIn}
+use Rattle.lock_validate.specs.Refusals.{Refuses}
+use Rattle.lock_validate.specs.Turns.{Says}
+use Rattle.lock_validate.specs.DeskMoves.{Change, DeskMoves}
+use Rattle.lock_validate.proofs.Facts.{target_of-same}
 
 -- a load or store begins, or goes on
 abbrev pub IsAccess : Cause → Type 0

@@ -21,7 +21,7 @@ use Rattle.fault_handler.specs.Tasks.{page_of, start_of}
 use Rattle.fault_handler.specs.Desks.{DeskState}
 use Rattle.fault_handler.specs.Invariant.{IsDesk, IsShownPage, is_dirty}
 use Rattle.fault_handler.proofs.PageLists.{is_same, same-uid, same-page}
-use Rattle.desk_laws.specs.Causes.{Cause}
+use Rattle.lock_validate.specs.Causes.{Cause}
 use Rattle.run_contents.specs.Items.{Item}
 use Rattle.run_contents.proofs.Doings.{IsAccess, IsDone, task-access}
 use Rattle.run_contents.proofs.StoresMoved.{bytes-are, length-is}

@@ -9,8 +9,8 @@ use Rattle.node_runs.proofs.Decisions.{decisions-are}
 use Rattle.node_runs.proofs.Running.{run-keeps}
 use Rattle.node_runs.proofs.SettingUp.{setup-procs}
 use Rattle.node_runs.proofs.Worlds.{next-is}
-use Rattle.run_calls.proofs.HearingRuns.{IsKeptNext}
-use Rattle.run_calls.proofs.Replies.{replies-are}
+use Rattle.run_states.proofs.HearingRuns.{IsKeptNext}
+use Rattle.run_states.proofs.Replies.{replies-are}
 use Rattle.run_contents.specs.Items.{Item}
 use Rattle.run_contents.specs.Contents.{content}
 use Rattle.run_contents.specs.Stamps.{stamp_at, IsThere}

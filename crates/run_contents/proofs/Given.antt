@@ -18,7 +18,7 @@ use Rattle.node_runs.specs.CallsKeep.{EachOf}
 use Rattle.node_runs.proofs.Receiving.{EachOf-more}
 use Rattle.node_runs.proofs.Calls.{put-same, put-other}
 use Rattle.node_runs.proofs.Decisions.{IsNoDecision, HomeStep, apart, decides}
-use Rattle.run_calls.proofs.HearingRuns.{IsKeptNext, event}
+use Rattle.run_states.proofs.HearingRuns.{IsKeptNext, event}
 use Rattle.run_contents.specs.Contents.{told_with, granted_at, granted_if, since}
 use Rattle.run_contents.proofs.ObjectMoves.{home-step}
 

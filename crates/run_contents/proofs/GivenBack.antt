@@ -38,22 +38,22 @@ use Rattle.node_runs.proofs.Decisions.{IsNoDecision, HomeStep, apart, decides}
 use Rattle.node_runs.proofs.Receiving.{EachOf-more, incoming-is, numbered-each}
 use Rattle.node_runs.proofs.Replaying.{replays-are}
 use Rattle.node_runs.proofs.SettingUp.{setup-gives, setup-procs}
-use Rattle.run_calls.specs.DecidedReplies.{proc_at}
-use Rattle.run_calls.proofs.HearingRuns.{IsKeptNext, same-ask, every-kept-run, event, event-home}
-use Rattle.run_calls.proofs.Replies.{caller-at}
-use Rattle.run_desks.specs.AskedHomes.{IsAtHome}
-use Rattle.run_desks.specs.DeskSteps.{IsSameAwait, IsSameDoing, NodeMove, still, moved, doing_after}
-use Rattle.run_desks.specs.Released.{gives_up, is_being_released}
-use Rattle.run_desks.specs.ToldAnswers.{IsFaultOf, IsReleaseFault, IsToldBy, IsTold, IsEnded}
-use Rattle.run_desks.proofs.AskedHomes.{calls-at-homes}
-use Rattle.run_desks.proofs.DeskSteps.{step-desk}
-use Rattle.run_desks.proofs.EndedOps.{step-ended}
-use Rattle.run_desks.proofs.Released.{node-released}
-use Rattle.run_desks.proofs.ToldAnswers.{told-are}
-use Rattle.run_homes.specs.HistoryHomes.{held_then}
-use Rattle.run_homes.proofs.HistoryHomes.{asked-home}
-use Rattle.run_homes.specs.LiveLocks.{served_of}
-use Rattle.run_homes.proofs.LiveRun.{link-call}
+use Rattle.run_states.specs.DecidedReplies.{proc_at}
+use Rattle.run_states.proofs.HearingRuns.{IsKeptNext, same-ask, every-kept-run, event, event-home}
+use Rattle.run_states.proofs.Replies.{caller-at}
+use Rattle.run_states.specs.AskedHomes.{IsAtHome}
+use Rattle.run_states.specs.DeskSteps.{IsSameAwait, IsSameDoing, NodeMove, still, moved, doing_after}
+use Rattle.run_states.specs.Released.{gives_up, is_being_released}
+use Rattle.run_states.specs.ToldAnswers.{IsFaultOf, IsReleaseFault, IsToldBy, IsTold, IsEnded}
+use Rattle.run_states.proofs.AskedHomes.{calls-at-homes}
+use Rattle.run_states.proofs.DeskSteps.{step-desk}
+use Rattle.run_states.proofs.EndedOps.{step-ended}
+use Rattle.run_states.proofs.Released.{node-released}
+use Rattle.run_states.proofs.ToldAnswers.{told-are}
+use Rattle.run_states.specs.HistoryHomes.{held_then}
+use Rattle.run_states.proofs.HistoryHomes.{asked-home}
+use Rattle.run_states.specs.LiveLocks.{served_of}
+use Rattle.run_states.proofs.LiveRun.{link-call}
 use Rattle.run_effects.specs.NotedEffects.{noted_past}
 use Rattle.run_effects.specs.NotedDeeds.{noted_deeds}
 use Rattle.run_effects.specs.States.{AreStatesTold}

@@ -24,11 +24,11 @@ use Rattle.node_runs.proofs.Receiving.{EachOf-more, numbered-each}
 use Rattle.node_runs.proofs.Calls.{put-same, put-other}
 use Rattle.node_runs.proofs.Decisions.{IsNoDecision, HomeStep, apart, decides}
 use Rattle.node_runs.proofs.SettingUp.{setup-procs}
-use Rattle.run_calls.proofs.HearingRuns.{IsKeptNext, every-kept-run, event, event-home}
-use Rattle.run_desks.specs.AskedHomes.{IsAtHome}
-use Rattle.run_desks.proofs.AskedHomes.{calls-at-homes}
-use Rattle.run_homes.proofs.HomeObjects.{there_after, decide-there}
-use Rattle.run_homes.proofs.LiveRun.{link-call}
+use Rattle.run_states.proofs.HearingRuns.{IsKeptNext, every-kept-run, event, event-home}
+use Rattle.run_states.specs.AskedHomes.{IsAtHome}
+use Rattle.run_states.proofs.AskedHomes.{calls-at-homes}
+use Rattle.run_states.proofs.HomeObjects.{there_after, decide-there}
+use Rattle.run_states.proofs.LiveRun.{link-call}
 use Rattle.run_contents.specs.Items.{Item, Value}
 use Rattle.run_contents.specs.Stamps.{home_at}
 use Rattle.run_contents.specs.Writes.{HasRoom}

@@ -17,9 +17,9 @@ use Rattle.fault_handler.specs.LockCalls.{LockCall, LockAnswer, open_call, lock_
 use Rattle.fault_handler.specs.Invariant.{IsProc}
 use Rattle.fault_handler.specs.Next.{IsCallOf, IsRequestOf}
 use Rattle.fault_handler.proofs.Answering.{IsSaid}
-use Rattle.desk_laws.specs.Causes.{Cause, MayCome, IsOf}
-use Rattle.desk_laws.specs.Told.{told_stamp}
-use Rattle.desk_laws.proofs.PageSaid.{page-said}
+use Rattle.lock_validate.specs.Causes.{Cause, MayCome, IsOf}
+use Rattle.lock_validate.specs.Told.{told_stamp}
+use Rattle.lock_validate.proofs.PageSaid.{page-said}
 use Rattle.node_runs.specs.Setups.{Setup, given}
 use Rattle.node_runs.specs.NodeStates.{Asked, Await, BegunOp, OpenOp, NodeState, proc_of}
 use Rattle.node_runs.specs.Outcomes.{Stage}
@@ -31,12 +31,12 @@ use Rattle.node_runs.specs.Notes.{Note}
 use Rattle.node_runs.specs.Runs.{World, Noted, Choice, numbered}
 use Rattle.node_runs.specs.CallsKeep.{IsCallAt, IsOpenAt, EachOf}
 use Rattle.node_runs.specs.DecidedCalls.{IsDecided}
-use Rattle.run_calls.specs.DecidedReplies.{proc_at, IsAnswerOf}
-use Rattle.run_calls.specs.LastCalls.{HasNumber, IsOpenNumber}
-use Rattle.run_calls.proofs.HearingRuns.{IsKeptNext, same-ask, event}
-use Rattle.run_desks.specs.DeskSteps.{Takes, IsTaken, IsAt}
-use Rattle.run_desks.proofs.EndedOps.{op-request}
-use Rattle.run_desks.proofs.ToldAnswers.{taken-decided}
+use Rattle.run_states.specs.DecidedReplies.{proc_at, IsAnswerOf}
+use Rattle.run_states.specs.LastCalls.{HasNumber, IsOpenNumber}
+use Rattle.run_states.proofs.HearingRuns.{IsKeptNext, same-ask, event}
+use Rattle.run_states.specs.DeskSteps.{Takes, IsTaken, IsAt}
+use Rattle.run_states.proofs.EndedOps.{op-request}
+use Rattle.run_states.proofs.ToldAnswers.{taken-decided}
 use Rattle.run_contents.specs.Stamps.{IsStampOf, TellsItem}
 use Rattle.run_contents.proofs.Given.{NoteHas, IsGrantOf, TellsGrant}
 

@@ -34,12 +34,12 @@ use Rattle.fault_handler.proofs.Nothing.{unkept-clean}
 use Rattle.fault_handler.proofs.TransitKeeps.{keeps_writing-keeps}
 use Rattle.fault_handler.proofs.PageLists.{is_same, same-uid, same-page, page_at-used, page_at-without_same, page_at-without_other, page_at-without_object_same, page_at-without_object_other, page_at-changed_same, page_at-changed_other}
 use Rattle.lock_validate.specs.Answers.{is_fresh}
-use Rattle.desk_laws.specs.Causes.{Cause}
-use Rattle.desk_laws.specs.Loading.{IsRoomAnswer}
-use Rattle.desk_laws.specs.Releasing.{IsPageSettled}
-use Rattle.desk_laws.specs.Told.{told_row}
-use Rattle.desk_laws.specs.DeskMoves.{Change, DeskMoves}
-use Rattle.desk_laws.proofs.DeskStays.{moves-desk}
+use Rattle.lock_validate.specs.Causes.{Cause}
+use Rattle.lock_validate.specs.Loading.{IsRoomAnswer}
+use Rattle.lock_validate.specs.Releasing.{IsPageSettled}
+use Rattle.lock_validate.specs.Told.{told_row}
+use Rattle.lock_validate.specs.DeskMoves.{Change, DeskMoves}
+use Rattle.lock_validate.proofs.DeskStays.{moves-desk}
 use Rattle.run_contents.specs.Items.{Item, Value, page_value, known_value, desk_value, is_dirty_at}
 
 -- the home took the item, as it was when it was sent, and it was not changed since: the desk is that before the answer

@@ -20,9 +20,9 @@ use Rattle.fault_handler.proofs.TransitKeeps.{dirty-writes}
 use Rattle.node_runs.specs.Setups.{Setup, IsSetup}
 use Rattle.node_runs.specs.NodesKeep.{IsTimely}
 use Rattle.node_runs.specs.Runs.{World, Choice, world_after}
-use Rattle.run_calls.specs.DecidedReplies.{proc_at}
-use Rattle.run_homes.specs.StandingLocks.{IsKeeping}
-use Rattle.run_homes.proofs.Standing.{standing-are}
+use Rattle.run_states.specs.DecidedReplies.{proc_at}
+use Rattle.run_states.specs.StandingLocks.{IsKeeping}
+use Rattle.run_states.proofs.Standing.{standing-are}
 use Rattle.run_contents.specs.Items.{Item, is_dirty_at}
 
 -- a process that keeps an object keeps it in some mode, under some grant

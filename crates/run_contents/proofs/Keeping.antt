@@ -18,12 +18,12 @@ use Rattle.node_runs.proofs.Calls.{put-same, put-other}
 use Rattle.node_runs.proofs.Worlds.{place_at}
 use Rattle.node_runs.proofs.Decisions.{IsNoDecision, HomeStep, apart, decides, IsDecisionOn}
 use Rattle.node_runs.proofs.SettingUp.{setup-procs}
-use Rattle.run_calls.proofs.HearingRuns.{IsKeptNext, every-kept-run, event, event-incoming}
-use Rattle.run_calls.proofs.Replies.{caller-at}
-use Rattle.run_desks.specs.DeskSteps.{IsSameDoing, NodeMove, still, moved}
-use Rattle.run_desks.proofs.DeskSteps.{same-doing}
-use Rattle.run_homes.specs.LiveLocks.{served_of}
-use Rattle.run_homes.proofs.LiveRun.{end-none, link-call}
+use Rattle.run_states.proofs.HearingRuns.{IsKeptNext, every-kept-run, event, event-incoming}
+use Rattle.run_states.proofs.Replies.{caller-at}
+use Rattle.run_states.specs.DeskSteps.{IsSameDoing, NodeMove, still, moved}
+use Rattle.run_states.proofs.DeskSteps.{same-doing}
+use Rattle.run_states.specs.LiveLocks.{served_of}
+use Rattle.run_states.proofs.LiveRun.{end-none, link-call}
 use Rattle.run_contents.proofs.Stamping.{stamped-are}
 use Rattle.run_contents.specs.DeskContents.{AreContents}
 use Rattle.run_contents.proofs.Calls.{node-move, home-step}

@@ -21,14 +21,14 @@ use Rattle.ring_messages.specs.Bodies.{Ask, Answer}
 use Rattle.node_runs.proofs.Calls.{calls-are}
 use Rattle.node_runs.proofs.Decisions.{decisions-are}
 use Rattle.node_runs.proofs.SettingUp.{setup-procs}
-use Rattle.run_calls.specs.DecidedReplies.{proc_at}
-use Rattle.run_desks.specs.AskedHomes.{AreOpenAtHomes, AreCallsAtHomes}
-use Rattle.run_desks.specs.OpenCalls.{AreCarried}
-use Rattle.run_desks.proofs.AskedHomes.{opens-at-homes, calls-at-homes}
-use Rattle.run_desks.proofs.OpenCalls.{runs-carry}
-use Rattle.run_homes.specs.LiveLocks.{row_at, locks_of, AreLive}
-use Rattle.run_homes.proofs.LiveRun.{live-are}
-use Rattle.run_homes.proofs.Standing.{table-now, row-there, held-grant}
+use Rattle.run_states.specs.DecidedReplies.{proc_at}
+use Rattle.run_states.specs.AskedHomes.{AreOpenAtHomes, AreCallsAtHomes}
+use Rattle.run_states.specs.OpenCalls.{AreCarried}
+use Rattle.run_states.proofs.AskedHomes.{opens-at-homes, calls-at-homes}
+use Rattle.run_states.proofs.OpenCalls.{runs-carry}
+use Rattle.run_states.specs.LiveLocks.{row_at, locks_of, AreLive}
+use Rattle.run_states.proofs.LiveRun.{live-are}
+use Rattle.run_states.proofs.Standing.{table-now, row-there, held-grant}
 use Rattle.run_contents.specs.Items.{Item, Value, Write, write_of}
 use Rattle.run_contents.specs.Stamps.{IsThere, IsStampOf, TellsItem, TellsWritten, AreStamped}
 use Rattle.run_contents.specs.Writes.{IsAcknowledged}

@@ -11,17 +11,17 @@ use Rattle.fault_handler.specs.Entries.{keeps}
 use Rattle.fault_handler.specs.Outcomes.{Moved}
 use Rattle.fault_handler.specs.Invariant.{IsProc}
 use Rattle.fault_handler.proofs.Fours.{any-at}
-use Rattle.desk_laws.specs.Causes.{Cause, MayCome, IsOf}
-use Rattle.desk_laws.specs.Turns.{IsMade}
+use Rattle.lock_validate.specs.Causes.{Cause, MayCome, IsOf}
+use Rattle.lock_validate.specs.Turns.{IsMade}
 use Rattle.node_runs.specs.Setups.{Setup, IsSetup}
 use Rattle.node_runs.specs.NodeStates.{BegunOp, proc_of}
 use Rattle.node_runs.specs.NodesKeep.{IsTimely}
 use Rattle.node_runs.specs.Outcomes.{Stage}
 use Rattle.node_runs.specs.Doings.{ticked}
 use Rattle.node_runs.specs.Runs.{World, Choice, world_after}
-use Rattle.run_calls.specs.DecidedReplies.{proc_at}
-use Rattle.run_calls.proofs.HearingRuns.{IsKeptNext}
-use Rattle.run_desks.specs.DeskSteps.{IsAt, IsStageOf, IsTaken, turn_note}
+use Rattle.run_states.specs.DecidedReplies.{proc_at}
+use Rattle.run_states.proofs.HearingRuns.{IsKeptNext}
+use Rattle.run_states.specs.DeskSteps.{IsAt, IsStageOf, IsTaken, turn_note}
 use Rattle.run_effects.specs.NotedEffects.{note_effects, noted_past}
 use Rattle.run_effects.specs.Targets.{AreTargetsTold}
 use Rattle.run_contents.specs.Items.{Item}

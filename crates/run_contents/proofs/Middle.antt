@@ -25,11 +25,11 @@ use Rattle.fault_handler.specs.LockCalls.{LockAnswer}
 use Rattle.fault_handler.specs.Invariant.{IsProc, IsDesk, is_dirty}
 use Rattle.fault_handler.proofs.Fours.{at-put_same}
 use Rattle.fault_handler.proofs.TransitKeeps.{any_writes-keeps}
-use Rattle.desk_laws.specs.Causes.{Cause}
-use Rattle.desk_laws.specs.Loading.{IsTaskIn, Does, Fetches}
-use Rattle.desk_laws.specs.DeskMoves.{Change, DeskMoves}
-use Rattle.desk_laws.proofs.DeskStays.{moves-desk}
-use Rattle.run_desks.proofs.GoingPages.{going-uid, going-page, not-coming}
+use Rattle.lock_validate.specs.Causes.{Cause}
+use Rattle.lock_validate.specs.Loading.{IsTaskIn, Does, Fetches}
+use Rattle.lock_validate.specs.DeskMoves.{Change, DeskMoves}
+use Rattle.lock_validate.proofs.DeskStays.{moves-desk}
+use Rattle.run_states.proofs.GoingPages.{going-uid, going-page, not-coming}
 use Rattle.run_contents.specs.Writes.{IsStillSent}
 use Rattle.run_contents.proofs.PageChanges.{SendsThis, SaysTaken, PageChange, KnownChange, change-page, change-known}
 

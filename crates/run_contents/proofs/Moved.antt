@@ -23,16 +23,16 @@ use Rattle.fault_handler.specs.Ready.{CallStands, IsReadyAt}
 use Rattle.fault_handler.specs.Invariant.{IsProc, FitsWay, FitsTransit, IsDesk}
 use Rattle.fault_handler.proofs.Fours.{any-at, any-of}
 use Rattle.fault_handler.proofs.TransitKeeps.{keeps_writing-keeps}
-use Rattle.desk_laws.specs.Causes.{Cause, MayCome}
-use Rattle.desk_laws.specs.Left.{IsGranted, Leaves}
-use Rattle.desk_laws.specs.Told.{told_stamp}
-use Rattle.desk_laws.specs.DeskMoves.{DeskMoves}
-use Rattle.desk_laws.specs.Turns.{Says}
-use Rattle.desk_laws.specs.Refusals.{Refuses}
-use Rattle.desk_laws.specs.Loading.{IsTaskIn}
-use Rattle.desk_laws.specs.Releasing.{releasing_in}
-use Rattle.desk_laws.proofs.Beside.{moves-beside}
-use Rattle.desk_laws.proofs.PageSaid.{page-said}
+use Rattle.lock_validate.specs.Causes.{Cause, MayCome}
+use Rattle.lock_validate.specs.Left.{IsGranted, Leaves}
+use Rattle.lock_validate.specs.Told.{told_stamp}
+use Rattle.lock_validate.specs.DeskMoves.{DeskMoves}
+use Rattle.lock_validate.specs.Turns.{Says}
+use Rattle.lock_validate.specs.Refusals.{Refuses}
+use Rattle.lock_validate.specs.Loading.{IsTaskIn}
+use Rattle.lock_validate.specs.Releasing.{releasing_in}
+use Rattle.lock_validate.proofs.Beside.{moves-beside}
+use Rattle.lock_validate.proofs.PageSaid.{page-said}
 use Rattle.run_contents.specs.Items.{Item, Value, is_dirty_at}
 use Rattle.run_contents.proofs.Seen.{set-stamp}
 use Rattle.run_contents.proofs.ItemSteps.{Cleans, ItemStep, IsPlain, step-clean, moves-clean}

@@ -16,7 +16,7 @@ use Rattle.page_store.specs.Volumes.{zeros}
 use Rattle.ring_messages.specs.Bodies.{Ask}
 use Rattle.node_runs.specs.Notes.{Note}
 use Rattle.node_runs.specs.RunHistories.{settled_op, change_reply}
-use Rattle.run_homes.specs.DecidedEffects.{effect_if}
+use Rattle.run_states.specs.DecidedEffects.{effect_if}
 use Rattle.run_effects.specs.NotedEffects.{note_effects}
 use Rattle.run_contents.specs.Items.{Item, Value, blank}
 use Rattle.run_contents.specs.Stores.{store_value}

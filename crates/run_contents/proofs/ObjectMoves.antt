@@ -23,9 +23,9 @@ use Rattle.node_runs.proofs.CallSteps.{IsFrameProc}
 use Rattle.node_runs.proofs.Receiving.{EachOf-more, incoming-is}
 use Rattle.node_runs.proofs.Calls.{put-same, put-other}
 use Rattle.node_runs.proofs.Decisions.{IsNoDecision, IsDecisionOn, HomeStep, apart, decides}
-use Rattle.run_calls.proofs.HearingRuns.{IsKeptNext, event, event-home}
-use Rattle.run_calls.proofs.Replies.{caller-at}
-use Rattle.run_homes.proofs.LiveRun.{link-call}
+use Rattle.run_states.proofs.HearingRuns.{IsKeptNext, event, event-home}
+use Rattle.run_states.proofs.Replies.{caller-at}
+use Rattle.run_states.proofs.LiveRun.{link-call}
 use Rattle.run_contents.specs.Items.{Item, Value, same_item, home_value, Write, write_of}
 use Rattle.run_contents.specs.Contents.{value_if, left_by, left_at, left_if, content}
 use Rattle.run_contents.specs.ObjectMoves.{IsSameObject, IsTaking, ObjectMove, keeps, writes, makes}

@@ -30,12 +30,12 @@ use Rattle.fault_handler.proofs.Choice.{idle-clean}
 use Rattle.fault_handler.proofs.KnownRows.{known_of-with_known, uid-grown, uid-sent}
 use Rattle.fault_handler.proofs.Nothing.{unkept-clean}
 use Rattle.fault_handler.proofs.PageLists.{is_same, same-uid, same-page, page_at-used, page_at-without_same, page_at-without_other, page_at-without_object_same, page_at-without_object_other, page_at-changed_same, page_at-changed_other}
-use Rattle.desk_laws.specs.Causes.{Cause}
-use Rattle.desk_laws.specs.Loading.{Does, Fetches, IsRoomAnswer}
-use Rattle.desk_laws.specs.Releasing.{IsPageSettled}
-use Rattle.desk_laws.specs.Told.{told_row}
-use Rattle.desk_laws.specs.DeskMoves.{Change}
-use Rattle.desk_laws.proofs.Facts.{page_at-fresh}
+use Rattle.lock_validate.specs.Causes.{Cause}
+use Rattle.lock_validate.specs.Loading.{Does, Fetches, IsRoomAnswer}
+use Rattle.lock_validate.specs.Releasing.{IsPageSettled}
+use Rattle.lock_validate.specs.Told.{told_row}
+use Rattle.lock_validate.specs.DeskMoves.{Change}
+use Rattle.lock_validate.proofs.Facts.{page_at-fresh}
 
 -- the request sends this page home
 abbrev pub SendsThis : Turn → ObjectName → ℕ → Type 0

@@ -17,12 +17,12 @@ use Rattle.fault_handler.specs.Invariant.{IsProc}
 use Rattle.node_runs.specs.Setups.{Setup}
 use Rattle.node_runs.specs.NodeStates.{Asked, Await, BegunOp, OpenOp, proc_of}
 use Rattle.node_runs.specs.Dones.{asking}
-use Rattle.run_desks.specs.DeskSteps.{IsSameAwait, IsSameDoing}
+use Rattle.run_states.specs.DeskSteps.{IsSameAwait, IsSameDoing}
 use Rattle.node_runs.specs.Runs.{World}
 use Rattle.node_runs.specs.CallsKeep.{IsCallAt}
-use Rattle.run_calls.specs.DecidedReplies.{proc_at, WasAnswered}
-use Rattle.run_desks.specs.OpenCalls.{HasSent, Carries, CarriesOpen, AreCarried}
-use Rattle.run_homes.specs.LiveLocks.{row_at, locks_of, served_of}
+use Rattle.run_states.specs.DecidedReplies.{proc_at, WasAnswered}
+use Rattle.run_states.specs.OpenCalls.{HasSent, Carries, CarriesOpen, AreCarried}
+use Rattle.run_states.specs.LiveLocks.{row_at, locks_of, served_of}
 use Rattle.run_contents.specs.Items.{Item, Value, page_value, known_value, desk_value, is_dirty_at, Write, write_of}
 use Rattle.run_contents.specs.Contents.{content, since}
 use Rattle.run_contents.specs.Stamps.{home_at, stamp_at, IsThere, IsStampOf}

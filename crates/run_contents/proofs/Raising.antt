@@ -31,7 +31,7 @@ use Rattle.fault_handler.specs.LockCalls.{LockCall, LockAnswer, lock_call, open_
 use Rattle.fault_handler.specs.Next.{IsCallOf}
 use Rattle.fault_handler.specs.Outcomes.{Turn, Moved}
 use Rattle.lock_validate.specs.Releases.{length_first, page_first, transit_first, release_of}
-use Rattle.desk_laws.specs.Causes.{Cause, MayCome, IsOf}
+use Rattle.lock_validate.specs.Causes.{Cause, MayCome, IsOf}
 use Rattle.node_runs.specs.Setups.{Given}
 use Rattle.node_runs.specs.NodeStates.{Asked, Await, BegunOp, OpenOp, NodeState, proc_of}
 use Rattle.node_runs.specs.Operations.{Said, said_to_lock, said_to_call, said_by, said_of, answered}
@@ -40,7 +40,7 @@ use Rattle.node_runs.specs.Outcomes.{Stage, Stepped, turned, moved as moved_by_o
 use Rattle.node_runs.specs.Dones.{Did, asking, paused, finished, began, resumed, served, passed_over, heard, ignored, resent, gave_up, got_ready, marked}
 use Rattle.node_runs.specs.Doings.{stage_of}
 use Rattle.node_runs.specs.Rooms.{MayMove}
-use Rattle.run_desks.specs.DeskSteps.{Takes, IsTaken, doing_after}
+use Rattle.run_states.specs.DeskSteps.{Takes, IsTaken, doing_after}
 
 -- a desk on which a release goes on: a page may be sent home, and nothing else changes of pages, lengths and stamps
 pub record IsSettledTo (g e : DeskState) : Type 0 where

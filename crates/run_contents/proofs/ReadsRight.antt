@@ -16,10 +16,10 @@ use Rattle.fault_handler.proofs.Accessing.{home-kept}
 use Rattle.node_runs.specs.Setups.{Setup, IsSetup, given}
 use Rattle.node_runs.specs.NodesKeep.{IsTimely, IsNodeOf}
 use Rattle.node_runs.specs.Runs.{World, Choice, world_after}
-use Rattle.run_calls.specs.DecidedReplies.{proc_at}
-use Rattle.run_homes.specs.LiveLocks.{row_at, locks_of}
-use Rattle.run_homes.specs.StandingLocks.{IsKeeping}
-use Rattle.run_homes.proofs.Standing.{keeping-row, standing-are}
+use Rattle.run_states.specs.DecidedReplies.{proc_at}
+use Rattle.run_states.specs.LiveLocks.{row_at, locks_of}
+use Rattle.run_states.specs.StandingLocks.{IsKeeping}
+use Rattle.run_states.proofs.Standing.{keeping-row, standing-are}
 use Rattle.run_contents.specs.Items.{Item, Value, desk_value, is_dirty_at, home_value}
 use Rattle.run_contents.specs.Contents.{content, since}
 use Rattle.run_contents.specs.Stamps.{AreStamped, IsStampOf, IsThere, home_at, stamp_at}

@@ -17,17 +17,17 @@ use Rattle.fault_handler.specs.Outcomes.{Turn}
 use Rattle.fault_handler.specs.LockCalls.{LockAnswer}
 use Rattle.fault_handler.specs.Invariant.{IsProc, IsDesk}
 use Rattle.fault_handler.proofs.Fours.{any-at}
-use Rattle.desk_laws.specs.Causes.{Cause}
-use Rattle.desk_laws.specs.Loading.{IsTaskIn}
-use Rattle.desk_laws.specs.Releasing.{releasing_in}
-use Rattle.desk_laws.specs.Refusals.{Refuses}
-use Rattle.desk_laws.specs.Left.{Leaves}
-use Rattle.desk_laws.specs.Told.{told_stamp}
-use Rattle.desk_laws.specs.DeskMoves.{Change, DeskMoves}
-use Rattle.desk_laws.specs.Turns.{Says}
-use Rattle.desk_laws.proofs.Beside.{moves-beside}
-use Rattle.desk_laws.proofs.DeskStays.{moves-desk}
-use Rattle.run_homes.proofs.EntryMoves.{EntryThen, as_before, freed, noted, got, moves-entry}
+use Rattle.lock_validate.specs.Causes.{Cause}
+use Rattle.lock_validate.specs.Loading.{IsTaskIn}
+use Rattle.lock_validate.specs.Releasing.{releasing_in}
+use Rattle.lock_validate.specs.Refusals.{Refuses}
+use Rattle.lock_validate.specs.Left.{Leaves}
+use Rattle.lock_validate.specs.Told.{told_stamp}
+use Rattle.lock_validate.specs.DeskMoves.{Change, DeskMoves}
+use Rattle.lock_validate.specs.Turns.{Says}
+use Rattle.lock_validate.proofs.Beside.{moves-beside}
+use Rattle.lock_validate.proofs.DeskStays.{moves-desk}
+use Rattle.run_states.proofs.EntryMoves.{EntryThen, as_before, freed, noted, got, moves-entry}
 
 -- the stamp that is seen of u, once one of v was set
 pub set-stamp : (u v : ObjectName) (stamp : ℕ) (seen : List Stamp) → stamp_of u (with_stamp (record { uid = v; stamp = stamp }) seen) ≡ (if same_uid u v then Some stamp else stamp_of u seen)

@@ -21,16 +21,16 @@ use Rattle.fault_handler.specs.Invariant.{IsProc, IsDesk}
 use Rattle.fault_handler.proofs.Fours.{any-at}
 use Rattle.fault_handler.proofs.KnownRows.{known_of-with_known, uid-grown, uid-sent}
 use Rattle.fault_handler.proofs.TransitKeeps.{keeps_writing-keeps}
-use Rattle.desk_laws.specs.Causes.{Cause}
-use Rattle.desk_laws.specs.DeskMoves.{Change, DeskMoves}
-use Rattle.desk_laws.specs.Told.{told_row}
-use Rattle.desk_laws.specs.Turns.{Says}
-use Rattle.desk_laws.proofs.Beside.{moves-beside}
-use Rattle.desk_laws.proofs.DeskStays.{moves-desk}
-use Rattle.run_desks.specs.OpenCalls.{IsLengthSent, Carries}
-use Rattle.run_desks.proofs.GoingPages.{IsBeside, kept, stored_to, change-beside}
-use Rattle.run_desks.proofs.Staying.{known-stays, writing-left}
-use Rattle.run_desks.proofs.OpenCalls.{sent-is-dirty}
+use Rattle.lock_validate.specs.Causes.{Cause}
+use Rattle.lock_validate.specs.DeskMoves.{Change, DeskMoves}
+use Rattle.lock_validate.specs.Told.{told_row}
+use Rattle.lock_validate.specs.Turns.{Says}
+use Rattle.lock_validate.proofs.Beside.{moves-beside}
+use Rattle.lock_validate.proofs.DeskStays.{moves-desk}
+use Rattle.run_states.specs.OpenCalls.{IsLengthSent, Carries}
+use Rattle.run_states.proofs.GoingPages.{IsBeside, kept, stored_to, change-beside}
+use Rattle.run_states.proofs.Staying.{known-stays, writing-left}
+use Rattle.run_states.proofs.OpenCalls.{sent-is-dirty}
 use Rattle.run_contents.specs.Items.{Item, Value, page_value, desk_value, is_dirty_at, Write, write_of}
 use Rattle.run_contents.specs.Writes.{IsStillSent, IsUnchanged}
 use Rattle.run_contents.proofs.Quiet.{page-written, changed-known}

@@ -19,7 +19,7 @@ use Rattle.fault_handler.specs.Changes.{settled_by, known_sent, with_raised, wit
 use Rattle.fault_handler.specs.LockCalls.{LockAnswer}
 use Rattle.fault_handler.proofs.KnownRows.{known_of-with_known, uid-sent}
 use Rattle.fault_handler.proofs.PageLists.{is_same, same-uid, same-page, page_at-changed_other}
-use Rattle.desk_laws.specs.Causes.{Cause}
+use Rattle.lock_validate.specs.Causes.{Cause}
 use Rattle.run_contents.specs.Items.{Item, Value, page_value, known_value, is_dirty_at}
 use Rattle.run_contents.proofs.ItemSteps.{IsCleanThen, ItemStep, alike, cleaned, changed-here, page-then, length-then, flagged-one-then, and-true}
 use Rattle.run_contents.proofs.Raising.{IsSettledTo}

@@ -18,10 +18,10 @@ use Rattle.fault_handler.specs.LockCalls.{LockAnswer}
 use Rattle.fault_handler.specs.Outcomes.{Turn}
 use Rattle.fault_handler.specs.Invariant.{IsProc, IsDesk}
 use Rattle.lock_validate.specs.Answers.{is_fresh}
-use Rattle.desk_laws.specs.Causes.{Cause}
-use Rattle.desk_laws.specs.Told.{told_stamp}
-use Rattle.desk_laws.specs.DeskMoves.{Change, DeskMoves}
-use Rattle.desk_laws.proofs.DeskStays.{moves-desk}
+use Rattle.lock_validate.specs.Causes.{Cause}
+use Rattle.lock_validate.specs.Told.{told_stamp}
+use Rattle.lock_validate.specs.DeskMoves.{Change, DeskMoves}
+use Rattle.lock_validate.proofs.DeskStays.{moves-desk}
 use Rattle.run_contents.specs.Items.{Item, Value, desk_value, is_dirty_at}
 use Rattle.run_contents.proofs.Seen.{raised-both, set-stamp}
 use Rattle.run_contents.proofs.ItemSteps.{Cleans, ItemStep, alike, cleaned, arrived, learned, IsPlain, change-item}

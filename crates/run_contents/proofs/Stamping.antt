@@ -31,9 +31,9 @@ use Rattle.fault_handler.specs.Outcomes.{Moved}
 use Rattle.fault_handler.specs.Invariant.{IsProc, IsDesk}
 use Rattle.fault_handler.proofs.Fours.{by_proc, any-of}
 use Rattle.fault_handler.proofs.TransitKeeps.{keeps_writing-keeps}
-use Rattle.desk_laws.specs.Causes.{Cause, MayCome, IsOf}
-use Rattle.desk_laws.specs.Turns.{IsMade}
-use Rattle.desk_laws.proofs.Beside.{moves-beside}
+use Rattle.lock_validate.specs.Causes.{Cause, MayCome, IsOf}
+use Rattle.lock_validate.specs.Turns.{IsMade}
+use Rattle.lock_validate.proofs.Beside.{moves-beside}
 use Rattle.node_runs.specs.Setups.{Setup, IsSetup, given}
 use Rattle.node_runs.specs.NodeStates.{Asked, BegunOp, NodeState, first_node, proc_of}
 use Rattle.node_runs.specs.Notes.{Note}
@@ -49,18 +49,18 @@ use Rattle.node_runs.proofs.Reaching.{step_of-keeps}
 use Rattle.node_runs.proofs.Decisions.{IsNoDecision, IsDecisionOn, HomeStep, apart, decides}
 use Rattle.node_runs.proofs.SettingUp.{setup-gives, setup-procs}
 use Rattle.node_runs.proofs.EachOf.{EachOf-both}
-use Rattle.run_calls.proofs.HearingRuns.{IsKeptNext, every-kept-run, event, event-did}
-use Rattle.run_desks.specs.DeskSteps.{IsTaken, IsAt, apart as desk_apart, moves, NodeMove, still, moved}
-use Rattle.run_desks.specs.AskedHomes.{IsAtHome}
-use Rattle.run_desks.specs.OpenCalls.{Carries, CarriesOpen, AreCarried, writes_under}
-use Rattle.run_desks.proofs.DeskSteps.{step-desk}
-use Rattle.run_desks.proofs.AskedHomes.{calls-at-homes}
-use Rattle.run_desks.proofs.OpenCalls.{step-carries, runs-carry}
-use Rattle.run_desks.proofs.Staying.{writing-left}
-use Rattle.run_homes.proofs.HistoryHomes.{asked-home}
-use Rattle.run_homes.specs.StandingLocks.{IsKeeping}
-use Rattle.run_homes.proofs.EntryMoves.{EntryThen, as_before, freed, noted, got, moves-entry}
-use Rattle.run_homes.proofs.LiveRun.{link-call}
+use Rattle.run_states.proofs.HearingRuns.{IsKeptNext, every-kept-run, event, event-did}
+use Rattle.run_states.specs.DeskSteps.{IsTaken, IsAt, apart as desk_apart, moves, NodeMove, still, moved}
+use Rattle.run_states.specs.AskedHomes.{IsAtHome}
+use Rattle.run_states.specs.OpenCalls.{Carries, CarriesOpen, AreCarried, writes_under}
+use Rattle.run_states.proofs.DeskSteps.{step-desk}
+use Rattle.run_states.proofs.AskedHomes.{calls-at-homes}
+use Rattle.run_states.proofs.OpenCalls.{step-carries, runs-carry}
+use Rattle.run_states.proofs.Staying.{writing-left}
+use Rattle.run_states.proofs.HistoryHomes.{asked-home}
+use Rattle.run_states.specs.StandingLocks.{IsKeeping}
+use Rattle.run_states.proofs.EntryMoves.{EntryThen, as_before, freed, noted, got, moves-entry}
+use Rattle.run_states.proofs.LiveRun.{link-call}
 use Rattle.run_contents.specs.Items.{Item, Value, blank, home_value, attr_length, Write, write_of}
 use Rattle.run_contents.specs.Contents.{content, since}
 use Rattle.run_contents.specs.ObjectMoves.{ObjectMove}

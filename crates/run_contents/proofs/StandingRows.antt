@@ -22,11 +22,11 @@ use Rattle.fault_handler.specs.LockCalls.{LockCall, LockAnswer}
 use Rattle.fault_handler.specs.Outcomes.{Turn, Moved}
 use Rattle.fault_handler.specs.Invariant.{IsProc, IsDesk, KeepsAll}
 use Rattle.fault_handler.specs.Ready.{CallStands}
-use Rattle.desk_laws.specs.Causes.{Cause, MayCome}
-use Rattle.desk_laws.specs.Releasing.{releasing_in}
-use Rattle.desk_laws.specs.Turns.{Says}
-use Rattle.desk_laws.proofs.Beside.{moves-beside}
-use Rattle.desk_laws.proofs.LockSaid.{answer-closes}
+use Rattle.lock_validate.specs.Causes.{Cause, MayCome}
+use Rattle.lock_validate.specs.Releasing.{releasing_in}
+use Rattle.lock_validate.specs.Turns.{Says}
+use Rattle.lock_validate.proofs.Beside.{moves-beside}
+use Rattle.lock_validate.proofs.LockSaid.{answer-closes}
 use Rattle.node_runs.specs.Setups.{Setup, IsSetup, given}
 use Rattle.node_runs.specs.NodeStates.{Asked, BegunOp, NodeState, proc_of}
 use Rattle.node_runs.specs.NodesKeep.{IsTimely, IsNodeOf}
@@ -39,18 +39,18 @@ use Rattle.node_runs.proofs.Decisions.{HomeStep, apart, decides}
 use Rattle.node_runs.proofs.Reaching.{step_of-keeps}
 use Rattle.node_runs.proofs.Receiving.{incoming-is}
 use Rattle.node_runs.proofs.SettingUp.{setup-gives, setup-procs}
-use Rattle.run_calls.specs.DecidedReplies.{proc_at}
-use Rattle.run_calls.proofs.HearingRuns.{IsKeptNext, every-kept-run, event, event-home}
-use Rattle.run_calls.proofs.Replies.{caller-at}
-use Rattle.run_desks.specs.DeskSteps.{apart as desk_apart, moves, IsHomeAsk, IsHomeTurn, OpMove, NodeMove, still, moved, doing_after, turn_call}
-use Rattle.run_desks.specs.Released.{gives_up, is_being_released}
-use Rattle.run_desks.proofs.DeskSteps.{step-desk, home-asks}
-use Rattle.run_desks.proofs.Released.{node-released}
-use Rattle.run_homes.specs.LiveLocks.{IsAbout, row_at, locks_of, served_of}
-use Rattle.run_homes.proofs.EntryMoves.{EntryThen, as_before, freed, noted, got, moves-entry}
-use Rattle.run_homes.proofs.Grants.{stays}
-use Rattle.run_homes.proofs.LiveRun.{link-call, live-are}
-use Rattle.run_homes.proofs.Standing.{keeping-row}
+use Rattle.run_states.specs.DecidedReplies.{proc_at}
+use Rattle.run_states.proofs.HearingRuns.{IsKeptNext, every-kept-run, event, event-home}
+use Rattle.run_states.proofs.Replies.{caller-at}
+use Rattle.run_states.specs.DeskSteps.{apart as desk_apart, moves, IsHomeAsk, IsHomeTurn, OpMove, NodeMove, still, moved, doing_after, turn_call}
+use Rattle.run_states.specs.Released.{gives_up, is_being_released}
+use Rattle.run_states.proofs.DeskSteps.{step-desk, home-asks}
+use Rattle.run_states.proofs.Released.{node-released}
+use Rattle.run_states.specs.LiveLocks.{IsAbout, row_at, locks_of, served_of}
+use Rattle.run_states.proofs.EntryMoves.{EntryThen, as_before, freed, noted, got, moves-entry}
+use Rattle.run_states.proofs.Grants.{stays}
+use Rattle.run_states.proofs.LiveRun.{link-call, live-are}
+use Rattle.run_states.proofs.Standing.{keeping-row}
 use Rattle.run_contents.proofs.Keepers.{keeper}
 
 -- a row of the process stands, and no other request about its object may still be decided

@@ -31,12 +31,12 @@ use Rattle.fault_handler.specs.PageReplies.{PageAnswer}
 use Rattle.fault_handler.specs.Invariant.{IsProc, IsDesk, is_dirty}
 use Rattle.fault_handler.proofs.Accessing.{home-written}
 use Rattle.fault_handler.proofs.TransitKeeps.{any_writes-keeps}
-use Rattle.desk_laws.specs.Causes.{Cause, MayCome, IsOf}
-use Rattle.desk_laws.specs.Loading.{IsTaskIn}
-use Rattle.desk_laws.specs.DeskMoves.{DeskMoves}
-use Rattle.desk_laws.specs.Turns.{Says, IsMade}
-use Rattle.desk_laws.proofs.Beside.{moves-same}
-use Rattle.desk_laws.proofs.DeskStays.{moves-desk}
+use Rattle.lock_validate.specs.Causes.{Cause, MayCome, IsOf}
+use Rattle.lock_validate.specs.Loading.{IsTaskIn}
+use Rattle.lock_validate.specs.DeskMoves.{DeskMoves}
+use Rattle.lock_validate.specs.Turns.{Says, IsMade}
+use Rattle.lock_validate.proofs.Beside.{moves-same}
+use Rattle.lock_validate.proofs.DeskStays.{moves-desk}
 use Rattle.node_runs.specs.Setups.{Setup, IsSetup}
 use Rattle.node_runs.specs.NodeStates.{BegunOp, proc_of}
 use Rattle.node_runs.specs.NodesKeep.{IsTimely}
@@ -44,15 +44,15 @@ use Rattle.node_runs.specs.Notes.{Note}
 use Rattle.node_runs.specs.Outcomes.{Stage}
 use Rattle.node_runs.specs.Doings.{ticked}
 use Rattle.node_runs.specs.Runs.{World, Choice, world_after}
-use Rattle.run_calls.specs.DecidedReplies.{proc_at}
-use Rattle.run_calls.proofs.HearingRuns.{IsKeptNext}
-use Rattle.run_desks.specs.DeskSteps.{IsAt, IsStageOf, IsTaken, turn_note}
-use Rattle.run_desks.specs.OpenTasks.{IsWithin, IsTaskWithin}
-use Rattle.run_desks.proofs.GoingPages.{change-dirty}
-use Rattle.run_desks.proofs.OpenCalls.{runs-carry, open-dirty}
-use Rattle.run_desks.proofs.OpenTasks.{open_task_of, answer-task, runs-within}
-use Rattle.run_homes.specs.KnownRooms.{IsKnownRight}
-use Rattle.run_homes.proofs.KnownRooms.{known-are}
+use Rattle.run_states.specs.DecidedReplies.{proc_at}
+use Rattle.run_states.proofs.HearingRuns.{IsKeptNext}
+use Rattle.run_states.specs.DeskSteps.{IsAt, IsStageOf, IsTaken, turn_note}
+use Rattle.run_states.specs.OpenTasks.{IsWithin, IsTaskWithin}
+use Rattle.run_states.proofs.GoingPages.{change-dirty}
+use Rattle.run_states.proofs.OpenCalls.{runs-carry, open-dirty}
+use Rattle.run_states.proofs.OpenTasks.{open_task_of, answer-task, runs-within}
+use Rattle.run_states.specs.KnownRooms.{IsKnownRight}
+use Rattle.run_states.proofs.KnownRooms.{known-are}
 use Rattle.run_effects.specs.NotedEffects.{note_effects, noted_past}
 use Rattle.run_effects.specs.Targets.{AreTargetsTold}
 use Rattle.run_contents.specs.Items.{Item, Value, desk_value, page_value, known_value, is_dirty_at, home_value}

@@ -35,12 +35,12 @@ use Rattle.fault_handler.specs.Invariant.{IsProc, is_dirty, FitsWay, FitsTransit
 use Rattle.fault_handler.proofs.Fours.{any-of}
 use Rattle.lock_validate.specs.Answers.{is_seen, is_fresh}
 use Rattle.lock_validate.proofs.States.{kept-entry}
-use Rattle.desk_laws.specs.Causes.{Cause, MayCome, IsOf}
-use Rattle.desk_laws.specs.Left.{IsGranted}
-use Rattle.desk_laws.specs.Told.{told_stamp}
-use Rattle.desk_laws.specs.Turns.{IsMade}
-use Rattle.desk_laws.specs.DeskMoves.{DeskMoves}
-use Rattle.desk_laws.proofs.PageSaid.{page-said}
+use Rattle.lock_validate.specs.Causes.{Cause, MayCome, IsOf}
+use Rattle.lock_validate.specs.Left.{IsGranted}
+use Rattle.lock_validate.specs.Told.{told_stamp}
+use Rattle.lock_validate.specs.Turns.{IsMade}
+use Rattle.lock_validate.specs.DeskMoves.{DeskMoves}
+use Rattle.lock_validate.proofs.PageSaid.{page-said}
 use Rattle.node_runs.specs.Setups.{Setup, IsSetup, given}
 use Rattle.node_runs.specs.NodeStates.{Asked, Await, BegunOp, OpenOp, ProcState, NodeState, proc_of}
 use Rattle.node_runs.specs.Incomings.{Incoming}
@@ -55,14 +55,14 @@ use Rattle.node_runs.specs.Agreements.{Agrees}
 use Rattle.node_runs.proofs.Doing.{step_of-did}
 use Rattle.node_runs.proofs.Calls.{put-same, put-other, numbered-within}
 use Rattle.node_runs.proofs.Decisions.{IsNoDecision}
-use Rattle.run_calls.specs.DecidedReplies.{proc_at, IsAnswerAt, WasAnswered}
-use Rattle.run_calls.proofs.HearingRuns.{IsKeptNext, event}
-use Rattle.run_desks.specs.DeskSteps.{IsTaken, IsHomeAsk, IsHomeTurn, IsAt, OpMove, apart as desk_apart, moves, doing_after, turn_call, IsSameDoing, NodeMove, still, moved}
-use Rattle.run_desks.specs.OpenCalls.{Carries, CarriesOpen}
-use Rattle.run_desks.proofs.DeskSteps.{home-asks, same-doing}
-use Rattle.run_homes.specs.LiveLocks.{row_at, locks_of, served_of}
-use Rattle.run_homes.proofs.Live.{not-answered}
-use Rattle.run_homes.proofs.LiveRun.{got-row}
+use Rattle.run_states.specs.DecidedReplies.{proc_at, IsAnswerAt, WasAnswered}
+use Rattle.run_states.proofs.HearingRuns.{IsKeptNext, event}
+use Rattle.run_states.specs.DeskSteps.{IsTaken, IsHomeAsk, IsHomeTurn, IsAt, OpMove, apart as desk_apart, moves, doing_after, turn_call, IsSameDoing, NodeMove, still, moved}
+use Rattle.run_states.specs.OpenCalls.{Carries, CarriesOpen}
+use Rattle.run_states.proofs.DeskSteps.{home-asks, same-doing}
+use Rattle.run_states.specs.LiveLocks.{row_at, locks_of, served_of}
+use Rattle.run_states.proofs.Live.{not-answered}
+use Rattle.run_states.proofs.LiveRun.{got-row}
 use Rattle.run_contents.specs.Items.{Item, Value, page_value, known_value, desk_value, is_dirty_at, Write, write_of}
 use Rattle.run_contents.specs.Contents.{content}
 use Rattle.run_contents.specs.Stamps.{home_at, stamp_at, IsThere, IsStampOf, IsItemTold, TellsItem}

@@ -41,14 +41,14 @@ use Rattle.fault_handler.specs.Ready.{CallStands}
 use Rattle.fault_handler.proofs.Beginning.{target-within}
 use Rattle.fault_handler.proofs.Fours.{any-at, any-of}
 use Rattle.fault_handler.proofs.TransitKeeps.{open_task, coming-absent}
-use Rattle.desk_laws.specs.Calls.{Closes}
-use Rattle.desk_laws.specs.Causes.{Cause, MayCome, IsOf}
-use Rattle.desk_laws.specs.Loading.{Does, Fetches}
-use Rattle.desk_laws.specs.DeskMoves.{DeskMoves}
-use Rattle.desk_laws.specs.Turns.{IsMade}
-use Rattle.desk_laws.proofs.Beside.{moves-beside}
-use Rattle.desk_laws.proofs.LockSaid.{answer-closes}
-use Rattle.desk_laws.proofs.PageSaid.{page-said}
+use Rattle.lock_validate.specs.Calls.{Closes}
+use Rattle.lock_validate.specs.Causes.{Cause, MayCome, IsOf}
+use Rattle.lock_validate.specs.Loading.{Does, Fetches}
+use Rattle.lock_validate.specs.DeskMoves.{DeskMoves}
+use Rattle.lock_validate.specs.Turns.{IsMade}
+use Rattle.lock_validate.proofs.Beside.{moves-beside}
+use Rattle.lock_validate.proofs.LockSaid.{answer-closes}
+use Rattle.lock_validate.proofs.PageSaid.{page-said}
 use Rattle.node_runs.specs.Setups.{Setup, IsSetup, given}
 use Rattle.node_runs.specs.NodeStates.{BegunOp, OpenOp, NodeState, proc_of}
 use Rattle.node_runs.specs.NodesKeep.{IsTimely}
@@ -57,15 +57,15 @@ use Rattle.node_runs.specs.Outcomes.{Stage}
 use Rattle.node_runs.specs.Doings.{ticked}
 use Rattle.node_runs.specs.CallsKeep.{IsCallAt, IsOpenAt}
 use Rattle.node_runs.specs.Runs.{World, Choice, world_after}
-use Rattle.run_calls.specs.DecidedReplies.{proc_at}
-use Rattle.run_calls.proofs.HearingRuns.{IsKeptNext}
-use Rattle.run_desks.specs.DeskSteps.{IsAt, IsStageOf, IsTaken, turn_note}
-use Rattle.run_desks.specs.OpenTasks.{IsPlacedAt, IsAtSpot}
-use Rattle.run_desks.proofs.AskedHomes.{opens-at-homes}
-use Rattle.run_desks.proofs.GoingPages.{going-uid, going-page}
-use Rattle.run_desks.proofs.OpenCalls.{runs-carry}
-use Rattle.run_desks.proofs.OpenTasks.{open_task_of, answer-task}
-use Rattle.run_desks.proofs.TaskPlaces.{runs-placed}
+use Rattle.run_states.specs.DecidedReplies.{proc_at}
+use Rattle.run_states.proofs.HearingRuns.{IsKeptNext}
+use Rattle.run_states.specs.DeskSteps.{IsAt, IsStageOf, IsTaken, turn_note}
+use Rattle.run_states.specs.OpenTasks.{IsPlacedAt, IsAtSpot}
+use Rattle.run_states.proofs.AskedHomes.{opens-at-homes}
+use Rattle.run_states.proofs.GoingPages.{going-uid, going-page}
+use Rattle.run_states.proofs.OpenCalls.{runs-carry}
+use Rattle.run_states.proofs.OpenTasks.{open_task_of, answer-task}
+use Rattle.run_states.proofs.TaskPlaces.{runs-placed}
 use Rattle.run_effects.specs.NotedEffects.{note_effects, noted_past}
 use Rattle.run_effects.specs.Targets.{AreTargetsTold, target_at}
 use Rattle.run_contents.specs.Items.{Item, Value, desk_value, page_value, known_value, is_dirty_at, home_value}

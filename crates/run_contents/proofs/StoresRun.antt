@@ -16,8 +16,8 @@ use Rattle.fault_handler.specs.declared.lengths.Known.{Known}
 use Rattle.fault_handler.specs.Desks.{DeskState}
 use Rattle.fault_handler.specs.Outcomes.{Turn, Moved}
 use Rattle.fault_handler.specs.Invariant.{IsProc}
-use Rattle.desk_laws.specs.Causes.{Cause, MayCome, IsOf}
-use Rattle.desk_laws.specs.Turns.{IsMade}
+use Rattle.lock_validate.specs.Causes.{Cause, MayCome, IsOf}
+use Rattle.lock_validate.specs.Turns.{IsMade}
 use Rattle.node_runs.specs.Setups.{Setup, IsSetup, given}
 use Rattle.node_runs.specs.NodeStates.{Asked, BegunOp, NodeState, proc_of}
 use Rattle.node_runs.specs.NodesKeep.{IsTimely}
@@ -27,13 +27,13 @@ use Rattle.node_runs.specs.CallsKeep.{IsCallAt}
 use Rattle.node_runs.specs.Runs.{World, Noted, Choice, first_world, calls_after, world_after}
 use Rattle.node_runs.proofs.Calls.{put-same, put-other}
 use Rattle.node_runs.proofs.SettingUp.{setup-procs}
-use Rattle.run_calls.specs.DecidedReplies.{proc_at}
-use Rattle.run_calls.specs.Progress.{IsApart}
-use Rattle.run_calls.proofs.HearingRuns.{IsKeptNext, every-kept-run, event}
-use Rattle.run_desks.specs.DeskSteps.{apart as desk_apart, moves, IsAt, IsStageOf, IsTaken, IsHomeTurn, NodeMove, still, moved, turn_note}
-use Rattle.run_desks.proofs.EventMoves.{desk-moves}
-use Rattle.run_homes.specs.ToldRooms.{IsRoomOf}
-use Rattle.run_homes.proofs.KnownRooms.{known-are, known-still}
+use Rattle.run_states.specs.DecidedReplies.{proc_at}
+use Rattle.run_states.specs.Progress.{IsApart}
+use Rattle.run_states.proofs.HearingRuns.{IsKeptNext, every-kept-run, event}
+use Rattle.run_states.specs.DeskSteps.{apart as desk_apart, moves, IsAt, IsStageOf, IsTaken, IsHomeTurn, NodeMove, still, moved, turn_note}
+use Rattle.run_states.proofs.EventMoves.{desk-moves}
+use Rattle.run_states.specs.ToldRooms.{IsRoomOf}
+use Rattle.run_states.proofs.KnownRooms.{known-are, known-still}
 use Rattle.run_effects.specs.NotedEffects.{note_effects, noted_past}
 use Rattle.run_effects.specs.Targets.{AreTargetsTold}
 use Rattle.run_contents.specs.Items.{Item, Value, Write, blank, same_item, desk_value, is_dirty_at, home_value}

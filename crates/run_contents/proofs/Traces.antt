@@ -18,8 +18,8 @@ use Rattle.node_runs.specs.CallsKeep.{IsCallAt, EachOf}
 use Rattle.node_runs.specs.DecidedCalls.{IsDecided}
 use Rattle.node_runs.proofs.Decisions.{IsNoDecision}
 use Rattle.node_runs.proofs.Receiving.{EachOf-more}
-use Rattle.run_calls.specs.DecidedReplies.{IsAnswerAt, WasAnswered}
-use Rattle.run_calls.proofs.HearingRuns.{same-ask}
+use Rattle.run_states.specs.DecidedReplies.{IsAnswerAt, WasAnswered}
+use Rattle.run_states.proofs.HearingRuns.{same-ask}
 use Rattle.run_contents.proofs.Contents.{content-above}
 use Rattle.run_contents.proofs.Given.{NoteHas}
 use Rattle.run_contents.proofs.ObjectMoves.{taken-each}

@@ -20,9 +20,9 @@ use Rattle.node_runs.specs.Setups.{Setup, IsSetup, given}
 use Rattle.node_runs.specs.HomesHave.{HasObject}
 use Rattle.node_runs.specs.NodesKeep.{IsTimely, IsNodeOf}
 use Rattle.node_runs.specs.Runs.{World, Choice, world_after}
-use Rattle.run_calls.specs.DecidedReplies.{proc_at}
-use Rattle.run_homes.specs.LiveLocks.{row_at, locks_of}
-use Rattle.run_homes.proofs.Standing.{table-now, row-there, keeping-row, held-grant}
+use Rattle.run_states.specs.DecidedReplies.{proc_at}
+use Rattle.run_states.specs.LiveLocks.{row_at, locks_of}
+use Rattle.run_states.proofs.Standing.{table-now, row-there, keeping-row, held-grant}
 use Rattle.run_effects.specs.NotedEffects.{noted_past}
 use Rattle.run_contents.specs.Items.{Item, Value, attr_length, is_dirty_at}
 use Rattle.run_contents.specs.Stamps.{IsThere, home_at}

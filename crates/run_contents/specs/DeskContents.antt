@@ -9,8 +9,8 @@ use Rattle.fault_handler.specs.Desks.{base_of}
 use Rattle.node_runs.specs.Setups.{Setup}
 use Rattle.node_runs.specs.Runs.{World}
 use Rattle.fault_handler.specs.Invariant.{IsProc}
-use Rattle.run_calls.specs.DecidedReplies.{proc_at}
-use Rattle.run_homes.specs.LiveLocks.{row_at, locks_of}
+use Rattle.run_states.specs.DecidedReplies.{proc_at}
+use Rattle.run_states.specs.LiveLocks.{row_at, locks_of}
 use Rattle.run_contents.specs.Items.{Item, Value, desk_value, is_dirty_at}
 use Rattle.run_contents.specs.Contents.{content, since}
 use Rattle.run_contents.specs.Stamps.{IsThere, stamp_at}

@@ -13,7 +13,7 @@ use Rattle.node_runs.specs.Notes.{Note, Told}
 use Rattle.node_runs.specs.Runs.{Noted, World}
 use Rattle.node_runs.specs.RunHistories.{all_told}
 use Rattle.node_runs.specs.HomesHave.{HasObject}
-use Rattle.run_homes.specs.HistoryHomes.{held_then}
+use Rattle.run_states.specs.HistoryHomes.{held_then}
 use Rattle.run_effects.specs.NotedEffects.{noted_past}
 use Rattle.run_effects.specs.NotedDeeds.{noted_deeds}
 use Rattle.ring_messages.specs.Bodies.{Ask, Answer}

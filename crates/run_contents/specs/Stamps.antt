@@ -13,7 +13,7 @@ use Rattle.node_runs.specs.Setups.{Setup}
 use Rattle.node_runs.specs.Notes.{Note}
 use Rattle.node_runs.specs.Runs.{Noted, World}
 use Rattle.node_runs.specs.CallsKeep.{EachOf, IsCallAt}
-use Rattle.run_homes.specs.StandingLocks.{IsKeeping}
+use Rattle.run_states.specs.StandingLocks.{IsKeeping}
 use Rattle.run_contents.specs.Items.{Item, Value, Write, write_of, home_value}
 use Rattle.run_contents.specs.Contents.{content, since}
 

@@ -13,7 +13,7 @@ use Rattle.object_store.specs.HomeStates.{attr_of}
 use Rattle.node_runs.specs.Setups.{Setup}
 use Rattle.node_runs.specs.Runs.{World}
 use Rattle.run_effects.specs.NotedEffects.{noted_past}
-use Rattle.run_homes.specs.StandingLocks.{IsKeeping}
+use Rattle.run_states.specs.StandingLocks.{IsKeeping}
 use Rattle.run_contents.specs.Items.{Item, Value, desk_value, is_dirty_at, home_value}
 use Rattle.run_contents.specs.Stamps.{IsThere, home_at}
 

@@ -13,8 +13,8 @@ use Rattle.node_runs.specs.NodeStates.{Asked, BegunOp, proc_of}
 use Rattle.node_runs.specs.Dones.{asking}
 use Rattle.node_runs.specs.Runs.{World}
 use Rattle.node_runs.specs.CallsKeep.{IsCallAt}
-use Rattle.run_calls.specs.DecidedReplies.{proc_at, WasAnswered}
-use Rattle.run_homes.specs.LiveLocks.{served_of}
+use Rattle.run_states.specs.DecidedReplies.{proc_at, WasAnswered}
+use Rattle.run_states.specs.LiveLocks.{served_of}
 use Rattle.run_contents.specs.Items.{Item, Value, write_of}
 use Rattle.run_contents.specs.Stamps.{home_at, stamp_at}
 

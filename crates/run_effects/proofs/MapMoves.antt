@@ -32,12 +32,12 @@ use Rattle.fault_handler.specs.Accesses.{DeskOp, map_by, unmap_by, map_reply}
 use Rattle.fault_handler.specs.Invariant.{IsProc, IsDesk}
 use Rattle.fault_handler.specs.Next.{IsCallOf}
 use Rattle.fault_handler.proofs.Fours.{at-put_same}
-use Rattle.desk_laws.specs.Causes.{Cause, MayCome, IsOf}
-use Rattle.desk_laws.specs.Loading.{IsTaskIn}
-use Rattle.desk_laws.specs.DeskMoves.{Change, DeskMoves}
-use Rattle.desk_laws.specs.Releasing.{releasing_in}
-use Rattle.desk_laws.specs.Turns.{Says, IsMade}
-use Rattle.desk_laws.proofs.Beside.{moves-beside}
+use Rattle.lock_validate.specs.Causes.{Cause, MayCome, IsOf}
+use Rattle.lock_validate.specs.Loading.{IsTaskIn}
+use Rattle.lock_validate.specs.DeskMoves.{Change, DeskMoves}
+use Rattle.lock_validate.specs.Releasing.{releasing_in}
+use Rattle.lock_validate.specs.Turns.{Says, IsMade}
+use Rattle.lock_validate.proofs.Beside.{moves-beside}
 use Rattle.node_runs.specs.Setups.{Given}
 use Rattle.node_runs.specs.NodeStates.{Asked, BegunOp, NodeState, proc_of, name_of}
 use Rattle.node_runs.specs.Operations.{begun, gone_on, Said}
@@ -51,9 +51,9 @@ use Rattle.node_runs.specs.Outcomes.{Stage, Stepped, turned}
 use Rattle.node_runs.specs.SentFrames.{IsIncoming}
 use Rattle.node_runs.specs.NodesKeep.{IsNodeOf}
 use Rattle.node_runs.specs.RunHistories.{settled_op, change_reply}
-use Rattle.run_calls.specs.Progress.{IsApart}
-use Rattle.run_homes.specs.DecidedEffects.{effect_if}
-use Rattle.run_desks.specs.DeskSteps.{IsOfHome, IsStageOf, OpMove, apart, moves, NodeMove, still, moved, turn_note}
+use Rattle.run_states.specs.Progress.{IsApart}
+use Rattle.run_states.specs.DecidedEffects.{effect_if}
+use Rattle.run_states.specs.DeskSteps.{IsOfHome, IsStageOf, OpMove, apart, moves, NodeMove, still, moved, turn_note}
 use Rattle.run_effects.specs.NotedEffects.{note_effects}
 use Rattle.run_effects.proofs.NotedDeeds.{other-number}
 use Rattle.run_effects.proofs.TurnDeeds.{home-op}

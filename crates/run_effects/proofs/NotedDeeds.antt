@@ -27,11 +27,11 @@ use Rattle.node_runs.specs.RunHistories.{history_in}
 use Rattle.node_runs.specs.CallsKeep.{EachOf}
 use Rattle.node_runs.proofs.SettingUp.{setup-procs}
 use Rattle.node_runs.proofs.Calls.{put-same, put-other}
-use Rattle.run_calls.specs.DecidedReplies.{proc_at}
-use Rattle.run_calls.specs.Heard.{AreHeard}
-use Rattle.run_calls.specs.Progress.{Progress, opens, goes_on, again, did, told, pauses, is_done, IsApart, rests, comes}
-use Rattle.run_calls.proofs.HearingRuns.{IsKeptNext, proc-step, every-kept-run, heard-are, event}
-use Rattle.run_calls.proofs.HistoryEntries.{asked-heard}
+use Rattle.run_states.specs.DecidedReplies.{proc_at}
+use Rattle.run_states.specs.Heard.{AreHeard}
+use Rattle.run_states.specs.Progress.{Progress, opens, goes_on, again, did, told, pauses, is_done, IsApart, rests, comes}
+use Rattle.run_states.proofs.HearingRuns.{IsKeptNext, proc-step, every-kept-run, heard-are, event}
+use Rattle.run_states.proofs.HistoryEntries.{asked-heard}
 use Rattle.run_effects.specs.NotedDeeds.{note_deeds, noted_deeds, AreDeedsTold}
 
 -- what a process was told, by what its program asked and heard

@@ -26,13 +26,13 @@ use Rattle.node_runs.specs.DecidedCalls.{IsDecided}
 use Rattle.node_runs.proofs.SettingUp.{setup-procs}
 use Rattle.node_runs.proofs.Decisions.{decisions-are}
 use Rattle.node_runs.proofs.EachOf.{EachOf-both, EachOf-behind}
-use Rattle.run_calls.specs.Progress.{IsSettling}
-use Rattle.run_calls.proofs.Slots.{settles}
-use Rattle.run_calls.proofs.HearingRuns.{same-ask}
-use Rattle.run_desks.specs.ToldAnswers.{IsTold}
-use Rattle.run_desks.proofs.ToldAnswers.{told-are}
-use Rattle.run_homes.specs.DecidedEffects.{home_effects, noted_effect}
-use Rattle.run_homes.proofs.HomeEffects.{notes-right}
+use Rattle.run_states.specs.Progress.{IsSettling}
+use Rattle.run_states.proofs.Slots.{settles}
+use Rattle.run_states.proofs.HearingRuns.{same-ask}
+use Rattle.run_states.specs.ToldAnswers.{IsTold}
+use Rattle.run_states.proofs.ToldAnswers.{told-are}
+use Rattle.run_states.specs.DecidedEffects.{home_effects, noted_effect}
+use Rattle.run_states.proofs.HomeEffects.{notes-right}
 use Rattle.run_effects.specs.NotedEffects.{note_effects, noted_past, AreEffectsNoted}
 
 -- the effects of items

@@ -38,14 +38,14 @@ use Rattle.node_runs.specs.Replays.{Held, held_by, after_note, after_if, first_h
 use Rattle.node_runs.proofs.Replaying.{replays-are}
 use Rattle.node_runs.proofs.SettingUp.{setup-procs}
 use Rattle.node_runs.proofs.EachOf.{EachOf-behind}
-use Rattle.run_calls.proofs.HearingRuns.{every-kept-run}
-use Rattle.run_desks.specs.ToldAnswers.{IsLocalReply, IsAtDesk}
-use Rattle.run_desks.proofs.ToldAnswers.{told-are}
-use Rattle.run_homes.specs.DecidedEffects.{effect_if}
-use Rattle.run_homes.specs.HistoryHomes.{held_then}
-use Rattle.run_homes.specs.ToldRooms.{IsRoomOf}
-use Rattle.run_homes.proofs.HistoryHomes.{answered-behind, homes-always}
-use Rattle.run_homes.proofs.ToldRooms.{room-decided}
+use Rattle.run_states.proofs.HearingRuns.{every-kept-run}
+use Rattle.run_states.specs.ToldAnswers.{IsLocalReply, IsAtDesk}
+use Rattle.run_states.proofs.ToldAnswers.{told-are}
+use Rattle.run_states.specs.DecidedEffects.{effect_if}
+use Rattle.run_states.specs.HistoryHomes.{held_then}
+use Rattle.run_states.specs.ToldRooms.{IsRoomOf}
+use Rattle.run_states.proofs.HistoryHomes.{answered-behind, homes-always}
+use Rattle.run_states.proofs.ToldRooms.{room-decided}
 use Rattle.run_effects.specs.NotedEffects.{note_effects, noted_past}
 use Rattle.run_effects.specs.NotedRooms.{AreRoomsAlways}
 use Rattle.run_effects.proofs.NotedEffects.{effects-noted}

@@ -25,15 +25,15 @@ use Rattle.fault_handler.specs.Invariant.{IsProc, IsDesk}
 use Rattle.fault_handler.specs.Next.{IsTaskOf, IsCallOf}
 use Rattle.fault_handler.proofs.Fours.{at-put_same}
 use Rattle.fault_handler.proofs.LockKeeps.{entry_of-after_other, entry_of-noted_same, entry_of-noted_other}
-use Rattle.desk_laws.specs.Causes.{Cause, MayCome, IsOf, op_of}
-use Rattle.desk_laws.specs.Left.{answer_reply, fault_reply, Leaves, FaultLeaves}
-use Rattle.desk_laws.specs.Loading.{IsTaskIn}
-use Rattle.desk_laws.specs.DeskMoves.{Change, DeskMoves}
-use Rattle.desk_laws.specs.Refusals.{Refuses}
-use Rattle.desk_laws.specs.Releasing.{releasing_in}
-use Rattle.desk_laws.specs.Told.{state_set}
-use Rattle.desk_laws.specs.Turns.{Says, IsMade}
-use Rattle.desk_laws.proofs.DeskStays.{moves-desk}
+use Rattle.lock_validate.specs.Causes.{Cause, MayCome, IsOf, op_of}
+use Rattle.lock_validate.specs.Left.{answer_reply, fault_reply, Leaves, FaultLeaves}
+use Rattle.lock_validate.specs.Loading.{IsTaskIn}
+use Rattle.lock_validate.specs.DeskMoves.{Change, DeskMoves}
+use Rattle.lock_validate.specs.Refusals.{Refuses}
+use Rattle.lock_validate.specs.Releasing.{releasing_in}
+use Rattle.lock_validate.specs.Told.{state_set}
+use Rattle.lock_validate.specs.Turns.{Says, IsMade}
+use Rattle.lock_validate.proofs.DeskStays.{moves-desk}
 
 -- the object of which an answer or a link fault sets a state
 abbrev pub set_object : Cause → Option ObjectName

@@ -23,10 +23,10 @@ use Rattle.fault_handler.specs.Desks.{DeskState, entries_of, entry_at, state_of}
 use Rattle.fault_handler.specs.Outcomes.{Turn, Moved}
 use Rattle.fault_handler.specs.Invariant.{IsProc, IsDesk, IsLockEntry, IsLockEntryState}
 use Rattle.fault_handler.proofs.Fours.{by_proc, at-put_same}
-use Rattle.desk_laws.specs.Causes.{Cause}
-use Rattle.desk_laws.specs.DeskMoves.{Change, DeskMoves}
-use Rattle.desk_laws.proofs.Beside.{moves-beside}
-use Rattle.desk_laws.proofs.DeskStays.{moves-desk}
+use Rattle.lock_validate.specs.Causes.{Cause}
+use Rattle.lock_validate.specs.DeskMoves.{Change, DeskMoves}
+use Rattle.lock_validate.proofs.Beside.{moves-beside}
+use Rattle.lock_validate.proofs.DeskStays.{moves-desk}
 use Rattle.node_runs.specs.Setups.{Setup, IsSetup, Given, given}
 use Rattle.node_runs.specs.NodeStates.{BegunOp, NodeState, first_node, proc_of, name_of}
 use Rattle.node_runs.specs.Incomings.{Incoming}
@@ -38,10 +38,10 @@ use Rattle.node_runs.proofs.Calls.{put-same, put-other}
 use Rattle.node_runs.proofs.Running.{run-keeps}
 use Rattle.node_runs.proofs.Nodes.{node-with}
 use Rattle.node_runs.proofs.SettingUp.{setup-procs}
-use Rattle.run_calls.specs.DecidedReplies.{proc_at}
-use Rattle.run_calls.proofs.HearingRuns.{IsKeptNext, every-kept-run, event}
-use Rattle.run_desks.specs.DeskSteps.{IsOfHome, OpMove, apart, moves, NodeMove, still, moved}
-use Rattle.run_desks.proofs.EventMoves.{desk-moves}
+use Rattle.run_states.specs.DecidedReplies.{proc_at}
+use Rattle.run_states.proofs.HearingRuns.{IsKeptNext, every-kept-run, event}
+use Rattle.run_states.specs.DeskSteps.{IsOfHome, OpMove, apart, moves, NodeMove, still, moved}
+use Rattle.run_states.proofs.EventMoves.{desk-moves}
 use Rattle.run_effects.specs.NotedDeeds.{note_deeds, noted_deeds}
 use Rattle.run_effects.proofs.NotedDeeds.{apart-deeds, other-node, other-number}
 use Rattle.run_effects.specs.States.{told_to, AreStatesTold}

@@ -36,7 +36,7 @@ use Rattle.fault_handler.specs.Lengths.{known_of, room_of as known_room}
 use Rattle.fault_handler.specs.Desks.{DeskState, IsNode, entries_of, entry_at, maps_of, state_of}
 use Rattle.fault_handler.specs.Invariant.{IsProc}
 use Rattle.fault_handler.proofs.Fours.{by_proc}
-use Rattle.desk_laws.proofs.Facts.{known-kept, node-there}
+use Rattle.lock_validate.proofs.Facts.{known-kept, node-there}
 use Rattle.node_runs.specs.Setups.{Setup, IsSetup, given}
 use Rattle.node_runs.specs.NodeStates.{NodeState, first_node}
 use Rattle.node_runs.specs.Replays.{Held as Held_home, held_by}
@@ -50,15 +50,15 @@ use Rattle.node_runs.proofs.Running.{run-keeps}
 use Rattle.node_runs.proofs.Nodes.{node-with}
 use Rattle.node_runs.proofs.Replaying.{replays-are}
 use Rattle.node_runs.proofs.SettingUp.{setup-gives, setup-procs}
-use Rattle.run_calls.specs.DecidedReplies.{proc_at}
-use Rattle.run_calls.proofs.HearingRuns.{IsKeptNext, every-kept-run, event, event-did}
-use Rattle.run_desks.specs.DeskSteps.{NodeMove}
-use Rattle.run_desks.proofs.DeskSteps.{step-desk}
-use Rattle.run_homes.specs.HistoryHomes.{held_then}
-use Rattle.run_homes.specs.KnownRooms.{IsKnownRight}
-use Rattle.run_homes.specs.StandingLocks.{IsKeeping}
-use Rattle.run_homes.proofs.KnownRooms.{known-are}
-use Rattle.run_homes.proofs.Standing.{standing-are}
+use Rattle.run_states.specs.DecidedReplies.{proc_at}
+use Rattle.run_states.proofs.HearingRuns.{IsKeptNext, every-kept-run, event, event-did}
+use Rattle.run_states.specs.DeskSteps.{NodeMove}
+use Rattle.run_states.proofs.DeskSteps.{step-desk}
+use Rattle.run_states.specs.HistoryHomes.{held_then}
+use Rattle.run_states.specs.KnownRooms.{IsKnownRight}
+use Rattle.run_states.specs.StandingLocks.{IsKeeping}
+use Rattle.run_states.proofs.KnownRooms.{known-are}
+use Rattle.run_states.proofs.Standing.{standing-are}
 use Rattle.run_effects.specs.NotedEffects.{note_effects, noted_past}
 use Rattle.run_effects.proofs.NotedDeeds.{other-node}
 use Rattle.run_effects.proofs.NotedRooms.{found-more, was-made, rooms-always}

@@ -13,7 +13,7 @@ use Rattle.node_runs.specs.Setups.{Given}
 use Rattle.node_runs.specs.NodeStates.{BegunOp, OpenOp, NodeState, name_of}
 use Rattle.node_runs.specs.Incomings.{Incoming}
 use Rattle.node_runs.specs.Outcomes.{Stage, Stepped}
-use Rattle.run_desks.specs.DeskSteps.{IsOfHome, IsHomeBegin, IsHomeTurn, NodeMove, still, moved, turn_note}
+use Rattle.run_states.specs.DeskSteps.{IsOfHome, IsHomeBegin, IsHomeTurn, NodeMove, still, moved, turn_note}
 use Rattle.run_effects.specs.NotedDeeds.{note_deeds}
 use Rattle.run_effects.proofs.NotedDeeds.{apart-deeds}
 

@@ -8,7 +8,7 @@ use Rattle.node_runs.specs.Setups.{Setup}
 use Rattle.node_runs.specs.Notes.{Note}
 use Rattle.node_runs.specs.Runs.{Noted, World}
 use Rattle.node_runs.specs.RunHistories.{history_in}
-use Rattle.run_calls.specs.DecidedReplies.{proc_at}
+use Rattle.run_states.specs.DecidedReplies.{proc_at}
 
 abbrev pub note_deeds : Note → List Deed
 note_deeds (Note.Did p phase op reply) = record { proc = p; op = op; reply = reply } ∷ []

@@ -4,8 +4,8 @@ use Rattle.dom_history.specs.StoreEffects.{StoreEffect, store_effect}
 use Rattle.node_runs.specs.Notes.{Note}
 use Rattle.node_runs.specs.Runs.{Noted, World}
 use Rattle.node_runs.specs.RunHistories.{settled_op, change_reply}
-use Rattle.run_homes.specs.DecidedEffects.{effect_if}
-use Rattle.run_homes.specs.HistoryHomes.{past_then}
+use Rattle.run_states.specs.DecidedEffects.{effect_if}
+use Rattle.run_states.specs.HistoryHomes.{past_then}
 
 -- the effects of a note of this node
 abbrev pub note_effects : ℕ → Note → List StoreEffect

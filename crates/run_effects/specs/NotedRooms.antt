@@ -6,7 +6,7 @@ use Rattle.object_store.specs.Objects.{room_of as room_in}
 use Rattle.object_store.specs.HomeStates.{attr_of}
 use Rattle.node_runs.specs.Setups.{Setup}
 use Rattle.node_runs.specs.Runs.{Noted, World}
-use Rattle.run_homes.specs.HistoryHomes.{held_then}
+use Rattle.run_states.specs.HistoryHomes.{held_then}
 use Rattle.run_effects.specs.NotedEffects.{noted_past}
 
 abbrev pub AreRoomsAlways : Setup → World → Type 0

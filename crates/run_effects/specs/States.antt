@@ -9,7 +9,7 @@ use Rattle.fault_handler.specs.Desks.{entries_of, state_of}
 use Rattle.fault_handler.specs.Invariant.{IsProc}
 use Rattle.node_runs.specs.Setups.{Setup}
 use Rattle.node_runs.specs.Runs.{World}
-use Rattle.run_calls.specs.DecidedReplies.{proc_at}
+use Rattle.run_states.specs.DecidedReplies.{proc_at}
 use Rattle.run_effects.specs.NotedDeeds.{noted_deeds}
 
 -- what a process was told

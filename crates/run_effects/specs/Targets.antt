@@ -9,7 +9,7 @@ use Rattle.fault_handler.specs.Accesses.{target_of}
 use Rattle.fault_handler.specs.Invariant.{IsProc}
 use Rattle.node_runs.specs.Setups.{Setup}
 use Rattle.node_runs.specs.Runs.{World}
-use Rattle.run_calls.specs.DecidedReplies.{proc_at}
+use Rattle.run_states.specs.DecidedReplies.{proc_at}
 use Rattle.run_effects.specs.NotedEffects.{noted_past}
 
 abbrev pub target_at : ObjectName × ℕ → Target

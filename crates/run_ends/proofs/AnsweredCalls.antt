@@ -19,9 +19,9 @@ use Rattle.node_runs.specs.Runs.{World, Choice, numbered, world_after}
 use Rattle.node_runs.proofs.Calls.{calls-are}
 use Rattle.node_runs.proofs.Running.{run-keeps}
 use Rattle.node_runs.proofs.SettingUp.{setup-procs}
-use Rattle.run_calls.specs.DecidedReplies.{proc_at}
-use Rattle.run_calls.specs.FittingAnswers.{AnswersThis, AnswersCall}
-use Rattle.run_calls.proofs.Fitting.{answers-fit}
+use Rattle.run_states.specs.DecidedReplies.{proc_at}
+use Rattle.run_states.specs.FittingAnswers.{AnswersThis, AnswersCall}
+use Rattle.run_states.proofs.Fitting.{answers-fit}
 use Rattle.world_runs.proofs.Receiving.{numbered-within}
 
 abbrev IsUpTo : ℕ → Call Answer → Type 0

@@ -18,12 +18,12 @@ use Rattle.node_runs.proofs.Calls.{calls-are}
 use Rattle.node_runs.proofs.Decisions.{decisions-are}
 use Rattle.node_runs.proofs.Receiving.{numbered-each}
 use Rattle.node_runs.proofs.SettingUp.{setup-procs}
-use Rattle.run_calls.specs.DecidedReplies.{proc_at, IsAnswerAt, WasAnswered, IsReplyOf}
-use Rattle.run_calls.proofs.Replies.{replies-are, caller-at}
-use Rattle.run_calls.specs.FittingAnswers.{CanAnswer, IsFittingNote}
-use Rattle.run_calls.proofs.Fitting.{answers-fit}
-use Rattle.run_homes.specs.OpenDecisions.{IsRight, IsRightNote, IsOpenRight}
-use Rattle.run_homes.proofs.OpenDecisions.{right-are}
+use Rattle.run_states.specs.DecidedReplies.{proc_at, IsAnswerAt, WasAnswered, IsReplyOf}
+use Rattle.run_states.proofs.Replies.{replies-are, caller-at}
+use Rattle.run_states.specs.FittingAnswers.{CanAnswer, IsFittingNote}
+use Rattle.run_states.proofs.Fitting.{answers-fit}
+use Rattle.run_states.specs.OpenDecisions.{IsRight, IsRightNote, IsOpenRight}
+use Rattle.run_states.proofs.OpenDecisions.{right-are}
 use Rattle.run_ends.specs.FramesOfCalls.{IsOfCall}
 use Rattle.run_ends.proofs.Callers.{answered-is}
 use Rattle.run_ends.proofs.FirstWaiting.{if-some}

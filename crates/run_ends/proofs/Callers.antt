@@ -8,8 +8,8 @@ use Rattle.page_server.specs.Serving.{reply_to}
 use Rattle.node_runs.specs.NodeStates.{Asked, NodeState}
 use Rattle.node_runs.specs.Outcomes.{request}
 use Rattle.node_runs.specs.Setups.{Given}
-use Rattle.run_calls.specs.DecidedReplies.{proc_at}
-use Rattle.run_calls.proofs.Replies.{caller-at}
+use Rattle.run_states.specs.DecidedReplies.{proc_at}
+use Rattle.run_states.proofs.Replies.{caller-at}
 
 -- a reply is of one of its receiver
 pub answered-is : (m : Message) (answer : Answer) → m.body ≡ body_of_answer answer → caller_of m ≡ proc_at m.to m.proc

@@ -19,8 +19,8 @@ use Rattle.node_runs.specs.Doings.{node_numbers, others_marked}
 use Rattle.node_runs.specs.NodesKeep.{IsTimely}
 use Rattle.node_runs.specs.Runs.{World, SentMark, HasEnded, choice_of, incoming_of, mark_of}
 use Rattle.node_runs.proofs.SettingUp.{setup-procs}
-use Rattle.run_calls.specs.Phases.{IsMarkBelow, IsNodeInPhase, AreInPhase}
-use Rattle.run_calls.proofs.InPhases.{in_phases-are}
+use Rattle.run_states.specs.Phases.{IsMarkBelow, IsNodeInPhase, AreInPhase}
+use Rattle.run_states.proofs.InPhases.{in_phases-are}
 use Rattle.world_runs.specs.ByPlace.{by_place}
 use Rattle.world_runs.specs.Turns.{coming_to, enabled_events, after_turns}
 use Rattle.world_runs.proofs.Among.{Among}

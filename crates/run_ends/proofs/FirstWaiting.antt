@@ -23,7 +23,7 @@ use Rattle.node_runs.proofs.Calls.{calls-are}
 use Rattle.node_runs.proofs.Receiving.{EachOf-more, numbered-each}
 use Rattle.node_runs.proofs.SettingUp.{setup-procs}
 use Rattle.node_runs.proofs.EachOf.{EachOf-behind}
-use Rattle.run_calls.proofs.Following.{EachOf-append}
+use Rattle.run_states.proofs.Following.{EachOf-append}
 use Rattle.world_runs.specs.ByPlace.{by_place}
 use Rattle.world_runs.specs.Sendings.{Sending, sendings, frames_in, frames_on}
 use Rattle.world_runs.specs.Waiting.{Entry, due, entries, entries_taken, waiting}

@@ -20,8 +20,8 @@ use Rattle.fault_handler.specs.PageReplies.{PageAnswer, answer_outward, answer_w
 use Rattle.fault_handler.specs.Transits.{coming, going}
 use Rattle.node_runs.specs.Agreements.{IsCallOpen, IsCalling}
 use Rattle.node_runs.specs.Operations.{Said, said_to_new, said_to_list, said_to_call, said_by, said_of}
-use Rattle.run_calls.specs.FittingAnswers.{CanAnswer, AnswersLock, AnswersUnlock, AnswersMake, AnswersList}
-use Rattle.run_homes.specs.OpenDecisions.{IsPageTold, IsWriteTold, IsRight}
+use Rattle.run_states.specs.FittingAnswers.{CanAnswer, AnswersLock, AnswersUnlock, AnswersMake, AnswersList}
+use Rattle.run_states.specs.OpenDecisions.{IsPageTold, IsWriteTold, IsRight}
 
 abbrev SaysWhat : Option Said → Type 0
 SaysWhat o = (said : Said) × (o ≡ Some said)

@@ -12,7 +12,7 @@ use Rattle.node_runs.specs.Incomings.{Incoming, may_happen}
 use Rattle.node_runs.specs.Outcomes.{Stepped, Stage, moved}
 use Rattle.node_runs.specs.Doings.{begun_at, stage_of, in_next_phase, others_marked, after_marks}
 use Rattle.node_runs.specs.Dones.{Did, paused, finished, began, resumed, served, passed_over, heard, ignored, resent, gave_up, got_ready, marked}
-use Rattle.run_calls.proofs.PhaseSteps.{NodePhase, same, readied, took, did-node}
+use Rattle.run_states.proofs.PhaseSteps.{NodePhase, same, readied, took, did-node}
 
 -- the event takes the mark, which was not taken before, or none
 abbrev pub MarksNow : NodeState → What → NodeState → Type 0

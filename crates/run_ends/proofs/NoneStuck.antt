@@ -15,7 +15,7 @@ use Rattle.node_runs.specs.NodesKeep.{IsTimely}
 use Rattle.node_runs.specs.Dones.{asking}
 use Rattle.node_runs.specs.Runs.{World, HasEnded, numbered}
 use Rattle.node_runs.specs.CallsKeep.{EachOf}
-use Rattle.run_calls.specs.DecidedReplies.{proc_at}
+use Rattle.run_states.specs.DecidedReplies.{proc_at}
 use Rattle.world_runs.specs.Gone.{FrameName, gone_in, was_told}
 use Rattle.world_runs.specs.Turns.{enabled_events, after_turns}
 use Rattle.world_runs.specs.Waiting.{Entry, waiting}

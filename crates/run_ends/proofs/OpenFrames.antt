@@ -30,9 +30,9 @@ use Rattle.node_runs.proofs.Calls.{put-same, put-other}
 use Rattle.node_runs.proofs.CallSteps.{IsUnasking, IsFrameProc, did-calls}
 use Rattle.node_runs.proofs.Doing.{step_of-did}
 use Rattle.node_runs.proofs.SettingUp.{setup-procs}
-use Rattle.run_calls.specs.DecidedReplies.{proc_at}
-use Rattle.run_calls.specs.FittingAnswers.{CanAnswer}
-use Rattle.run_homes.specs.OpenDecisions.{IsRight}
+use Rattle.run_states.specs.DecidedReplies.{proc_at}
+use Rattle.run_states.specs.FittingAnswers.{CanAnswer}
+use Rattle.run_states.specs.OpenDecisions.{IsRight}
 use Rattle.world_runs.specs.ByPlace.{by_place}
 use Rattle.world_runs.specs.Gone.{FrameName}
 use Rattle.world_runs.specs.Turns.{turn, after_turns}

@@ -11,8 +11,8 @@ use Rattle.node_runs.specs.Incomings.{has_program}
 use Rattle.node_runs.specs.NodesKeep.{IsTimely}
 use Rattle.node_runs.specs.Runs.{World, SentMark, Choice, world_after}
 use Rattle.node_runs.specs.CallsKeep.{EachOf}
-use Rattle.run_calls.specs.Phases.{IsMarkBelow, IsOpenInPhase, AreInPhase}
-use Rattle.run_calls.proofs.InPhases.{in_phases-are}
+use Rattle.run_states.specs.Phases.{IsMarkBelow, IsOpenInPhase, AreInPhase}
+use Rattle.run_states.proofs.InPhases.{in_phases-are}
 
 -- a node's process is past each phase of which the node sent the mark
 past-sent : (tick n phase p : ℕ) (has : ℕ → Bool) (marks : List SentMark) → has p ≡ true → (phases : ℕ → ℕ) → SomeOf (IsMarkBelow tick n phase) marks

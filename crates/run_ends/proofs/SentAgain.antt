@@ -24,7 +24,7 @@ use Rattle.node_runs.specs.Dones.{Did, asking, paused, finished, began, resumed,
 use Rattle.node_runs.specs.Steps.{step_of}
 use Rattle.node_runs.proofs.Stepping.{Leaves, step_of-is}
 use Rattle.node_runs.proofs.CallSteps.{IsUnasking, CallStep, silent, asked, again}
-use Rattle.run_calls.specs.DecidedReplies.{proc_at}
+use Rattle.run_states.specs.DecidedReplies.{proc_at}
 use Rattle.run_ends.specs.FramesOfCalls.{IsOfCall}
 use Rattle.run_ends.proofs.Callers.{request-caller, reply-caller}
 

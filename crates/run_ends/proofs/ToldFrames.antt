@@ -16,7 +16,7 @@ use Rattle.node_runs.specs.Incomings.{Incoming, has_program, is_call, may_notice
 use Rattle.node_runs.specs.NodesKeep.{IsTimely}
 use Rattle.node_runs.specs.Runs.{World, numbered, told_if, told_of}
 use Rattle.node_runs.specs.CallsKeep.{EachOf}
-use Rattle.run_calls.specs.DecidedReplies.{proc_at}
+use Rattle.run_states.specs.DecidedReplies.{proc_at}
 use Rattle.world_runs.specs.Gone.{FrameName, was_told, notice_if, notice_of, gone_in}
 use Rattle.world_runs.specs.Turns.{enabled_events, after_turns}
 use Rattle.world_runs.proofs.Among.{Among}

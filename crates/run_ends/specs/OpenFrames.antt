@@ -9,7 +9,7 @@ use Rattle.node_runs.specs.Setups.{Setup}
 use Rattle.node_runs.specs.NodeStates.{Asked, BegunOp, proc_of}
 use Rattle.node_runs.specs.Dones.{asking}
 use Rattle.node_runs.specs.Runs.{World, numbered}
-use Rattle.run_calls.specs.DecidedReplies.{proc_at}
+use Rattle.run_states.specs.DecidedReplies.{proc_at}
 use Rattle.world_runs.specs.Gone.{FrameName, gone_in, was_told}
 use Rattle.world_runs.specs.Waiting.{Entry, waiting}
 use Rattle.run_ends.specs.FramesOfCalls.{IsOfCall}

@@ -4,7 +4,7 @@ ghost use Rattle.dom_history.specs.declared.plan.FateRow.{FateRow};
 ghost use Rattle.dom_history.specs.declared.event.What.{What};
 ghost use Rattle.dom_history.specs.Objects.{is_node};
 ghost use Rattle.page_server.specs.Serving.{serve_of};
-ghost use Rattle.run_calls.specs.DecidedReplies.{proc_at};
+ghost use Rattle.run_states.specs.DecidedReplies.{proc_at};
 ghost use Rattle.node_runs.specs.Setups.{Setup, IsSetup, given};
 ghost use Rattle.node_runs.specs.NodeStates.{Asked, Await, is_ended};
 ghost use Rattle.node_runs.specs.CallsKeep.{EachOf};

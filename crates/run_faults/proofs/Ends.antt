@@ -13,12 +13,12 @@ use Rattle.node_runs.specs.RunHistories.{told_by, all_told, ended_at}
 use Rattle.node_runs.specs.CallsKeep.{EachOf}
 use Rattle.node_runs.proofs.EachOf.{EachOf-at}
 use Rattle.node_runs.proofs.Receiving.{EachOf-more}
-use Rattle.run_calls.specs.Placed.{IsBegin, IsPlaced, AreEndsPlaced}
-use Rattle.run_calls.specs.SingleActs.{IsToldLater, AreToldRising}
-use Rattle.run_calls.proofs.Following.{EachOf-append}
-use Rattle.run_calls.proofs.Hearing.{find-none, place-none, number-none}
-use Rattle.run_calls.proofs.Slots.{IsNew, place-is}
-use Rattle.run_calls.proofs.Walks.{SomeOf-more}
+use Rattle.run_states.specs.Placed.{IsBegin, IsPlaced, AreEndsPlaced}
+use Rattle.run_states.specs.SingleActs.{IsToldLater, AreToldRising}
+use Rattle.run_states.proofs.Following.{EachOf-append}
+use Rattle.run_states.proofs.Hearing.{find-none, place-none, number-none}
+use Rattle.run_states.proofs.Slots.{IsNew, place-is}
+use Rattle.run_states.proofs.Walks.{SomeOf-more}
 
 -- what holds of all, by recursion
 pub each-from : {A : Type 0} (P : A → Type 0) (xs : List A) → All P xs → EachOf P xs

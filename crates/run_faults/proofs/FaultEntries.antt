@@ -14,9 +14,9 @@ use Rattle.node_runs.proofs.SettingUp.{setup-procs}
 use Rattle.node_runs.proofs.EachOf.{EachOf-at}
 use Rattle.node_runs.proofs.Decisions.{decisions-are}
 use Rattle.world_runs.specs.Faults.{CallName, call_if, fault_by, faults_in, IsFaultlessNote}
-use Rattle.run_calls.specs.NotedEntries.{entry_of}
-use Rattle.run_calls.proofs.Lasting.{SomeOf-behind}
-use Rattle.run_calls.proofs.ItemViews.{IsItemAt, did, faulted, answered, left_open, opened, each-item}
+use Rattle.run_states.specs.NotedEntries.{entry_of}
+use Rattle.run_states.proofs.Lasting.{SomeOf-behind}
+use Rattle.run_states.proofs.ItemViews.{IsItemAt, did, faulted, answered, left_open, opened, each-item}
 use Rattle.run_faults.specs.EightNotices.{last_call}
 
 -- what holds of each that a link fault answered

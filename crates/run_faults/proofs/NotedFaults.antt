@@ -15,10 +15,10 @@ use Rattle.node_runs.specs.CallsKeep.{EachOf}
 use Rattle.node_runs.proofs.Receiving.{EachOf-more}
 use Rattle.world_runs.specs.Faults.{CallName, call_if, fault_by, faults_in, IsFaultlessNote}
 use Rattle.world_runs.proofs.Telling.{one_if}
-use Rattle.run_calls.specs.NotedEntries.{entry_of, entry_if, begun_entry, decided_entry, entries_at, noted_entries}
-use Rattle.run_calls.specs.Placed.{IsBegin, IsPlaced, AreEndsPlaced, AreRisingNotes}
-use Rattle.run_calls.specs.SingleActs.{AreToldRising}
-use Rattle.run_calls.proofs.Slots.{IsSlot, IsNew, slot-of, off-slot, in-slot}
+use Rattle.run_states.specs.NotedEntries.{entry_of, entry_if, begun_entry, decided_entry, entries_at, noted_entries}
+use Rattle.run_states.specs.Placed.{IsBegin, IsPlaced, AreEndsPlaced, AreRisingNotes}
+use Rattle.run_states.specs.SingleActs.{AreToldRising}
+use Rattle.run_states.proofs.Slots.{IsSlot, IsNew, slot-of, off-slot, in-slot}
 use Rattle.run_faults.proofs.Ends.{ends-begun, begun-apart, ended-none, rising-new}
 
 -- those of entries that a link fault answered

@@ -12,7 +12,7 @@ use Rattle.node_runs.specs.RunHistories.{all_told}
 use Rattle.node_runs.specs.Runs.{World, numbered}
 use Rattle.world_runs.specs.Faults.{CallName, same_call}
 use Rattle.world_runs.specs.Gone.{FrameName}
-use Rattle.run_calls.specs.NotedEntries.{entry_of}
+use Rattle.run_states.specs.NotedEntries.{entry_of}
 
 -- the last call of an operation that ended
 abbrev pub last_call : Told → CallName

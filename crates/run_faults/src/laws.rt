@@ -13,7 +13,7 @@ ghost use Rattle.node_runs.specs.DoubtfulRun as doubtful;
 ghost use Rattle.run_faults.specs.LinkFaults.{fault_entries, link_faults, notices, marked};
 ghost use Rattle.run_faults.specs.EightNotices.{HasEightNotices, HaveOwnCalls};
 
-use run_calls::laws::{entries_stand_within_their_operations, operations_end_in_order};
+use run_states::calls::{entries_stand_within_their_operations, operations_end_in_order};
 use world_runs::laws::{each_link_fault_has_eight_notices, link_faults_are_few};
 
 /// Each entry of a planned run's history that a link fault answered has eight notices of one call of its operation, the last one, each of a

@@ -12,10 +12,10 @@ use Rattle.fault_handler.specs.Tasks.{page_of, IsTask}
 use Rattle.fault_handler.specs.Victims.{is_idle_one}
 use Rattle.fault_handler.specs.declared.tasks.Task.{Task}
 use Rattle.fault_handler.proofs.PageLists.{found-page, found-uid}
-use Rattle.desk_laws.specs.Causes.{Cause}
-use Rattle.desk_laws.specs.DeskMoves.{Change, DeskMoves}
+use Rattle.lock_validate.specs.Causes.{Cause}
+use Rattle.lock_validate.specs.DeskMoves.{Change, DeskMoves}
 use Rattle.node_runs.specs.CallsKeep.{EachOf}
-use Rattle.run_homes.proofs.KnownPages.{each-find, moves-pages}
+use Rattle.run_states.proofs.KnownPages.{each-find, moves-pages}
 
 module _ (Q : ObjectName → ℕ → Type 0) where
   abbrev Of : Resident → Type 0

@@ -36,9 +36,9 @@ use Rattle.fault_handler.specs.Invariant.{IsProc, FitsOpen, is_access}
 use Rattle.fault_handler.specs.Outcomes.{Moved, Turn}
 use Rattle.fault_handler.specs.PageReplies.{PageAnswer}
 use Rattle.fault_handler.specs.Tasks.{page_of, IsTask}
-use Rattle.desk_laws.specs.Causes.{Cause, MayCome, comes_of}
-use Rattle.desk_laws.specs.Turns.{IsMade}
-use Rattle.desk_laws.proofs.EachCall.{comes_of-made}
+use Rattle.lock_validate.specs.Causes.{Cause, MayCome, comes_of}
+use Rattle.lock_validate.specs.Turns.{IsMade}
+use Rattle.lock_validate.proofs.EachCall.{comes_of-made}
 use Rattle.journal_text.specs.Written.{IsPage}
 use Rattle.node_runs.specs.Setups.{Setup, IsSetup, Given, IsGiven, given}
 use Rattle.node_runs.specs.NodeStates.{NodeState, OpenOp, proc_of}
@@ -58,14 +58,14 @@ use Rattle.node_runs.proofs.MakingRoom.{always-may}
 use Rattle.node_runs.proofs.Nodes.{node-with}
 use Rattle.node_runs.proofs.SettingUp.{given-procs, setup-gives}
 use Rattle.node_runs.proofs.Worlds.{nodes-counted}
-use Rattle.run_calls.specs.LastCalls.{IsOpenNumber}
-use Rattle.run_calls.proofs.HearingRuns.{IsKeptNext, event, event-did, event-incoming}
-use Rattle.run_desks.specs.DeskSteps.{IsHomeTurn, IsOfHome, NodeMove, OpMove, apart as desk_apart, moves, still, moved}
-use Rattle.run_desks.proofs.DeskSteps.{heard-turn, gave_up-turn}
-use Rattle.run_desks.proofs.EventMoves.{desk-moves}
-use Rattle.run_desks.proofs.OpenTasks.{answer-task, open_task_of}
-use Rattle.run_homes.specs.StandingLocks.{AreStanding, IsKeeping}
-use Rattle.run_homes.proofs.KnownPages.{moves-pages}
+use Rattle.run_states.specs.LastCalls.{IsOpenNumber}
+use Rattle.run_states.proofs.HearingRuns.{IsKeptNext, event, event-did, event-incoming}
+use Rattle.run_states.specs.DeskSteps.{IsHomeTurn, IsOfHome, NodeMove, OpMove, apart as desk_apart, moves, still, moved}
+use Rattle.run_states.proofs.DeskSteps.{heard-turn, gave_up-turn}
+use Rattle.run_states.proofs.EventMoves.{desk-moves}
+use Rattle.run_states.proofs.OpenTasks.{answer-task, open_task_of}
+use Rattle.run_states.specs.StandingLocks.{AreStanding, IsKeeping}
+use Rattle.run_states.proofs.KnownPages.{moves-pages}
 use Rattle.run_journals.proofs.Drops.{AreSuch, moves-drop}
 
 -- a page of an object that has a name

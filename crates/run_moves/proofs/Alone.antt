@@ -22,10 +22,10 @@ use Rattle.node_runs.proofs.Worlds.{place_at}
 use Rattle.node_runs.proofs.Calls.{put-same, put-other}
 use Rattle.node_runs.proofs.Ticks.{step_of-tick}
 use Rattle.node_runs.proofs.SettingUp.{setup-procs}
-use Rattle.run_calls.specs.Progress.{Progress, opens, goes_on, again, did, told, pauses, is_done, IsApart, rests, comes}
-use Rattle.run_calls.specs.DecidedReplies.{proc_at}
-use Rattle.run_calls.specs.Heard.{AreHeard}
-use Rattle.run_calls.proofs.HearingRuns.{IsKeptNext, proc-step, heard-are, every-kept-run, event}
+use Rattle.run_states.specs.Progress.{Progress, opens, goes_on, again, did, told, pauses, is_done, IsApart, rests, comes}
+use Rattle.run_states.specs.DecidedReplies.{proc_at}
+use Rattle.run_states.specs.Heard.{AreHeard}
+use Rattle.run_states.proofs.HearingRuns.{IsKeptNext, proc-step, heard-are, every-kept-run, event}
 use Rattle.run_effects.specs.NotedDeeds.{note_deeds}
 
 -- the operation began there, and since then nothing was done by its process or told to it

@@ -13,8 +13,8 @@ use Rattle.fault_handler.specs.declared.entries.LockEntry.{LockEntry}
 use Rattle.fault_handler.specs.Entries.{entry_of, state_in, keeps_writing}
 use Rattle.node_runs.specs.NodeStates.{Asked, Await, OpenOp}
 use Rattle.node_runs.specs.RunHistories.{is_fault, change_reply}
-use Rattle.run_desks.specs.ToldAnswers.{TellsReply, IsReleaseFault, IsFaultOf}
-use Rattle.run_desks.specs.WaitingReleases.{SendsHome}
+use Rattle.run_states.specs.ToldAnswers.{TellsReply, IsReleaseFault, IsFaultOf}
+use Rattle.run_states.specs.WaitingReleases.{SendsHome}
 
 -- it tells a change, or nothing was done
 abbrev pub TellsChange : Op → Reply → Answer → Type 0

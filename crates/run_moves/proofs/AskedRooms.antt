@@ -12,8 +12,8 @@ use Rattle.ring_messages.specs.Bodies.{Ask}
 use Rattle.fault_handler.specs.Desks.{DeskState}
 use Rattle.fault_handler.specs.Outcomes.{Turn, Moved}
 use Rattle.lock_validate.specs.Releases.{release_ask}
-use Rattle.desk_laws.specs.Causes.{Cause}
-use Rattle.desk_laws.specs.Turns.{Says}
+use Rattle.lock_validate.specs.Causes.{Cause}
+use Rattle.lock_validate.specs.Turns.{Says}
 use Rattle.node_runs.specs.Setups.{Setup, IsSetup, given}
 use Rattle.node_runs.specs.NodeStates.{Asked, OpenOp, ProcState, NodeState, proc_of}
 use Rattle.node_runs.specs.Incomings.{Incoming}
@@ -24,9 +24,9 @@ use Rattle.node_runs.specs.Runs.{World, Choice, calls_after, world_after}
 use Rattle.node_runs.specs.CallsKeep.{EachOf}
 use Rattle.node_runs.proofs.Calls.{put-same, put-other}
 use Rattle.node_runs.proofs.SettingUp.{setup-procs}
-use Rattle.run_calls.proofs.HearingRuns.{IsKeptNext, every-kept-run}
-use Rattle.run_desks.specs.DeskSteps.{IsHomeTurn, OpMove, apart, moves, NodeMove, still, moved, turn_call}
-use Rattle.run_desks.proofs.EventMoves.{desk-moves}
+use Rattle.run_states.proofs.HearingRuns.{IsKeptNext, every-kept-run}
+use Rattle.run_states.specs.DeskSteps.{IsHomeTurn, OpMove, apart, moves, NodeMove, still, moved, turn_call}
+use Rattle.run_states.proofs.EventMoves.{desk-moves}
 
 -- a room that the opening allows
 abbrev pub IsRoomAsked : Start → Ask → Type 0

@@ -26,8 +26,8 @@ use Rattle.node_runs.specs.Notes.{Note}
 use Rattle.node_runs.specs.Runs.{World, Noted}
 use Rattle.node_runs.specs.RunHistories.{all_told, items_from, settled_op}
 use Rattle.node_runs.specs.CallsKeep.{EachOf}
-use Rattle.run_calls.specs.DecidedReplies.{proc_at}
-use Rattle.run_desks.specs.ToldAnswers.{IsReleaseFault, IsFaultOf}
+use Rattle.run_states.specs.DecidedReplies.{proc_at}
+use Rattle.run_states.specs.ToldAnswers.{IsReleaseFault, IsFaultOf}
 use Rattle.run_effects.specs.NotedEffects.{noted_past}
 use Rattle.run_effects.specs.NotedDeeds.{note_deeds, noted_deeds}
 use Rattle.run_moves.specs.DeskReplies.{before_note, MayBeThere, IsOneStoreNote}

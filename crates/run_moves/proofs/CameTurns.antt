@@ -30,13 +30,13 @@ use Rattle.fault_handler.specs.PageReplies.{PageAnswer}
 use Rattle.fault_handler.specs.Invariant.{IsProc, IsDesk, IsAllowed as IsAllowedTask, MayWork, is_access}
 use Rattle.fault_handler.specs.Next.{IsTaskOf, IsCallOf}
 use Rattle.fault_handler.proofs.MovingOthers.{FitsOpen-task}
-use Rattle.desk_laws.specs.Causes.{Cause, IsPageAnswer, IsOf}
-use Rattle.desk_laws.specs.Loading.{IsTaskIn}
-use Rattle.desk_laws.specs.Refusals.{Refuses}
-use Rattle.desk_laws.specs.Turns.{Says}
+use Rattle.lock_validate.specs.Causes.{Cause, IsPageAnswer, IsOf}
+use Rattle.lock_validate.specs.Loading.{IsTaskIn}
+use Rattle.lock_validate.specs.Refusals.{Refuses}
+use Rattle.lock_validate.specs.Turns.{Says}
 use Rattle.node_runs.specs.NodeStates.{BegunOp, OpenOp}
-use Rattle.run_desks.specs.OpenTasks.{IsWithin, IsAtSpot, IsPlacedAt, IsTaskWithin}
-use Rattle.run_desks.proofs.OpenTasks.{open_task_of, answer-task}
+use Rattle.run_states.specs.OpenTasks.{IsWithin, IsAtSpot, IsPlacedAt, IsTaskWithin}
+use Rattle.run_states.proofs.OpenTasks.{open_task_of, answer-task}
 use Rattle.run_effects.specs.Targets.{target_at}
 use Rattle.run_moves.proofs.PartBytes.{in-page}
 use Rattle.run_moves.proofs.DeskTurns.{IsLike, load-done, store-done}

@@ -11,8 +11,8 @@ use Rattle.node_runs.specs.NodeStates.{OpenOp}
 use Rattle.node_runs.specs.Runs.{World}
 use Rattle.node_runs.specs.RunHistories.{pending_in, pending_at, pending_to, doing_of}
 use Rattle.node_runs.specs.CallsKeep.{EachOf}
-use Rattle.run_calls.specs.DecidedReplies.{proc_at}
-use Rattle.run_calls.proofs.Following.{EachOf-append}
+use Rattle.run_states.specs.DecidedReplies.{proc_at}
+use Rattle.run_states.proofs.Following.{EachOf-append}
 
 -- two lists that differ at one place
 pub record AreCut (a b xs ys : List Pending) : Type 0 where

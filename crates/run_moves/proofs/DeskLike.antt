@@ -29,7 +29,7 @@ use Rattle.node_runs.specs.NodesKeep.{IsTimely}
 use Rattle.node_runs.specs.Runs.{World, Choice, world_after}
 use Rattle.node_runs.specs.CallsKeep.{EachOf}
 use Rattle.node_runs.proofs.Running.{AreKept, run-keeps}
-use Rattle.run_calls.specs.DecidedReplies.{proc_at}
+use Rattle.run_states.specs.DecidedReplies.{proc_at}
 use Rattle.run_effects.specs.NotedEffects.{noted_past}
 use Rattle.run_effects.specs.NotedDeeds.{noted_deeds}
 use Rattle.run_effects.specs.States.{AreStatesTold}

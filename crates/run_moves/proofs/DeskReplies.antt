@@ -30,8 +30,8 @@ use Rattle.fault_handler.specs.Conditions.{IsIdle}
 use Rattle.fault_handler.specs.Invariant.{IsProc}
 use Rattle.fault_handler.specs.Next.{IsCallOf, release_op}
 use Rattle.lock_validate.specs.Releases.{begin_unlock_of, begin_delete_of}
-use Rattle.desk_laws.specs.Causes.{Cause, MayCome, IsOf, op_of}
-use Rattle.desk_laws.specs.Turns.{Says}
+use Rattle.lock_validate.specs.Causes.{Cause, MayCome, IsOf, op_of}
+use Rattle.lock_validate.specs.Turns.{Says}
 use Rattle.node_runs.specs.Setups.{Setup, IsSetup, Given, given}
 use Rattle.node_runs.specs.NodeStates.{Asked, Await, BegunOp, OpenOp, NodeState, proc_of, name_of}
 use Rattle.node_runs.specs.Operations.{begun, gone_on, Said}
@@ -48,18 +48,18 @@ use Rattle.node_runs.proofs.Calls.{put-same}
 use Rattle.node_runs.proofs.Doing.{step_of-did}
 use Rattle.node_runs.proofs.Running.{run-keeps}
 use Rattle.node_runs.proofs.SettingUp.{setup-gives, given-procs}
-use Rattle.run_calls.specs.DecidedReplies.{proc_at}
-use Rattle.run_calls.specs.Progress.{IsApart}
-use Rattle.run_desks.specs.DeskSteps.{IsHomeTurn, IsStageOf, IsAt, OpMove, apart, moves, doing_after, turn_note, NodeMove, still, moved}
-use Rattle.run_desks.proofs.OpenTasks.{open_task_of, runs-within}
-use Rattle.run_desks.proofs.TaskPlaces.{runs-placed}
+use Rattle.run_states.specs.DecidedReplies.{proc_at}
+use Rattle.run_states.specs.Progress.{IsApart}
+use Rattle.run_states.specs.DeskSteps.{IsHomeTurn, IsStageOf, IsAt, OpMove, apart, moves, doing_after, turn_note, NodeMove, still, moved}
+use Rattle.run_states.proofs.OpenTasks.{open_task_of, runs-within}
+use Rattle.run_states.proofs.TaskPlaces.{runs-placed}
 use Rattle.run_effects.specs.NotedEffects.{note_effects, noted_past}
 use Rattle.run_effects.specs.NotedDeeds.{note_deeds, noted_deeds}
 use Rattle.run_effects.proofs.States.{states-told}
 use Rattle.run_effects.proofs.Targets.{targets-told, mapped-are}
 use Rattle.run_contents.specs.Stores.{AreReadsRight}
 use Rattle.run_moves.specs.DeskReplies.{IsOneStoreNote, AreDeskReplies}
-use Rattle.run_desks.proofs.EventMoves.{desk-moves}
+use Rattle.run_states.proofs.EventMoves.{desk-moves}
 use Rattle.run_moves.proofs.ReplyMoving.{IsEventOf, event-of}
 use Rattle.run_moves.proofs.DeskTurns.{IsLike, IsSo, lock-so, unlock-so, delete-so, length-so, load-so, store-so}
 use Rattle.run_moves.proofs.MapTurns.{AreLike, map-so, unmap-so}

@@ -31,11 +31,11 @@ use Rattle.node_runs.specs.CallsKeep.{EachOf}
 use Rattle.node_runs.specs.Replays.{Held, first_held, after_if, IsAnswered, AreAnswered}
 use Rattle.node_runs.proofs.Replaying.{replays-are}
 use Rattle.node_runs.proofs.SettingUp.{setup-procs}
-use Rattle.run_calls.proofs.HearingRuns.{every-kept-run}
-use Rattle.run_homes.specs.DecidedEffects.{home_effects, effect_if, noted_effect, decided_effects}
-use Rattle.run_homes.specs.HistoryHomes.{held_then, past_then, AreHomesThen}
-use Rattle.run_homes.proofs.HistoryHomes.{homes-always}
-use Rattle.run_homes.proofs.Presence.{made-home}
+use Rattle.run_states.proofs.HearingRuns.{every-kept-run}
+use Rattle.run_states.specs.DecidedEffects.{home_effects, effect_if, noted_effect, decided_effects}
+use Rattle.run_states.specs.HistoryHomes.{held_then, past_then, AreHomesThen}
+use Rattle.run_states.proofs.HistoryHomes.{homes-always}
+use Rattle.run_states.proofs.Presence.{made-home}
 use Rattle.run_effects.specs.NotedEffects.{noted_past}
 use Rattle.run_effects.proofs.NotedEffects.{effects-noted}
 use Rattle.run_moves.proofs.PresentRooms.{node-then}

@@ -14,7 +14,7 @@ use Rattle.node_runs.specs.Runs.{World, Noted, Choice, world_with}
 use Rattle.node_runs.specs.RunHistories.{doing_of, items_of, items_from}
 use Rattle.node_runs.proofs.Worlds.{place_at}
 use Rattle.node_runs.proofs.Calls.{put-same, put-other}
-use Rattle.run_calls.specs.DecidedReplies.{proc_at}
+use Rattle.run_states.specs.DecidedReplies.{proc_at}
 use Rattle.run_moves.specs.MovedHistories.{IsMovedOrSame}
 use Rattle.run_moves.proofs.SameItems.{items-append}
 

@@ -38,27 +38,27 @@ use Rattle.node_runs.proofs.Decisions.{decisions-are}
 use Rattle.node_runs.proofs.SettingUp.{setup-procs}
 use Rattle.node_runs.proofs.Ticks.{step_of-tick}
 use Rattle.node_runs.proofs.EachOf.{EachOf-at}
-use Rattle.run_calls.specs.DecidedReplies.{proc_at, WasDecided}
-use Rattle.run_calls.specs.Heard.{IsToldByDecision}
-use Rattle.run_calls.specs.LastCalls.{IsOpenNumber}
-use Rattle.run_calls.specs.Placed.{IsBegin, IsEndOf, IsPlaced, AreEndsPlaced}
-use Rattle.run_calls.specs.Progress.{IsSettling, IsPart}
-use Rattle.run_calls.proofs.Slots.{settles}
-use Rattle.run_calls.proofs.Walks.{others-not}
-use Rattle.run_calls.proofs.Hearing.{place-none}
-use Rattle.run_calls.proofs.HearingRuns.{IsKeptNext, heard-are, event}
-use Rattle.run_calls.proofs.Placing.{ends-placed}
-use Rattle.run_calls.proofs.Rising.{notes-rise}
-use Rattle.run_calls.specs.DecisionOrder.{IsDecidedAbove}
-use Rattle.run_calls.specs.SingleActs.{IsActOf}
-use Rattle.run_calls.proofs.DecisionOrder.{decisions-rise}
-use Rattle.run_calls.proofs.SingleActs.{open-no-act}
-use Rattle.run_calls.proofs.ToldRising.{told-rises}
-use Rattle.run_desks.specs.AskedHomes.{IsOpenAtHome}
-use Rattle.run_desks.specs.KeptLocks.{IsKeptWithout}
-use Rattle.run_desks.proofs.AskedHomes.{opens-at-homes}
-use Rattle.run_desks.proofs.KeptLocks.{kept-without}
-use Rattle.run_desks.proofs.ToldAnswers.{calling-own}
+use Rattle.run_states.specs.DecidedReplies.{proc_at, WasDecided}
+use Rattle.run_states.specs.Heard.{IsToldByDecision}
+use Rattle.run_states.specs.LastCalls.{IsOpenNumber}
+use Rattle.run_states.specs.Placed.{IsBegin, IsEndOf, IsPlaced, AreEndsPlaced}
+use Rattle.run_states.specs.Progress.{IsSettling, IsPart}
+use Rattle.run_states.proofs.Slots.{settles}
+use Rattle.run_states.proofs.Walks.{others-not}
+use Rattle.run_states.proofs.Hearing.{place-none}
+use Rattle.run_states.proofs.HearingRuns.{IsKeptNext, heard-are, event}
+use Rattle.run_states.proofs.Placing.{ends-placed}
+use Rattle.run_states.proofs.Rising.{notes-rise}
+use Rattle.run_states.specs.DecisionOrder.{IsDecidedAbove}
+use Rattle.run_states.specs.SingleActs.{IsActOf}
+use Rattle.run_states.proofs.DecisionOrder.{decisions-rise}
+use Rattle.run_states.proofs.SingleActs.{open-no-act}
+use Rattle.run_states.proofs.ToldRising.{told-rises}
+use Rattle.run_states.specs.AskedHomes.{IsOpenAtHome}
+use Rattle.run_states.specs.KeptLocks.{IsKeptWithout}
+use Rattle.run_states.proofs.AskedHomes.{opens-at-homes}
+use Rattle.run_states.proofs.KeptLocks.{kept-without}
+use Rattle.run_states.proofs.ToldAnswers.{calling-own}
 use Rattle.run_effects.specs.NotedDeeds.{noted_deeds}
 use Rattle.run_moves.specs.DeskReplies.{before_note, IsOneStoreNote}
 use Rattle.run_moves.specs.HomeReplies.{IsHomeReply}
@@ -69,7 +69,7 @@ use Rattle.run_moves.proofs.Answers.{faults-are}
 use Rattle.run_moves.proofs.Cuts.{AreCut, all-of, pending-each, pending-cut}
 use Rattle.run_moves.proofs.Events.{after, moved-history}
 use Rattle.run_moves.proofs.InOrder.{told-op, acts-in-order}
-use Rattle.run_calls.proofs.ItemViews.{IsAmong, found, absent, decided-last, found-call}
+use Rattle.run_states.proofs.ItemViews.{IsAmong, found, absent, decided-last, found-call}
 use Rattle.run_moves.proofs.Orders.{ended-is}
 use Rattle.run_moves.proofs.SameItems.{items-same, untold-same, SettlingOpen, open-settling}
 use Rattle.run_moves.proofs.Standing.{items-at, home-is, since-of, no-act}

@@ -40,14 +40,14 @@ use Rattle.node_runs.proofs.Decisions.{decisions-are}
 use Rattle.node_runs.proofs.Replaying.{replays-are}
 use Rattle.node_runs.proofs.SettingUp.{setup-procs}
 use Rattle.node_runs.proofs.EachOf.{EachOf-behind}
-use Rattle.run_desks.specs.ToldAnswers.{TellsReply}
-use Rattle.run_desks.proofs.AskedHomes.{calls-at-homes}
-use Rattle.run_homes.specs.DecidedEffects.{home_effects, decided_effects}
-use Rattle.run_homes.specs.HistoryHomes.{held_then, past_then, AreHomesThen}
-use Rattle.run_homes.specs.HomeWords.{SaysSo}
-use Rattle.run_homes.proofs.HistoryHomes.{answered-behind, meant-at, homes-always}
-use Rattle.run_homes.proofs.HomeRows.{IsMeantAt}
-use Rattle.run_homes.proofs.HomeWords.{words-are}
+use Rattle.run_states.specs.ToldAnswers.{TellsReply}
+use Rattle.run_states.proofs.AskedHomes.{calls-at-homes}
+use Rattle.run_states.specs.DecidedEffects.{home_effects, decided_effects}
+use Rattle.run_states.specs.HistoryHomes.{held_then, past_then, AreHomesThen}
+use Rattle.run_states.specs.HomeWords.{SaysSo}
+use Rattle.run_states.proofs.HistoryHomes.{answered-behind, meant-at, homes-always}
+use Rattle.run_states.proofs.HomeRows.{IsMeantAt}
+use Rattle.run_states.proofs.HomeWords.{words-are}
 use Rattle.run_effects.specs.NotedEffects.{noted_past, AreEffectsNoted}
 use Rattle.run_moves.specs.HomeReplies.{IsHomeReply, AreHomeReplies}
 use Rattle.run_moves.proofs.AskedRooms.{IsRoomAsked, rooms-asked}

@@ -26,20 +26,20 @@ use Rattle.node_runs.specs.DecidedCalls.{IsDecided}
 use Rattle.node_runs.proofs.Decisions.{decisions-are}
 use Rattle.node_runs.proofs.SettingUp.{setup-procs}
 use Rattle.node_runs.proofs.EachOf.{EachOf-at}
-use Rattle.run_calls.specs.DecidedReplies.{proc_at, IsDecisionOf}
-use Rattle.run_calls.specs.LastCalls.{HasNumber}
-use Rattle.run_calls.specs.Progress.{IsSettling}
-use Rattle.run_calls.proofs.Slots.{settles}
-use Rattle.run_calls.proofs.HearingRuns.{same-ask}
-use Rattle.run_calls.proofs.Rising.{notes-rise}
-use Rattle.run_calls.proofs.Placing.{ends-placed}
-use Rattle.run_calls.specs.DecisionOrder.{IsDecidedBelow}
-use Rattle.run_calls.proofs.ToldRising.{told-rises}
-use Rattle.run_desks.specs.ToldAnswers.{IsLockRefusal, IsLocalReply, IsAtDesk, IsTold}
-use Rattle.run_desks.proofs.ToldAnswers.{told-are}
-use Rattle.run_homes.proofs.HomeEffects.{same-home}
+use Rattle.run_states.specs.DecidedReplies.{proc_at, IsDecisionOf}
+use Rattle.run_states.specs.LastCalls.{HasNumber}
+use Rattle.run_states.specs.Progress.{IsSettling}
+use Rattle.run_states.proofs.Slots.{settles}
+use Rattle.run_states.proofs.HearingRuns.{same-ask}
+use Rattle.run_states.proofs.Rising.{notes-rise}
+use Rattle.run_states.proofs.Placing.{ends-placed}
+use Rattle.run_states.specs.DecisionOrder.{IsDecidedBelow}
+use Rattle.run_states.proofs.ToldRising.{told-rises}
+use Rattle.run_states.specs.ToldAnswers.{IsLockRefusal, IsLocalReply, IsAtDesk, IsTold}
+use Rattle.run_states.proofs.ToldAnswers.{told-are}
+use Rattle.run_states.proofs.HomeEffects.{same-home}
 use Rattle.run_moves.proofs.Alone.{alone-are}
-use Rattle.run_calls.proofs.ItemViews.{IsAmong, IsItemAt, did, faulted, answered, left_open, opened, each-item, decided-last}
+use Rattle.run_states.proofs.ItemViews.{IsAmong, IsItemAt, did, faulted, answered, left_open, opened, each-item, decided-last}
 use Rattle.run_moves.proofs.Orders.{once-each, told-earlier, told-before-begin}
 use Rattle.run_moves.proofs.Refusals.{IsRefusal, IsNoteRefusal, refusals-are}
 use Rattle.run_moves.proofs.Standing.{home-is, told-less}

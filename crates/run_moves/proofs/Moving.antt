@@ -34,10 +34,10 @@ use Rattle.node_runs.proofs.Running.{run-keeps}
 use Rattle.node_runs.proofs.SettingUp.{setup-procs}
 use Rattle.node_runs.proofs.Ticks.{step_of-tick}
 use Rattle.node_runs.proofs.Worlds.{IsNext, place_at, next-is}
-use Rattle.run_calls.specs.DecidedReplies.{proc_at}
-use Rattle.run_calls.specs.Progress.{IsSettling, IsPart, IsPartDoing, Progress, opens, goes_on, again, did, told, pauses, is_done, IsApart, rests, comes}
-use Rattle.run_calls.proofs.HearingRuns.{IsKeptNext, proc-step, heard-are, event}
-use Rattle.run_calls.proofs.Replies.{replies-are}
+use Rattle.run_states.specs.DecidedReplies.{proc_at}
+use Rattle.run_states.specs.Progress.{IsSettling, IsPart, IsPartDoing, Progress, opens, goes_on, again, did, told, pauses, is_done, IsApart, rests, comes}
+use Rattle.run_states.proofs.HearingRuns.{IsKeptNext, proc-step, heard-are, event}
+use Rattle.run_states.proofs.Replies.{replies-are}
 use Rattle.run_moves.specs.KnownRuns.{IsKnown, IsAlwaysKnown}
 use Rattle.run_moves.specs.MovedHistories.{IsMovedOrSame, stays, moves}
 use Rattle.run_moves.proofs.Cuts.{AreCut, pending-same, pending-cut, pending-each}

@@ -17,15 +17,15 @@ use Rattle.node_runs.specs.CallsKeep.{EachOf}
 use Rattle.node_runs.specs.DecidedCalls.{IsOther, IsFirst, AreDecidedOnce}
 use Rattle.node_runs.proofs.Receiving.{EachOf-more}
 use Rattle.node_runs.proofs.EachOf.{EachOf-at}
-use Rattle.run_calls.specs.DecidedReplies.{IsDecisionOf}
-use Rattle.run_calls.specs.Placed.{AreRisingNotes, IsDecidedBehind, IsEndOf, IsPlaced, AreEndsPlaced}
-use Rattle.run_calls.proofs.Slots.{place-is, same_place-refl}
-use Rattle.run_calls.proofs.Walks.{first-other, other-not, others-not, settled-decides, SomeOf-more}
-use Rattle.run_calls.proofs.HearingRuns.{SomeOf-both}
-use Rattle.run_calls.specs.DecisionOrder.{IsDecidedBelow, IsDecidedAbove, AreDecisionsRising}
-use Rattle.run_calls.specs.SingleActs.{IsToldLater, AreToldRising}
+use Rattle.run_states.specs.DecidedReplies.{IsDecisionOf}
+use Rattle.run_states.specs.Placed.{AreRisingNotes, IsDecidedBehind, IsEndOf, IsPlaced, AreEndsPlaced}
+use Rattle.run_states.proofs.Slots.{place-is, same_place-refl}
+use Rattle.run_states.proofs.Walks.{first-other, other-not, others-not, settled-decides, SomeOf-more}
+use Rattle.run_states.proofs.HearingRuns.{SomeOf-both}
+use Rattle.run_states.specs.DecisionOrder.{IsDecidedBelow, IsDecidedAbove, AreDecisionsRising}
+use Rattle.run_states.specs.SingleActs.{IsToldLater, AreToldRising}
 use Rattle.run_effects.specs.NotedDeeds.{note_deeds}
-use Rattle.run_calls.proofs.ItemViews.{IsAmong}
+use Rattle.run_states.proofs.ItemViews.{IsAmong}
 use Rattle.run_moves.proofs.Alone.{Alone, here, later, IsAloneEnd, AreAloneEnds}
 
 -- notes that are cut at one of them

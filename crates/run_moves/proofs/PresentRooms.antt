@@ -34,11 +34,11 @@ use Rattle.node_runs.specs.Runs.{Noted}
 use Rattle.node_runs.specs.CallsKeep.{EachOf}
 use Rattle.node_runs.specs.Replays.{Held, after_note, after_if, first_held, IsAnswered, AreAnswered}
 use Rattle.node_runs.specs.RunHistories.{settled_op, change_reply}
-use Rattle.run_desks.specs.AskedHomes.{IsAtHome}
-use Rattle.run_homes.specs.DecidedEffects.{home_effects, effect_if, noted_effect, decided_effects}
-use Rattle.run_homes.specs.HistoryHomes.{held_then}
-use Rattle.run_homes.proofs.HomeRows.{IsMeantAt, kept-replay}
-use Rattle.run_homes.proofs.Presence.{deleted-home, made-home, node-each}
+use Rattle.run_states.specs.AskedHomes.{IsAtHome}
+use Rattle.run_states.specs.DecidedEffects.{home_effects, effect_if, noted_effect, decided_effects}
+use Rattle.run_states.specs.HistoryHomes.{held_then}
+use Rattle.run_states.proofs.HomeRows.{IsMeantAt, kept-replay}
+use Rattle.run_states.proofs.Presence.{deleted-home, made-home, node-each}
 use Rattle.run_moves.proofs.ShownObjects.{shown, row_shown, without, changed-shown, without-shown, pushed-there, pushed-elsewhere, passed-elsewhere, taken-there, taken-elsewhere, highest, numbered-highest, named-below, some-named}
 
 abbrev shown_there : Start → ℕ → List StoreEffect → List (ℕ × ℕ)

@@ -13,10 +13,10 @@ use Rattle.fault_handler.specs.Accesses.{DeskOp}
 use Rattle.fault_handler.specs.Desks.{DeskState, task_of}
 use Rattle.fault_handler.specs.Outcomes.{Turn, Moved}
 use Rattle.fault_handler.specs.Next.{release_op, IsTaskOf, IsCallOf}
-use Rattle.desk_laws.specs.Causes.{Cause, MayCome, IsOf, op_of}
-use Rattle.desk_laws.specs.Loading.{IsTaskIn}
-use Rattle.desk_laws.specs.Refusals.{Refuses}
-use Rattle.desk_laws.specs.Turns.{Says}
+use Rattle.lock_validate.specs.Causes.{Cause, MayCome, IsOf, op_of}
+use Rattle.lock_validate.specs.Loading.{IsTaskIn}
+use Rattle.lock_validate.specs.Refusals.{Refuses}
+use Rattle.lock_validate.specs.Turns.{Says}
 use Rattle.node_runs.specs.Setups.{Setup, IsSetup, Given, given}
 use Rattle.node_runs.specs.NodeStates.{BegunOp, NodeState, proc_of, name_of}
 use Rattle.node_runs.specs.Incomings.{Incoming}
@@ -27,10 +27,10 @@ use Rattle.node_runs.specs.Runs.{World, Noted, Choice, world_after}
 use Rattle.node_runs.specs.CallsKeep.{EachOf}
 use Rattle.node_runs.specs.Doings.{ticked}
 use Rattle.node_runs.proofs.SettingUp.{setup-procs}
-use Rattle.run_calls.specs.Progress.{IsApart}
-use Rattle.run_calls.proofs.HearingRuns.{IsKeptNext, every-kept-run}
-use Rattle.run_desks.specs.DeskSteps.{IsStageOf, IsHomeBegin, IsHomeTurn, OpMove, apart, moves, turn_note, NodeMove, still, moved}
-use Rattle.run_desks.proofs.EventMoves.{desk-moves}
+use Rattle.run_states.specs.Progress.{IsApart}
+use Rattle.run_states.proofs.HearingRuns.{IsKeptNext, every-kept-run}
+use Rattle.run_states.specs.DeskSteps.{IsStageOf, IsHomeBegin, IsHomeTurn, OpMove, apart, moves, turn_note, NodeMove, still, moved}
+use Rattle.run_states.proofs.EventMoves.{desk-moves}
 
 abbrev pub IsRefusal : Start → Op → Reply → Type 0
 IsRefusal opening (ops.New home kind room) reply = (is_node opening home && nat_le room opening.greatest) ≡ false

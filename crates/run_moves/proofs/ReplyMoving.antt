@@ -5,7 +5,7 @@ use Rattle.node_runs.specs.NodesKeep.{IsTimely}
 use Rattle.node_runs.specs.Runs.{World, Noted, Choice, then_next, next_if, receiving, after_step, world_if, world_after}
 use Rattle.node_runs.proofs.SettingUp.{setup-procs}
 use Rattle.node_runs.proofs.Worlds.{place_at}
-use Rattle.run_calls.proofs.HearingRuns.{IsKeptNext, every-kept-run}
+use Rattle.run_states.proofs.HearingRuns.{IsKeptNext, every-kept-run}
 
 -- the event that left this note, after these
 pub record IsEventOf (s : Setup) (older : List Noted) (j : Noted) : Type 0 where

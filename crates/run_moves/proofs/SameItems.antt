@@ -23,12 +23,12 @@ use Rattle.node_runs.specs.CallsKeep.{IsCallAt, IsOpenAt, EachOf}
 use Rattle.node_runs.specs.DecidedCalls.{IsDecided}
 use Rattle.node_runs.proofs.Calls.{calls-are}
 use Rattle.node_runs.proofs.SettingUp.{setup-procs}
-use Rattle.run_calls.specs.LastCalls.{HasNumber, IsOpenNumber}
-use Rattle.run_calls.specs.Progress.{IsSettling}
-use Rattle.run_calls.proofs.Slots.{IsSlot, IsNew, settles, place-is, same_place-refl}
-use Rattle.run_calls.proofs.HearingRuns.{same-ask}
-use Rattle.run_homes.proofs.HomeEffects.{same-home}
-use Rattle.run_calls.proofs.ItemViews.{FoundCall, found, absent, decided-last, found-call}
+use Rattle.run_states.specs.LastCalls.{HasNumber, IsOpenNumber}
+use Rattle.run_states.specs.Progress.{IsSettling}
+use Rattle.run_states.proofs.Slots.{IsSlot, IsNew, settles, place-is, same_place-refl}
+use Rattle.run_states.proofs.HearingRuns.{same-ask}
+use Rattle.run_states.proofs.HomeEffects.{same-home}
+use Rattle.run_states.proofs.ItemViews.{FoundCall, found, absent, decided-last, found-call}
 
 -- the items of a trace that is cut in two
 pub items-append : (w : World) (ts : List Told) (newer older : List Noted) → items_from w ts (newer ++ older) ≡ items_from w ts newer ++ items_from w ts older

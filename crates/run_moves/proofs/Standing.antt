@@ -21,17 +21,17 @@ use Rattle.node_runs.specs.CallsKeep.{EachOf}
 use Rattle.node_runs.specs.DecidedCalls.{IsDecided, IsOther}
 use Rattle.node_runs.proofs.SettingUp.{setup-procs}
 use Rattle.node_runs.proofs.EachOf.{EachOf-at}
-use Rattle.run_calls.specs.DecidedReplies.{proc_at, IsDecisionOf}
-use Rattle.run_calls.specs.Heard.{IsOpenSince, IsDoingSince}
-use Rattle.run_calls.specs.LastCalls.{HasNumber}
-use Rattle.run_calls.proofs.Walks.{other-not}
-use Rattle.run_calls.proofs.HearingRuns.{heard-are}
-use Rattle.run_desks.specs.AskedHomes.{IsAtHome}
-use Rattle.run_desks.proofs.AskedHomes.{calls-at-homes}
-use Rattle.run_homes.proofs.HistoryHomes.{meant-at}
-use Rattle.run_homes.proofs.HomeRows.{IsMeantAt}
-use Rattle.run_calls.specs.DecisionOrder.{IsDecidedBelow}
-use Rattle.run_calls.proofs.ItemViews.{IsAmong, IsItemAt, did, faulted, answered, left_open, opened, each-item}
+use Rattle.run_states.specs.DecidedReplies.{proc_at, IsDecisionOf}
+use Rattle.run_states.specs.Heard.{IsOpenSince, IsDoingSince}
+use Rattle.run_states.specs.LastCalls.{HasNumber}
+use Rattle.run_states.proofs.Walks.{other-not}
+use Rattle.run_states.proofs.HearingRuns.{heard-are}
+use Rattle.run_states.specs.AskedHomes.{IsAtHome}
+use Rattle.run_states.proofs.AskedHomes.{calls-at-homes}
+use Rattle.run_states.proofs.HistoryHomes.{meant-at}
+use Rattle.run_states.proofs.HomeRows.{IsMeantAt}
+use Rattle.run_states.specs.DecisionOrder.{IsDecidedBelow}
+use Rattle.run_states.proofs.ItemViews.{IsAmong, IsItemAt, did, faulted, answered, left_open, opened, each-item}
 use Rattle.run_moves.proofs.Orders.{IsDecidedAfter}
 
 settled-at : (home : ℕ) (ask : Ask) (op : Op) → IsAtHome home ask → settled_op home ask ≡ Some op → home_of op ≡ Some home

@@ -37,28 +37,28 @@ use Rattle.node_runs.proofs.Receiving.{EachOf-more}
 use Rattle.node_runs.proofs.Decisions.{decisions-are}
 use Rattle.node_runs.proofs.SettingUp.{setup-gives, setup-procs}
 use Rattle.node_runs.proofs.EachOf.{EachOf-behind}
-use Rattle.run_calls.specs.DecidedReplies.{proc_at, IsDecisionOf}
-use Rattle.run_calls.specs.Placed.{AreRisingNotes, IsSettledBy, IsDecidedBehind, IsEndOf, IsPlaced}
-use Rattle.run_calls.specs.Progress.{IsSettling, told_of}
-use Rattle.run_calls.proofs.Slots.{IsSlot, IsNew, settles, place-is}
-use Rattle.run_calls.proofs.Walks.{settled-decides, SomeOf-more}
-use Rattle.run_calls.proofs.Hearing.{new-told}
-use Rattle.run_calls.specs.NotedEntries.{noted_entries}
-use Rattle.run_calls.proofs.HistoryEntries.{history-entries}
-use Rattle.run_calls.proofs.HearingRuns.{IsKeptNext, event, event-incoming}
-use Rattle.run_calls.proofs.Following.{EachOf-append}
-use Rattle.run_calls.proofs.Placing.{ends-placed}
-use Rattle.run_calls.proofs.Rising.{notes-rise, history-rises}
-use Rattle.run_calls.specs.DecisionOrder.{AreDecisionsRising}
-use Rattle.run_calls.specs.SingleActs.{IsActOf}
-use Rattle.run_calls.proofs.DecisionOrder.{decisions-rise}
-use Rattle.run_desks.specs.KeptLocks.{IsKeptWithout}
-use Rattle.run_desks.specs.ToldAnswers.{TellsReply, IsFaultOf, IsSettled, IsEnded, IsToldBy, IsTold}
-use Rattle.run_desks.specs.WaitingReleases.{IsOpenRelease}
-use Rattle.run_desks.proofs.EndedOps.{step-ended}
-use Rattle.run_desks.proofs.KeptLocks.{kept-without}
-use Rattle.run_desks.proofs.ToldAnswers.{told-are}
-use Rattle.run_desks.proofs.WaitingReleases.{runs-release}
+use Rattle.run_states.specs.DecidedReplies.{proc_at, IsDecisionOf}
+use Rattle.run_states.specs.Placed.{AreRisingNotes, IsSettledBy, IsDecidedBehind, IsEndOf, IsPlaced}
+use Rattle.run_states.specs.Progress.{IsSettling, told_of}
+use Rattle.run_states.proofs.Slots.{IsSlot, IsNew, settles, place-is}
+use Rattle.run_states.proofs.Walks.{settled-decides, SomeOf-more}
+use Rattle.run_states.proofs.Hearing.{new-told}
+use Rattle.run_states.specs.NotedEntries.{noted_entries}
+use Rattle.run_states.proofs.HistoryEntries.{history-entries}
+use Rattle.run_states.proofs.HearingRuns.{IsKeptNext, event, event-incoming}
+use Rattle.run_states.proofs.Following.{EachOf-append}
+use Rattle.run_states.proofs.Placing.{ends-placed}
+use Rattle.run_states.proofs.Rising.{notes-rise, history-rises}
+use Rattle.run_states.specs.DecisionOrder.{AreDecisionsRising}
+use Rattle.run_states.specs.SingleActs.{IsActOf}
+use Rattle.run_states.proofs.DecisionOrder.{decisions-rise}
+use Rattle.run_states.specs.KeptLocks.{IsKeptWithout}
+use Rattle.run_states.specs.ToldAnswers.{TellsReply, IsFaultOf, IsSettled, IsEnded, IsToldBy, IsTold}
+use Rattle.run_states.specs.WaitingReleases.{IsOpenRelease}
+use Rattle.run_states.proofs.EndedOps.{step-ended}
+use Rattle.run_states.proofs.KeptLocks.{kept-without}
+use Rattle.run_states.proofs.ToldAnswers.{told-are}
+use Rattle.run_states.proofs.WaitingReleases.{runs-release}
 use Rattle.run_effects.specs.NotedEffects.{noted_past}
 use Rattle.run_effects.specs.NotedDeeds.{noted_deeds}
 use Rattle.run_moves.specs.HomeReplies.{IsHomeReply}
@@ -70,7 +70,7 @@ use Rattle.run_moves.proofs.Begins.{BeginSplit, begin-split, WritesKept, fault-m
 use Rattle.run_moves.proofs.Cuts.{AreCut, all-of, pending-each}
 use Rattle.run_moves.proofs.Events.{after, items-cut, moved-history}
 use Rattle.run_moves.proofs.InOrder.{told-op}
-use Rattle.run_calls.proofs.ItemViews.{IsAmong}
+use Rattle.run_states.proofs.ItemViews.{IsAmong}
 use Rattle.run_moves.proofs.Orders.{NoteSplit, note-split, each-middle, each-front, once-around, once-each, rising-around, above-around}
 use Rattle.run_moves.proofs.SameItems.{items-same, told-same, fault-was, fault-is, answer-was, answer-is}
 use Rattle.run_moves.proofs.TellsThen.{ToldThen, alone-quiet}

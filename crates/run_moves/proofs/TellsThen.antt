@@ -15,8 +15,8 @@ use Rattle.node_runs.specs.Notes.{Told}
 use Rattle.node_runs.specs.Runs.{Noted, World}
 use Rattle.node_runs.specs.RunHistories.{is_fault, all_told}
 use Rattle.node_runs.specs.CallsKeep.{EachOf}
-use Rattle.run_calls.specs.NotedEntries.{noted_entries}
-use Rattle.run_calls.specs.DecidedReplies.{IsDecisionOf}
+use Rattle.run_states.specs.NotedEntries.{noted_entries}
+use Rattle.run_states.specs.DecidedReplies.{IsDecisionOf}
 use Rattle.run_effects.specs.NotedDeeds.{note_deeds, noted_deeds}
 use Rattle.run_moves.proofs.Alone.{Alone, here, later}
 use Rattle.run_moves.proofs.Begins.{own-append}

@@ -22,22 +22,22 @@ use Rattle.node_runs.proofs.Decisions.{decisions-are}
 use Rattle.node_runs.proofs.SettingUp.{setup-procs}
 use Rattle.node_runs.proofs.Worlds.{place_at}
 use Rattle.node_runs.proofs.EachOf.{EachOf-at, EachOf-behind}
-use Rattle.run_calls.specs.DecidedReplies.{proc_at, IsDecisionOf}
-use Rattle.run_calls.specs.NotedEntries.{noted_entries, entries_at}
-use Rattle.run_calls.specs.Placed.{AreRisingNotes, IsEndOf, IsPlaced}
-use Rattle.run_calls.specs.Progress.{told_of, Progress, opens, goes_on, again, did, told as was_told, pauses, is_done, IsApart, rests, comes}
-use Rattle.run_calls.proofs.Slots.{IsSlot, IsNew, off-slot}
-use Rattle.run_calls.proofs.Walks.{others-noted}
-use Rattle.run_calls.proofs.Hearing.{new-told}
-use Rattle.run_calls.proofs.HearingRuns.{IsKeptNext, proc-step, heard-are, event}
-use Rattle.run_calls.proofs.Placing.{ends-placed}
-use Rattle.run_calls.proofs.Rising.{notes-rise}
-use Rattle.run_calls.specs.SingleActs.{IsToldLater, AreToldRising}
-use Rattle.run_calls.proofs.ToldRising.{told-rises}
+use Rattle.run_states.specs.DecidedReplies.{proc_at, IsDecisionOf}
+use Rattle.run_states.specs.NotedEntries.{noted_entries, entries_at}
+use Rattle.run_states.specs.Placed.{AreRisingNotes, IsEndOf, IsPlaced}
+use Rattle.run_states.specs.Progress.{told_of, Progress, opens, goes_on, again, did, told as was_told, pauses, is_done, IsApart, rests, comes}
+use Rattle.run_states.proofs.Slots.{IsSlot, IsNew, off-slot}
+use Rattle.run_states.proofs.Walks.{others-noted}
+use Rattle.run_states.proofs.Hearing.{new-told}
+use Rattle.run_states.proofs.HearingRuns.{IsKeptNext, proc-step, heard-are, event}
+use Rattle.run_states.proofs.Placing.{ends-placed}
+use Rattle.run_states.proofs.Rising.{notes-rise}
+use Rattle.run_states.specs.SingleActs.{IsToldLater, AreToldRising}
+use Rattle.run_states.proofs.ToldRising.{told-rises}
 use Rattle.run_moves.specs.KnownRuns.{IsKnown, IsAlwaysKnown}
 use Rattle.run_moves.proofs.Alone.{alone-are}
 use Rattle.run_moves.proofs.Events.{after}
-use Rattle.run_calls.proofs.ItemViews.{IsAmong}
+use Rattle.run_states.proofs.ItemViews.{IsAmong}
 use Rattle.run_moves.proofs.Moving.{others-doing, cut-at, kept-next, was_timely, e_after, timely_after, legal-runs}
 use Rattle.run_moves.proofs.Orders.{each-middle, once-each, rising-around, told-before-begin}
 use Rattle.run_moves.proofs.Standing.{since-of}

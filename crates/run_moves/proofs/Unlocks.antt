@@ -35,16 +35,16 @@ use Rattle.node_runs.proofs.Replaying.{replays-are}
 use Rattle.node_runs.proofs.SettingUp.{setup-procs}
 use Rattle.node_runs.proofs.Worlds.{IsNext, next-is, place_at, initial-run}
 use Rattle.node_runs.proofs.EachOf.{EachOf-at, EachOf-behind}
-use Rattle.run_calls.specs.DecidedReplies.{IsDecisionOf}
-use Rattle.run_calls.specs.NotedEntries.{noted_entries}
-use Rattle.run_calls.specs.Placed.{AreRisingNotes}
-use Rattle.run_calls.proofs.Following.{EachOf-append}
-use Rattle.run_calls.proofs.HistoryEntries.{history-entries}
-use Rattle.run_calls.proofs.Rising.{notes-rise}
-use Rattle.run_calls.proofs.Walks.{SomeOf-more}
-use Rattle.run_desks.specs.ToldAnswers.{IsLocalReply, IsAtDesk}
-use Rattle.run_desks.proofs.ToldAnswers.{told-are}
-use Rattle.run_homes.specs.HistoryHomes.{held_then}
+use Rattle.run_states.specs.DecidedReplies.{IsDecisionOf}
+use Rattle.run_states.specs.NotedEntries.{noted_entries}
+use Rattle.run_states.specs.Placed.{AreRisingNotes}
+use Rattle.run_states.proofs.Following.{EachOf-append}
+use Rattle.run_states.proofs.HistoryEntries.{history-entries}
+use Rattle.run_states.proofs.Rising.{notes-rise}
+use Rattle.run_states.proofs.Walks.{SomeOf-more}
+use Rattle.run_states.specs.ToldAnswers.{IsLocalReply, IsAtDesk}
+use Rattle.run_states.proofs.ToldAnswers.{told-are}
+use Rattle.run_states.specs.HistoryHomes.{held_then}
 use Rattle.run_effects.specs.NotedEffects.{noted_past}
 use Rattle.run_effects.specs.NotedDeeds.{noted_deeds}
 use Rattle.run_contents.specs.Releases.{IsUnlocked, IsGivenBack}
@@ -53,7 +53,7 @@ use Rattle.run_moves.specs.KnownRuns.{IsAlwaysKnown}
 use Rattle.run_moves.specs.HomesAtUnlocks.{HomesHaveAll}
 use Rattle.run_moves.proofs.Alone.{alone-are}
 use Rattle.run_moves.proofs.InOrder.{told-op}
-use Rattle.run_calls.proofs.ItemViews.{IsAmong, IsItemAt, did, faulted, answered, left_open, opened, each-item}
+use Rattle.run_states.proofs.ItemViews.{IsAmong, IsItemAt, did, faulted, answered, left_open, opened, each-item}
 use Rattle.run_moves.proofs.Orders.{each-middle, each-front, once-each, rising-around}
 use Rattle.run_moves.proofs.SameItems.{items-append}
 use Rattle.run_moves.proofs.Standing.{items-at}

@@ -9,7 +9,7 @@ use Rattle.node_runs.specs.Setups.{Setup}
 use Rattle.node_runs.specs.Notes.{Note}
 use Rattle.node_runs.specs.Runs.{Noted, World}
 use Rattle.node_runs.specs.RunHistories.{settled_op, change_reply}
-use Rattle.run_desks.specs.ToldAnswers.{TellsReply}
+use Rattle.run_states.specs.ToldAnswers.{TellsReply}
 use Rattle.run_effects.specs.NotedEffects.{noted_past}
 
 -- a decision that settles an operation: what it tells is what one store says, and what it changed may act

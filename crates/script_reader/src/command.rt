@@ -3,7 +3,7 @@ use uid_names::{ByteList, Mode, NodeId};
 
 /// A command of a process, one for each command word. Rooms and offsets are in pages and in bytes;
 /// counts and the lengths of texts are in bytes. A path leads from the working directory, where it is relative.
-#[derive(Drop, Debug)]
+#[derive(Debug)]
 pub enum Command {
     /// Makes a file of this room, at the process's own node where no home is named.
     New {
@@ -103,4 +103,53 @@ pub enum Command {
     Llkob {
         node: NodeId,
     },
+}
+
+// Of its own, so that what drops one calls this and does not take it apart in place.
+impl Drop for Command {
+    fn drop(self) {
+        match self {
+            Command::New {
+                var: _,
+                room: _,
+                home: _,
+            }
+            | Command::Lock { var: _, mode: _ }
+            | Command::Unlock { var: _ }
+            | Command::Delete { var: _ }
+            | Command::Load {
+                var: _,
+                offset: _,
+                count: _,
+            }
+            | Command::Store {
+                var: _,
+                offset: _,
+                text: _,
+            }
+            | Command::Length { var: _ }
+            | Command::Map { var: _ }
+            | Command::Unmap { var: _ }
+            | Command::Loadat {
+                address: _,
+                count: _,
+            }
+            | Command::Storeat {
+                address: _,
+                text: _,
+            }
+            | Command::Bind { var: _, path: _ }
+            | Command::Crf { path: _, room: _ }
+            | Command::Crd { path: _ }
+            | Command::Crl { path: _, target: _ }
+            | Command::Dlf { path: _ }
+            | Command::Catf { path: _ }
+            | Command::Lnf { path: _ }
+            | Command::Apf { path: _, text: _ }
+            | Command::Cpf { path: _, target: _ }
+            | Command::Ld { path: _ }
+            | Command::Wd { path: _ }
+            | Command::Llkob { node: _ } => {}
+        }
+    }
 }

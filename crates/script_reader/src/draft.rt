@@ -55,7 +55,6 @@ const FIRST_COUNTER: u64 = 2;
 /// What was declared and asked for. `declared` and `named` have the same variables as the rows, and
 /// `counts` and `pages` say of each home how many objects are declared there, and how many pages they
 /// take with the entry directory, so that no test goes over all rows.
-#[derive(Drop)]
 pub struct Draft {
     nodes: Vec<NodeRow>,
     starts: Vec<Object>,
@@ -67,6 +66,24 @@ pub struct Draft {
     named: NamedVars,
     counts: [u32; HOMES],
     pages: [u32; HOMES],
+}
+
+// Of its own, so that what drops one calls this and does not take it apart in place.
+impl Drop for Draft {
+    fn drop(self) {
+        let Draft {
+            nodes: _,
+            starts: _,
+            objects: _,
+            plan: _,
+            phases: _,
+            commands: _,
+            declared: _,
+            named: _,
+            counts: _,
+            pages: _,
+        } = self;
+    }
 }
 
 impl Model for Draft {

@@ -29,7 +29,6 @@ pub struct CommandRow {
 
 /// A script: what each of its lines declares or asks for. It keeps all that the grammar asks of a script, and
 /// beside it where a variable's object and a process's commands are found, so that nobody goes over all rows.
-#[derive(Drop)]
 pub struct Script {
     nodes: Vec<NodeRow>,
     opening: Opening,
@@ -39,6 +38,22 @@ pub struct Script {
     commands: Vec<CommandRow>,
     declared: DeclaredVars,
     places: Places,
+}
+
+// Of its own, so that what drops one calls this and does not take it apart in place.
+impl Drop for Script {
+    fn drop(self) {
+        let Script {
+            nodes: _,
+            opening: _,
+            objects: _,
+            plan: _,
+            phases: _,
+            commands: _,
+            declared: _,
+            places: _,
+        } = self;
+    }
 }
 
 impl Model for Script {

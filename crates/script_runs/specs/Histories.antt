@@ -13,7 +13,7 @@ use Rattle.aegis_shell.specs.Asking.{ask}
 use Rattle.node_runs.specs.Runs.{World, HasEnded}
 use Rattle.node_runs.specs.RunHistories.{history_of}
 use Rattle.node_runs.specs.Deliveries.{is_gone}
-use Rattle.run_calls.specs.Entries.{replies_in}
+use Rattle.run_states.specs.Entries.{replies_in}
 use Rattle.run_faults.specs.LinkFaults.{fault_entries, marked}
 use Rattle.run_faults.specs.EightNotices.{HasEightNotices}
 use Rattle.every_run.specs.EveryRun.{HomesHaveAll as HomesHaveAllOf}

@@ -14,7 +14,7 @@ ghost use Rattle.node_runs.specs.Runs.{World};
 ghost use Rattle.world_runs.specs.ByPlace.{by_place};
 ghost use Rattle.world_runs.specs.Draws.{EndsIn};
 ghost use Rattle.world_runs.specs.NamedNodes.{NamesNodes};
-ghost use Rattle.run_calls.specs.Paced.{ArePaced};
+ghost use Rattle.run_states.specs.Paced.{ArePaced};
 ghost use Rattle.world_runs.specs.EndedRuns.{IsEndedRun};
 ghost use Rattle.script_runs.specs.Setups.{setup_of};
 ghost use Rattle.script_runs.specs.Runs.{IsEndedRunOf, EndsAlikeOf, IsPickedRunOf, OfPickedRuns, PicksRun, ComesToTick};

@@ -150,7 +150,7 @@ impl Walk {
         let other = target.uid;
         let result = copy(&mut self.world, uid, other, &None)?.result;
         if from == to {
-            match result {
+            match &result {
                 StreamResult::Store(Reply::AlreadyHeld) => Ok(()),
                 _ => Err(Fail::from("a file is locked twice")),
             }

@@ -38,7 +38,7 @@ fn came_of(alloc: Global, carried: Carried) -> Result<Came, Fail> {
             let is_it = proc == 1 && number == index && tick.value() == index;
             Ok(if is_it { Gone(index) } else { Came::Other })
         }
-        Carried::Put(entry) => match (entry.waiting, entry.received) {
+        Carried::Put(entry) => match (entry.waiting, &entry.received) {
             (Waiting::Copy(index), Parcel::Frame(bytes)) => {
                 let frame = bytes.frame(alloc)?;
                 let is_it = frame.proc() == 1 && frame.number() == index && frame.tick() == index;

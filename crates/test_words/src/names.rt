@@ -1,7 +1,8 @@
+use std::alloc::Global;
 use std::test::Fail;
 use uid_names::{
-    ByteList, ENTRY_ROOM, FrameKind, ItemList, LockRow, LockRows, MAX_ROOM, Mode, NodeId, ObjKind,
-    Object, Opening, ProcId, Uid, UidRow, UidSource, UidTable, clash, segments,
+    ByteList, ENTRY_ROOM, FrameKind, ItemList, LockRow, LockRows, MAX_ROOM, Mode, NoMemory, NodeId,
+    ObjKind, Object, Opening, ProcId, Uid, UidRow, UidSource, UidTable, clash, segments,
 };
 
 fn node(number: u8) -> Result<NodeId, Fail> {
@@ -18,70 +19,102 @@ fn names_are_given_once_and_read_again(rt: HostRuntime) -> Result<(), Fail> {
     let mut source = UidSource::new(node(1)?);
     let _directory = source.next();
     let first = source.next();
-    assert_eq!(rt; first.number(), 0x20_0001);
-    assert_eq!(rt; first.text(), *b"0000000000200001");
-    assert_eq!(rt; Uid::read(b"0000000000200001"), Ok(first));
+    assert!(rt; first.number() == 0x20_0001);
+    assert!(rt; first.text() == *b"0000000000200001");
+    assert!(rt; Uid::read(b"0000000000200001") == Ok(first));
     let second = source.next();
-    assert_eq!(rt; second.number(), 0x30_0001);
+    assert!(rt; second.number() == 0x30_0001);
     assert!(rt; first.is_below(second));
     Ok(())
 }
 
+/// Texts that name no object.
+const NO_NAMES: [&[u8]; 8] = [
+    b"",
+    b"000000000020000",
+    b"00000000002000011",
+    b"0000000000000001",
+    b"0000000000200000",
+    b"0000000000200009",
+    b"0000000000A00001",
+    b"0000000000g00001",
+];
+
 #[test]
 fn texts_that_name_no_object_are_refused(rt: HostRuntime) {
-    let texts: [&[u8]; 8] = [
-        b"",
-        b"000000000020000",
-        b"00000000002000011",
-        b"0000000000000001",
-        b"0000000000200000",
-        b"0000000000200009",
-        b"0000000000A00001",
-        b"0000000000g00001",
-    ];
-    for text in texts {
+    for text in NO_NAMES {
         assert!(rt; Uid::read(text).is_err());
     }
     assert!(rt; Uid::read(b"0000000000a00001").is_ok());
 }
 
+/// Modes of two processes, and whether they conflict.
+const CLASHES: [(Mode, Mode, bool); 4] = [
+    (Mode::Read, Mode::Read, false),
+    (Mode::Read, Mode::Write, true),
+    (Mode::Write, Mode::Read, true),
+    (Mode::Write, Mode::Write, true),
+];
+
 #[test]
 fn modes_conflict_unless_both_read(rt: HostRuntime) -> Result<(), Fail> {
-    let (p, q) = (proc(1, 1)?, proc(2, 1)?);
-    assert!(rt; !clash(p, Mode::Read, q, Mode::Read));
-    assert!(rt; clash(p, Mode::Read, q, Mode::Write));
-    assert!(rt; clash(p, Mode::Write, q, Mode::Read));
-    assert!(rt; clash(p, Mode::Write, q, Mode::Write));
-    assert_eq!(rt; Mode::from_letter(b'w'), Some(Mode::Write));
-    assert_eq!(rt; Mode::from_letter(b'R'), None);
-    assert_eq!(rt; Mode::from_code(1), Some(Mode::Read));
-    assert_eq!(rt; Mode::from_code(0), None);
-    assert_eq!(rt;
-        ObjKind::from_code(ObjKind::Mail.code()),
-        Some(ObjKind::Mail)
-    );
-    assert_eq!(rt; ObjKind::from_code(0), None);
-    assert_eq!(rt; ObjKind::from_code(5), None);
+    let p = proc(1, 1)?;
+    let q = proc(2, 1)?;
+    for (held, asked, expected) in CLASHES {
+        assert!(rt; clash(p, held, q, asked) == expected);
+    }
     Ok(())
 }
 
 #[test]
-fn kinds_of_frames_have_their_numbers_and_names(rt: HostRuntime) {
-    let rows: [(u8, &str, bool); 5] = [
-        (1, "page-in", true),
-        (8, "list", true),
-        (129, "page", false),
-        (132, "no-grant", false),
-        (139, "listed", false),
-    ];
-    for (number, name, is_request) in rows {
-        let kind = FrameKind::from_number(number);
-        assert_eq!(rt; kind, FrameKind::from_name(name.as_bytes()));
-        assert!(rt; kind.is_some_and(|k| k.number() == number && k.is_request() == is_request));
+fn modes_have_letters_and_codes(rt: HostRuntime) {
+    for (letter, mode) in [(b'w', Some(Mode::Write)), (b'R', None)] {
+        assert!(rt; Mode::from_letter(letter) == mode);
     }
-    assert_eq!(rt; FrameKind::from_number(9), None);
-    assert_eq!(rt; FrameKind::from_number(140), None);
-    assert_eq!(rt; FrameKind::from_name(b"page-in "), None);
+    for (code, mode) in [(1, Some(Mode::Read)), (0, None)] {
+        assert!(rt; Mode::from_code(code) == mode);
+    }
+}
+
+#[test]
+fn kinds_of_objects_have_codes(rt: HostRuntime) {
+    let mail = ObjKind::Mail;
+    for (code, kind) in [(mail.code(), Some(mail)), (0, None), (5, None)] {
+        assert!(rt; ObjKind::from_code(code) == kind);
+    }
+}
+
+/// Kinds of frames: their numbers and names, and whether they are requests.
+const KINDS: [(u8, &str, bool); 5] = [
+    (1, "page-in", true),
+    (8, "list", true),
+    (129, "page", false),
+    (132, "no-grant", false),
+    (139, "listed", false),
+];
+
+fn is_kind(found: Option<FrameKind>, number: u8, is_request: bool) -> bool {
+    match found {
+        Some(kind) => kind.number() == number && kind.is_request() == is_request,
+        None => false,
+    }
+}
+
+#[test]
+fn kinds_of_frames_have_their_numbers_and_names(rt: HostRuntime) {
+    for (number, name, is_request) in KINDS {
+        let kind = FrameKind::from_number(number);
+        assert!(rt; kind == FrameKind::from_name(name.as_bytes()));
+        assert!(rt; is_kind(kind, number, is_request));
+    }
+}
+
+#[test]
+fn other_numbers_and_names_are_no_kinds_of_frames(rt: HostRuntime) {
+    for number in [9, 140] {
+        assert!(rt; FrameKind::from_number(number).is_none());
+    }
+    assert!(rt; FrameKind::from_name(b"page-in ").is_none());
 }
 
 #[test]
@@ -97,49 +130,79 @@ fn an_opening_has_its_objects(rt: HostRuntime) -> Result<(), Fail> {
         kind: ObjKind::File,
         room: 3,
     };
-    assert_eq!(rt; copy.objects(), [object].as_slice());
+    assert!(rt; copy.objects() == [object].as_slice());
     Ok(())
 }
 
 #[test]
 fn rooms_take_whole_segments(rt: HostRuntime) -> Result<(), Fail> {
-    assert_eq!(rt; segments(1), 1);
-    assert_eq!(rt; segments(32), 1);
-    assert_eq!(rt; segments(33), 2);
-    assert_eq!(rt; segments(MAX_ROOM), 32);
+    assert!(rt; segments(1) == 1);
+    assert!(rt; segments(32) == 1);
+    assert!(rt; segments(33) == 2);
+    assert!(rt; segments(MAX_ROOM) == 32);
     let entry = Object::entry_directory(node(3)?);
-    assert_eq!(rt; entry.uid.number(), 0x10_0003);
-    assert_eq!(rt; entry.room, ENTRY_ROOM);
+    assert!(rt; entry.uid.number() == 0x10_0003);
+    assert!(rt; entry.room == ENTRY_ROOM);
     Ok(())
+}
+
+/// The bytes a to e, put into a list in three ways.
+fn five_bytes(alloc: Global) -> Result<ByteList, NoMemory> {
+    let mut bytes = ByteList::with_capacity(alloc, 5)?;
+    put_all(&mut bytes, ByteList::from_slice(alloc, b"ab")?.bytes())?;
+    Ok(bytes)
+}
+
+fn put_all(bytes: &mut ByteList, first: &[u8]) -> Result<(), NoMemory> {
+    bytes.extend(first)?;
+    bytes.push(b'c')?;
+    bytes.extend(b"de")
 }
 
 #[test]
 fn lists_keep_what_is_pushed(rt: HostRuntime) -> Result<(), Fail> {
-    let mut bytes = ByteList::with_capacity(rt.alloc(), 5)?;
-    bytes.extend(ByteList::from_slice(rt.alloc(), b"ab")?.bytes())?;
-    bytes.push(b'c')?;
-    bytes.extend(b"de")?;
-    assert_eq!(rt; bytes.copy(rt.alloc())?.bytes(), b"abcde".as_slice());
-    let row = LockRow {
+    let bytes = five_bytes(rt.alloc())?.copy(rt.alloc())?;
+    assert!(rt; bytes.bytes() == b"abcde".as_slice());
+    Ok(())
+}
+
+fn lock_row() -> Result<LockRow, Fail> {
+    Ok(LockRow {
         uid: Uid::from_parts(2, node(1)?),
         proc: proc(1, 4)?,
         mode: Mode::Read,
-    };
-    let mut rows = LockRows::new(rt.alloc());
-    rows.push(row)?;
-    assert_eq!(rt;
-        ItemList::from_vec(vec![in rt.alloc(); row]?).items(),
-        [row].as_slice()
-    );
+    })
+}
+
+#[test]
+fn a_lock_has_its_place_and_conflicts(rt: HostRuntime) -> Result<(), Fail> {
+    let row = lock_row()?;
+    let other = proc(2, 1)?;
     assert!(rt; row.is_of(row.proc, row.uid));
-    assert!(rt; row.is_before(row.uid, proc(2, 1)?) && row.is_after(row.uid, proc(1, 3)?));
-    assert!(rt; row.conflicts(proc(2, 1)?, Mode::Write) && !row.conflicts(row.proc, Mode::Write));
-    assert_eq!(rt; rows.copy(rt.alloc())?.items(), [row].as_slice());
+    assert!(rt; row.is_before(row.uid, other) && row.is_after(row.uid, proc(1, 3)?));
+    assert!(rt; row.conflicts(other, Mode::Write) && !row.conflicts(row.proc, Mode::Write));
+    Ok(())
+}
+
+/// A list of one row, copied.
+fn one_row(alloc: Global, row: LockRow) -> Result<LockRows, NoMemory> {
+    let mut rows = LockRows::new(alloc);
+    rows.push(row)?;
+    rows.copy(alloc)
+}
+
+#[test]
+fn lists_keep_their_rows(rt: HostRuntime) -> Result<(), Fail> {
+    let row = lock_row()?;
+    let list = ItemList::from_vec(vec![in rt.alloc(); row]?);
+    assert!(rt; list.items() == [row].as_slice());
+    let rows = one_row(rt.alloc(), row)?;
+    assert!(rt; rows.items() == [row].as_slice());
     Ok(())
 }
 
 /// A row of a table: an object's stamp, say.
-#[derive(Clone, Copy, Debug, PartialEq, Eq)]
+#[derive(Clone, Copy)]
 struct Row {
     uid: Uid,
     stamp: u64,
@@ -155,43 +218,41 @@ impl UidRow for Row {
     }
 }
 
+/// The row of an object has this stamp.
+fn has_stamp(table: &UidTable<Row>, uid: Uid, stamp: u64) -> bool {
+    match table.of(uid) {
+        Some(row) => row.uid == uid && row.stamp == stamp,
+        None => false,
+    }
+}
+
+/// Puts rows of these objects into a table in turn.
+fn set_all(table: &mut UidTable<Row>, rows: &[(Uid, u64)]) -> Result<(), NoMemory> {
+    for (uid, stamp) in rows {
+        table.set(Row {
+            uid: *uid,
+            stamp: *stamp,
+        })?;
+    }
+    Ok(())
+}
+
 #[test]
 fn a_table_has_one_row_of_each_object(rt: HostRuntime) -> Result<(), Fail> {
-    let (first, second) = (Uid::from_parts(2, node(1)?), Uid::from_parts(4, node(1)?));
+    let home = node(1)?;
+    let first = Uid::from_parts(2, home);
+    let second = Uid::from_parts(4, home);
     let mut table = UidTable::new(rt.alloc());
-    table.set(Row {
-        uid: second,
-        stamp: 8,
-    })?;
-    table.set(Row {
-        uid: first,
-        stamp: 6,
-    })?;
-    table.set(Row {
-        uid: second,
-        stamp: 9,
-    })?;
-    assert_eq!(rt;
-        table.of(second),
-        Some(Row {
-            uid: second,
-            stamp: 9
-        })
-    );
+    set_all(&mut table, &[(second, 8), (first, 6), (second, 9)])?;
+    assert!(rt; has_stamp(&table, second, 9));
     if table.of(first).is_some() {
         table.replace(Row {
             uid: first,
             stamp: 7,
         });
     }
-    assert_eq!(rt;
-        table.of(first),
-        Some(Row {
-            uid: first,
-            stamp: 7
-        })
-    );
+    assert!(rt; has_stamp(&table, first, 7));
     table.forget(second);
-    assert_eq!(rt; table.of(second), None);
+    assert!(rt; table.of(second).is_none());
     Ok(())
 }

@@ -7,6 +7,7 @@ use std::alloc::Global;
 use std::io;
 use std::io::{Read, Write};
 use std::test::Fail;
+use uid_names::{ByteList, NoMemory};
 
 /// A reader whose every read fails so.
 #[derive(Drop)]
@@ -63,54 +64,73 @@ impl Write for Frail {
 /// The ways in which calls of readers and writers fail here: one is no fault to std, which would call again.
 const KINDS: [io::ErrorKind; 2] = [io::ErrorKind::BrokenPipe, io::ErrorKind::Interrupted];
 
+/// A long text.
+const TEXT: [u8; 10_000] = [7; 10_000];
+
 #[test]
 fn a_long_text_is_read_in_pieces(rt: HostRuntime) -> Result<(), Fail> {
-    let text = [7; 10_000];
-    let mut source = MemSource::new(rt.alloc(), &text, &[])?;
+    let mut source = MemSource::new(rt.alloc(), &TEXT, &[])?;
     let list = read_all(rt.alloc(), &mut source, 10_000)?;
-    assert_eq!(rt; list.bytes(), text.as_slice());
-    assert_eq!(rt; source.rest().len(), 0);
+    assert!(rt; list.bytes() == TEXT.as_slice());
+    assert!(rt; source.rest().len() == 0);
     Ok(())
 }
+
+/// Reads a source whose calls of these numbers fail: how the reading ends, and the bytes that are left.
+fn ends(
+    alloc: Global,
+    bytes: &[u8],
+    fails: &[u64],
+    limit: u32,
+) -> Result<(Option<ReadEnd>, ByteList), NoMemory> {
+    let mut source = MemSource::new(alloc, bytes, fails)?;
+    let end = read_all(alloc, &mut source, limit).err();
+    Ok((end, ByteList::from_slice(alloc, source.rest())?))
+}
+
+/// Calls that fail, and how many bytes are left.
+const FAILED: [(u64, usize); 3] = [(1, 10_000), (2, 10_000 - 4_096), (3, 10_000 - 2 * 4_096)];
 
 #[test]
 fn a_failed_read_ends_the_reading(rt: HostRuntime) -> Result<(), Fail> {
-    for (call, rest) in [(1, 10_000), (2, 10_000 - 4_096), (3, 10_000 - 2 * 4_096)] {
-        let mut source = MemSource::new(rt.alloc(), &[7; 10_000], &[call])?;
-        let fault = read_all(rt.alloc(), &mut source, 10_000).err();
-        assert_eq!(rt; fault, Some(ReadEnd::ReadFault), "at call {call}");
-        assert_eq!(rt; source.rest().len(), rest, "at call {call}");
+    for (call, rest) in FAILED {
+        let (end, left) = ends(rt.alloc(), &TEXT, &[call], 10_000)?;
+        assert!(rt; end == Some(ReadEnd::ReadFault), "at call {call}");
+        assert!(rt; left.bytes().len() == rest, "at call {call}");
     }
     Ok(())
 }
+
+/// Limits, and the bytes of `abcdef` that are left.
+const LIMITS: [(u32, &[u8]); 3] = [(0, b"bcdef"), (4, b"f"), (5, b"")];
 
 #[test]
 fn one_byte_more_than_the_limit_is_taken(rt: HostRuntime) -> Result<(), Fail> {
-    for (limit, rest) in [
-        (0, b"bcdef".as_slice()),
-        (4, b"f".as_slice()),
-        (5, b"".as_slice()),
-    ] {
-        let mut source = MemSource::new(rt.alloc(), b"abcdef", &[])?;
-        let end = read_all(rt.alloc(), &mut source, limit).err();
-        assert_eq!(rt; end, Some(ReadEnd::TooLong), "at {limit}");
-        assert_eq!(rt; source.rest(), rest, "at {limit}");
+    for (limit, rest) in LIMITS {
+        let (end, left) = ends(rt.alloc(), b"abcdef", &[], limit)?;
+        assert!(rt; end == Some(ReadEnd::TooLong), "at {limit}");
+        assert!(rt; left.bytes() == rest, "at {limit}");
     }
     Ok(())
 }
 
 #[test]
-fn listed_calls_fail_and_the_next_go_on(rt: HostRuntime) -> Result<(), Fail> {
+fn a_listed_read_fails_and_the_next_goes_on(rt: HostRuntime) -> Result<(), Fail> {
     let mut source = MemSource::new(rt.alloc(), b"hello", &[1])?;
     let mut buffer = [0; 2];
-    assert_eq!(rt; source.read(&mut buffer), Took::Failed);
-    assert_eq!(rt; source.read(&mut buffer), Took::Some(2));
-    assert_eq!(rt; buffer, *b"he");
+    assert!(rt; source.read(&mut buffer) == Took::Failed);
+    assert!(rt; source.read(&mut buffer) == Took::Some(2));
+    assert!(rt; buffer == *b"he");
+    Ok(())
+}
+
+#[test]
+fn a_listed_write_fails_and_the_next_goes_on(rt: HostRuntime) -> Result<(), Fail> {
     let mut sink = MemSink::new(rt.alloc(), 4, &[2])?;
-    assert_eq!(rt; write_all(&mut sink, b"ab"), Ok(()));
-    assert_eq!(rt; write_all(&mut sink, b"cd"), Err(WriteFault));
-    assert_eq!(rt; write_all(&mut sink, b"efg"), Err(WriteFault));
-    assert_eq!(rt; sink.bytes(), b"abef".as_slice());
+    assert!(rt; write_all(&mut sink, b"ab") == Ok(()));
+    assert!(rt; write_all(&mut sink, b"cd") == Err(WriteFault));
+    assert!(rt; write_all(&mut sink, b"efg") == Err(WriteFault));
+    assert!(rt; sink.bytes() == b"abef".as_slice());
     Ok(())
 }
 
@@ -119,49 +139,73 @@ fn a_reader_is_read_to_its_end(rt: HostRuntime) -> Result<(), Fail> {
     // The first read of the chain is short.
     let mut source = RealSource::new(b"short ".as_slice().chain(b"reads".as_slice()));
     let list = read_all(rt.alloc(), &mut source, 100)?;
-    assert_eq!(rt; list.bytes(), b"short reads".as_slice());
-    for kind in KINDS {
-        let mut broken = RealSource::new(b"short ".as_slice().chain(Broken(kind)));
-        let fault = read_all(rt.alloc(), &mut broken, 100).err();
-        assert_eq!(rt; fault, Some(ReadEnd::ReadFault));
-    }
+    assert!(rt; list.bytes() == b"short reads".as_slice());
     Ok(())
 }
 
+/// How the reading of a short text ends behind which a read fails.
+fn ends_broken(alloc: Global, kind: io::ErrorKind) -> Option<ReadEnd> {
+    let mut broken = RealSource::new(b"short ".as_slice().chain(Broken(kind)));
+    read_all(alloc, &mut broken, 100).err()
+}
+
 #[test]
-fn a_writer_gets_every_byte(rt: HostRuntime) -> Result<(), Fail> {
+fn a_reader_that_fails_is_a_fault(rt: HostRuntime) {
+    for kind in KINDS {
+        assert!(rt; ends_broken(rt.alloc(), kind) == Some(ReadEnd::ReadFault));
+    }
+}
+
+#[test]
+fn a_writer_gets_every_byte(rt: HostRuntime) {
     let mut written = Vec::new(rt.alloc());
     let mut sink = RealSink::new(&mut written);
-    assert_eq!(rt; write_all(&mut sink, b"ab"), Ok(()));
-    assert_eq!(rt; write_all(&mut sink, b"cd"), Ok(()));
-    assert_eq!(rt; written.as_slice(), b"abcd".as_slice());
-    // A slice takes what it has room for, and then nothing.
-    let mut small = [0; 3];
-    let mut sink = RealSink::new(small.as_mut_slice());
-    assert_eq!(rt; write_all(&mut sink, b"abcd"), Err(WriteFault));
-    assert_eq!(rt; small, *b"abc");
-    Ok(())
+    assert!(rt; write_all(&mut sink, b"ab") == Ok(()));
+    assert!(rt; write_all(&mut sink, b"cd") == Ok(()));
+    assert!(rt; written.as_slice() == b"abcd".as_slice());
 }
 
 #[test]
-fn a_writer_that_fails_is_a_fault(rt: HostRuntime) -> Result<(), Fail> {
-    // A write, its flush, the next write: the byte that was taken before stays.
-    let rows: [(u8, &[u8]); 4] = [(1, b""), (2, b"a"), (3, b"a"), (6, b"abc")];
-    for (bad_call, written) in rows {
+fn a_slice_takes_what_it_has_room_for_and_then_nothing(rt: HostRuntime) {
+    let mut small = [0; 3];
+    let mut sink = RealSink::new(small.as_mut_slice());
+    assert!(rt; write_all(&mut sink, b"abcd") == Err(WriteFault));
+    assert!(rt; small == *b"abc");
+}
+
+fn write_abc(writer: &mut Frail) -> Result<(), WriteFault> {
+    let mut sink = RealSink::new(writer);
+    write_all(&mut sink, b"abc")
+}
+
+/// Three bytes are given to a writer: whether that is a fault, and what the writer took.
+fn written_by(
+    alloc: Global,
+    bad_call: u8,
+    kind: io::ErrorKind,
+) -> (Result<(), WriteFault>, Vec<u8>) {
+    let mut writer = Frail::new(alloc, bad_call, kind);
+    let come = write_abc(&mut writer);
+    (come, writer.written)
+}
+
+/// Calls that fail, and what was written: at a write, its flush, the next write; the byte that was taken before stays.
+const BAD_CALLS: [(u8, &[u8]); 4] = [(1, b""), (2, b"a"), (3, b"a"), (6, b"abc")];
+
+#[test]
+fn a_writer_that_fails_is_a_fault(rt: HostRuntime) {
+    for (bad_call, expected) in BAD_CALLS {
         for kind in KINDS {
-            let mut writer = Frail::new(rt.alloc(), bad_call, kind);
-            let mut sink = RealSink::new(&mut writer);
-            assert_eq!(rt;
-                write_all(&mut sink, b"abc"),
-                Err(WriteFault),
-                "at call {bad_call}"
-            );
-            assert_eq!(rt; writer.written.as_slice(), written, "at call {bad_call}");
+            let (come, written) = written_by(rt.alloc(), bad_call, kind);
+            assert!(rt; come == Err(WriteFault), "at call {bad_call}");
+            assert!(rt; written.as_slice() == expected, "at call {bad_call}");
         }
     }
-    let mut writer = Frail::new(rt.alloc(), 7, io::ErrorKind::BrokenPipe);
-    let mut sink = RealSink::new(&mut writer);
-    assert_eq!(rt; write_all(&mut sink, b"abc"), Ok(()));
-    assert_eq!(rt; writer.written.as_slice(), b"abc".as_slice());
-    Ok(())
+}
+
+#[test]
+fn a_writer_that_fails_later_takes_all(rt: HostRuntime) {
+    let (come, written) = written_by(rt.alloc(), 7, io::ErrorKind::BrokenPipe);
+    assert!(rt; come == Ok(()));
+    assert!(rt; written.as_slice() == b"abc".as_slice());
 }

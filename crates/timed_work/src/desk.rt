@@ -1,5 +1,5 @@
 //! A cache alone, and a desk of 64 frames with its cache.
-ghost use Rattle.std.specs.Prelude.{◌≡◌, IfOk, IsSome};
+ghost use Rattle.std.specs.Prelude.{◌≡◌, IsSome};
 ghost use Rattle.dom_history.specs.Ranges.{IsOp, IsSpot, IsInPage};
 ghost use Rattle.fault_handler.specs.Accesses.{desk_op};
 
@@ -10,10 +10,10 @@ use fault_handler::{Access, Desk, OpenCall};
 use page_cache::Cache;
 use ring_messages::{Body, PageBytes};
 use std::alloc::Global;
-use uid_names::{ByteList, Mode, ProcId, Uid};
+use uid_names::{ByteList, Mode, NoMemory, ProcId, Uid};
 
 /// Puts a page in, where there is a free frame and the page isn't there.
-fn put(cache: &mut Cache, uid: Uid, page: u32) -> Result<()> {
+fn put(cache: &mut Cache, uid: Uid, page: u32) -> Result<(), NoMemory> {
     if cache.free() > 0 {
         cache.reserve();
         match cache.find(uid, page) {
@@ -25,7 +25,7 @@ fn put(cache: &mut Cache, uid: Uid, page: u32) -> Result<()> {
 }
 
 /// A cache of 64 or 256 frames, full of the first pages of an object.
-fn full(alloc: Global, frames: u16, uid: Uid) -> Result<Cache> {
+fn full(alloc: Global, frames: u16, uid: Uid) -> Result<Cache, NoMemory> {
     let mut cache = Cache::new(alloc, if frames <= 64 { 64 } else { 256 })?;
     for page in 0..u32::from(frames) {
         put(&mut cache, uid, page)?;
@@ -35,7 +35,7 @@ fn full(alloc: Global, frames: u16, uid: Uid) -> Result<Cache> {
 
 /// Touches each time the page that was used longest ago.
 pub fn touch(rt: &HostRuntime, frames: u16, count: u32) -> Result<(u64, u64)> {
-    let uid = object()?;
+    let uid = object();
     let mut cache = full(rt.alloc(), frames, uid)?;
     timed!(rt, count, i => {
         let page = i.checked_rem(u32::from(frames)).unwrap_or(0);
@@ -50,7 +50,7 @@ pub fn touch(rt: &HostRuntime, frames: u16, count: u32) -> Result<(u64, u64)> {
 
 /// Puts a page in the place of the one that goes.
 pub fn evict(rt: &HostRuntime, frames: u16, count: u32) -> Result<(u64, u64)> {
-    let uid = object()?;
+    let uid = object();
     let mut cache = full(rt.alloc(), frames, uid)?;
     timed!(rt, count, i => {
         if let Some((uid, page)) = cache.victim() {
@@ -73,8 +73,8 @@ struct Side {
 }
 
 impl Side {
-    fn new(alloc: Global, pages: u32) -> Result<Side> {
-        let (proc, uid, mode) = (process(1, 1)?, object()?, Mode::Write);
+    fn new(alloc: Global, pages: u32) -> Result<Side, NoMemory> {
+        let (proc, uid, mode) = (process(1, 1), object(), Mode::Write);
         let mut desk = Desk::new(alloc, proc.node(), 2, 64)?;
         desk.know(uid, 1, 1024, 1_048_576)?;
         match desk.state(proc, uid) {
@@ -99,18 +99,18 @@ impl Side {
     }
 
     /// The beginning of the page whose turn it is.
-    fn spot(&self, i: u32) -> Result<Spot>
-        ensures name { IfOk result IsSpot }
-        ensures place { IfOk result (λ spot. IsInPage spot 1) }
+    fn spot(&self, i: u32) -> Spot
+        ensures name { IsSpot result }
+        ensures place { IsInPage result 1 }
     {
-        let uid = object()?;
+        let uid = object();
         let _number = uid.number();
         let page = i.checked_rem(self.pages).unwrap_or(0) % 1000;
-        Ok(Spot::Of(uid, page * 1024))
+        Spot::Of(uid, page * 1024)
     }
 
     /// The page comes that a load asked for: 1 where it is done.
-    fn come(&mut self, i: u32) -> Result<u32> {
+    fn come(&mut self, i: u32) -> Result<u32, NoMemory> {
         let stamp = 1;
         let bytes = PageBytes::new(self.alloc, &[(i % 251) as u8; 1024])?;
         let body = Body::Page { stamp, bytes };
@@ -124,7 +124,7 @@ impl Side {
     }
 
     /// A load or store: 1 where it is done.
-    fn access(&mut self, op: &Op, i: u32) -> Result<u32>
+    fn access(&mut self, op: &Op, i: u32) -> Result<u32, NoMemory>
         requires access { IsSome (desk_op op.now) }
         requires range { IsOp op.now }
     {
@@ -138,13 +138,13 @@ impl Side {
         }
     }
 
-    fn load(&mut self, i: u32) -> Result<u32> {
-        let (spot, count) = (self.spot(i)?, 1);
+    fn load(&mut self, i: u32) -> Result<u32, NoMemory> {
+        let (spot, count) = (self.spot(i), 1);
         self.access(&Op::Load { spot, count }, i)
     }
 
-    fn store(&mut self, i: u32) -> Result<u32> {
-        let spot = self.spot(i)?;
+    fn store(&mut self, i: u32) -> Result<u32, NoMemory> {
+        let spot = self.spot(i);
         let bytes = ByteList::from_slice(self.alloc, &[(i % 251) as u8])?;
         self.access(&Op::Store { spot, bytes }, i)
     }

@@ -10,7 +10,7 @@ use page_server::PageServer;
 use page_store::BlockPages;
 use ring_messages::{Body, Frame, PageBytes};
 use std::alloc::Global;
-use uid_names::{Mode, ObjKind, Opening, Uid};
+use uid_names::{Mode, NoMemory, ObjKind, Opening, Uid};
 
 /// What a process asks.
 #[derive(Clone, Copy)]
@@ -34,8 +34,8 @@ struct Side {
 }
 
 impl Side {
-    fn new(alloc: Global) -> Result<Side> {
-        let (uid, tick, grant, stamp) = (object()?, 0, 1, 1);
+    fn new(alloc: Global) -> Result<Side, NoMemory> {
+        let (uid, tick, grant, stamp) = (object(), 0, 1, 1);
         let mut opening = Opening::new(alloc, 2, 1024);
         opening.add(uid, ObjKind::File, 1)?;
         let home = Home::new(alloc, uid.home(), BlockPages::new(alloc), &opening)?;
@@ -49,7 +49,7 @@ impl Side {
         })
     }
 
-    fn request(&self, alloc: Global, asked: Asked) -> Result<Body>
+    fn request(&self, alloc: Global, asked: Asked) -> Result<Body, NoMemory>
         ensures request { IfOk result (λ body. IsTrue (is_request body)) }
         ensures range { IfOk result (IsBody self.now.uid.home) }
     {
@@ -71,8 +71,8 @@ impl Side {
     }
 
     /// Asks the home; 1 where it does what it is asked for, else 0.
-    fn ask(&mut self, alloc: Global, asked: Asked) -> Result<u32> {
-        let (caller, to) = (process(2, 1)?, self.uid.home());
+    fn ask(&mut self, alloc: Global, asked: Asked) -> Result<u32, NoMemory> {
+        let (caller, to) = (process(2, 1), self.uid.home());
         if self.tick >= 1_000_000_000_000 || to != self.server.node() {
             return Ok(0);
         }

@@ -2,18 +2,17 @@
 //! proved once; a program is proved for each of the two compilers that build it.
 #![tactic(auto)]
 
-ghost use Rattle.std.specs.Prelude.{◌≡◌, IfOk};
+ghost use Rattle.std.specs.Prelude.{◌≡◌, ◌≤◌};
 
 /// Does something `$count` times, with `$i` from 0; each time it says how much was done. The answer is how much was done as a
 /// whole, and in how many microseconds of processor time.
 macro_rules! timed {
     ($rt:ident, $count:ident, $i:ident => $once:expr) => {{
-        let (mut done, start) = (0u64, crate::micros($rt)?);
+        let (start, mut done) = (crate::micros($rt)?, 0u64);
         for $i in 0..$count {
-            let more: u32 = $once;
-            done = done.wrapping_add(u64::from(more));
+            done = crate::sum(done, $once);
         }
-        Ok((done, crate::micros($rt)?.saturating_sub(start)))
+        crate::since($rt, start, done)
     }};
 }
 
@@ -32,8 +31,9 @@ mod wires;
 mod work;
 mod worlds;
 
-use anyhow::{Context, Result};
+use anyhow::Result;
 use node::Deeds;
+use ring::Sample;
 use std::sync::Wait;
 use std::thread::Threads;
 use std::time::CpuClock;
@@ -51,6 +51,32 @@ pub const NAMES: &str =
     threads-mixed threads-resident threads-locks threads-evictions \
     threads-run-mixed threads-run-resident threads-run-locks threads-run-evictions";
 
+fn work_named(name: &str) -> Option<Work> {
+    match name {
+        "mixed" => Some(Work::Mixed),
+        "resident" => Some(Work::Resident),
+        "locks" => Some(Work::Locks),
+        "evictions" => Some(Work::Evictions),
+        _ => None,
+    }
+}
+
+/// The order and the work of a measure of whole worlds.
+fn world_named(name: &str) -> Option<(Order, Work)> {
+    match name.strip_prefix("threads-") {
+        Some(work) => Some((Order::Threads, work_named(work)?)),
+        None => Some((Order::Turns, work_named(name.strip_prefix("world-")?)?)),
+    }
+}
+
+/// The order and the work of a measure of whole runs.
+fn run_named(name: &str) -> Option<(Order, Work)> {
+    match name.strip_prefix("threads-run-") {
+        Some(work) => Some((Order::Threads, work_named(work)?)),
+        None => Some((Order::Turns, work_named(name.strip_prefix("run-")?)?)),
+    }
+}
+
 /// Does a measure of whole worlds or runs so often.
 fn take_run<R: Threads + Wait + Sync>(
     rt: &HostRuntime,
@@ -58,28 +84,126 @@ fn take_run<R: Threads + Wait + Sync>(
     name: &str,
     count: u32,
 ) -> Result<(u64, u64)> {
+    if let Some((order, work)) = run_named(name) {
+        return runs::run(rt, threads, work, order, count);
+    }
+    match world_named(name) {
+        Some((order, work)) => worlds::run(rt, threads, work, order, count),
+        None => anyhow::bail!("no such measure"),
+    }
+}
+
+/// Does a measure of files, or of whole worlds or runs, so often.
+fn take_whole<R: Threads + Wait + Sync>(
+    rt: &HostRuntime,
+    threads: &R,
+    name: &str,
+    count: u32,
+) -> Result<(u64, u64)> {
     match name {
-        "world-mixed" => worlds::run(rt, threads, Work::Mixed, Order::Turns, count),
-        "world-resident" => worlds::run(rt, threads, Work::Resident, Order::Turns, count),
-        "world-locks" => worlds::run(rt, threads, Work::Locks, Order::Turns, count),
-        "world-evictions" => worlds::run(rt, threads, Work::Evictions, Order::Turns, count),
-        "run-mixed" => runs::run(rt, threads, Work::Mixed, Order::Turns, count),
-        "run-resident" => runs::run(rt, threads, Work::Resident, Order::Turns, count),
-        "run-locks" => runs::run(rt, threads, Work::Locks, Order::Turns, count),
-        "run-evictions" => runs::run(rt, threads, Work::Evictions, Order::Turns, count),
         "names" => files::run_names(rt, threads, count),
         "copies-256" => files::run_copies(rt, threads, 256, count),
         "copies-8" => files::run_copies(rt, threads, 8, count),
         "file-read" => files::run_reading(rt, threads, count),
-        "threads-mixed" => worlds::run(rt, threads, Work::Mixed, Order::Threads, count),
-        "threads-resident" => worlds::run(rt, threads, Work::Resident, Order::Threads, count),
-        "threads-locks" => worlds::run(rt, threads, Work::Locks, Order::Threads, count),
-        "threads-evictions" => worlds::run(rt, threads, Work::Evictions, Order::Threads, count),
-        "threads-run-mixed" => runs::run(rt, threads, Work::Mixed, Order::Threads, count),
-        "threads-run-resident" => runs::run(rt, threads, Work::Resident, Order::Threads, count),
-        "threads-run-locks" => runs::run(rt, threads, Work::Locks, Order::Threads, count),
-        "threads-run-evictions" => runs::run(rt, threads, Work::Evictions, Order::Threads, count),
-        _ => anyhow::bail!("no such measure"),
+        _ => take_run(rt, threads, name, count),
+    }
+}
+
+/// A measure of a part.
+#[derive(Clone, Copy)]
+enum Part {
+    FramesWritten(Sample),
+    FramesRead(Sample),
+    LinkFrames(Sample),
+    BytesPassed(Sample),
+    JournalsWritten,
+    JournalsRead,
+    HomeLocks,
+    HomePageOuts,
+    DeskLoads(u32),
+    DeskStores,
+    CacheTouches(u16),
+    CacheEvictions(u16),
+    ScriptsRead,
+    ShellsMade,
+    StoreOperations,
+    Node(Deeds),
+    Steps,
+}
+
+/// Of frames and journals.
+fn frames_named(name: &str) -> Option<Part> {
+    Some(match name {
+        "lock-frames-written" => Part::FramesWritten(Sample::Lock),
+        "lock-frames-read" => Part::FramesRead(Sample::Lock),
+        "page-outs-written" => Part::FramesWritten(Sample::PageOut),
+        "page-outs-read" => Part::FramesRead(Sample::PageOut),
+        "link-frames" => Part::LinkFrames(Sample::Lock),
+        "link-pages" => Part::LinkFrames(Sample::PageOut),
+        "bytes-frames" => Part::BytesPassed(Sample::Lock),
+        "bytes-pages" => Part::BytesPassed(Sample::PageOut),
+        _ => return None,
+    })
+}
+
+/// Of desks and caches.
+fn desk_named(name: &str) -> Option<Part> {
+    Some(match name {
+        "desk-loads" => Part::DeskLoads(32),
+        "desk-stores" => Part::DeskStores,
+        "desk-evictions" => Part::DeskLoads(128),
+        "cache-touches-64" => Part::CacheTouches(64),
+        "cache-touches-256" => Part::CacheTouches(256),
+        "cache-evictions-64" => Part::CacheEvictions(64),
+        "cache-evictions-256" => Part::CacheEvictions(256),
+        _ => return None,
+    })
+}
+
+/// Of the others.
+fn part_named(name: &str) -> Option<Part> {
+    Some(match name {
+        "journals-written" => Part::JournalsWritten,
+        "journals-read" => Part::JournalsRead,
+        "home-locks" => Part::HomeLocks,
+        "home-page-outs" => Part::HomePageOuts,
+        "scripts-read" => Part::ScriptsRead,
+        "shells-made" => Part::ShellsMade,
+        "store-operations" => Part::StoreOperations,
+        "node-accesses" => Part::Node(Deeds::Accesses),
+        "node-locks" => Part::Node(Deeds::Locks),
+        "xorshift-steps" => Part::Steps,
+        _ => return None,
+    })
+}
+
+fn any_named(name: &str) -> Option<Part> {
+    match (frames_named(name), desk_named(name)) {
+        (Some(part), _) | (None, Some(part)) => Some(part),
+        (None, None) => part_named(name),
+    }
+}
+
+/// Does a measure of a part so often.
+fn take_part(rt: &HostRuntime, part: Part, count: u32) -> Result<(u64, u64)> {
+    match part {
+        Part::FramesWritten(sample) => ring::write_frames(rt, sample, count),
+        Part::FramesRead(sample) => ring::read_frames(rt, sample, count),
+        Part::LinkFrames(sample) => wires::send_frames(rt, sample, count),
+        Part::BytesPassed(sample) => wires::pass_bytes(rt, sample, count),
+        Part::JournalsWritten => ring::write_journals(rt, count),
+        Part::JournalsRead => ring::read_journals(rt, count),
+        Part::HomeLocks => home::lock_and_unlock(rt, count),
+        Part::HomePageOuts => home::page_out(rt, count),
+        Part::DeskLoads(pages) => desk::load(rt, pages, count),
+        Part::DeskStores => desk::store(rt, 32, count),
+        Part::CacheTouches(frames) => desk::touch(rt, frames, count),
+        Part::CacheEvictions(frames) => desk::evict(rt, frames, count),
+        Part::ScriptsRead => scripts::read(rt, count),
+        Part::ShellsMade => scripts::make_shells(rt, count),
+        Part::StoreOperations => scripts::operate(rt, count),
+        Part::Node(deeds) => node::happen(rt, deeds, count),
+        Part::Steps => steps(rt, count),
     }
 }
 
@@ -91,33 +215,9 @@ pub fn take<R: Threads + Wait + Sync>(
     name: &str,
     count: u32,
 ) -> Result<(u64, u64)> {
-    match name {
-        "lock-frames-written" => ring::write_frames(rt, ring::Sample::Lock, count),
-        "lock-frames-read" => ring::read_frames(rt, ring::Sample::Lock, count),
-        "page-outs-written" => ring::write_frames(rt, ring::Sample::PageOut, count),
-        "page-outs-read" => ring::read_frames(rt, ring::Sample::PageOut, count),
-        "link-frames" => wires::send_frames(rt, ring::Sample::Lock, count),
-        "link-pages" => wires::send_frames(rt, ring::Sample::PageOut, count),
-        "bytes-frames" => wires::pass_bytes(rt, ring::Sample::Lock, count),
-        "bytes-pages" => wires::pass_bytes(rt, ring::Sample::PageOut, count),
-        "journals-written" => ring::write_journals(rt, count),
-        "journals-read" => ring::read_journals(rt, count),
-        "home-locks" => home::lock_and_unlock(rt, count),
-        "home-page-outs" => home::page_out(rt, count),
-        "desk-loads" => desk::load(rt, 32, count),
-        "desk-stores" => desk::store(rt, 32, count),
-        "desk-evictions" => desk::load(rt, 128, count),
-        "cache-touches-64" => desk::touch(rt, 64, count),
-        "cache-touches-256" => desk::touch(rt, 256, count),
-        "cache-evictions-64" => desk::evict(rt, 64, count),
-        "cache-evictions-256" => desk::evict(rt, 256, count),
-        "scripts-read" => scripts::read(rt, count),
-        "shells-made" => scripts::make_shells(rt, count),
-        "store-operations" => scripts::operate(rt, count),
-        "node-accesses" => node::happen(rt, Deeds::Accesses, count),
-        "node-locks" => node::happen(rt, Deeds::Locks, count),
-        "xorshift-steps" => steps(rt, count),
-        _ => take_run(rt, threads, name, count),
+    match any_named(name) {
+        Some(part) => take_part(rt, part, count),
+        None => take_whole(rt, threads, name, count),
     }
 }
 
@@ -126,19 +226,36 @@ fn micros(rt: &HostRuntime) -> Result<u64> {
     Ok(u64::try_from(rt.process_cpu_time()?.as_micros())?)
 }
 
+/// How much was done, and how many microseconds of processor time were used since the clock stood so.
+fn since(rt: &HostRuntime, start: u64, done: u64) -> Result<(u64, u64)> {
+    Ok((done, micros(rt)?.saturating_sub(start)))
+}
+
+/// How much was done as a whole.
+fn sum(done: u64, more: u32) -> u64 {
+    done.wrapping_add(u64::from(more))
+}
+
 /// A process of a node.
-fn process(node: u8, number: u8) -> Result<ProcId>
-    ensures { IfOk result (λ p. p ≡ record { node = node; number = number }) }
+fn process(node: u8, number: u8) -> ProcId
+    requires node { (1 ≤ node) × (node ≤ 8) }
+    requires number { (1 ≤ number) × (number ≤ 4) }
+    ensures { result ≡ record { node = node; number = number } }
 {
-    let node = NodeId::new(node).context("no node")?;
-    Ok(ProcId::new(node, number).context("no process")?)
+    match NodeId::new(node) {
+        Some(node) => match ProcId::new(node, number) {
+            Some(proc) => proc,
+            None => unreachable!(),
+        },
+        None => unreachable!(),
+    }
 }
 
 /// The first object of node 2 behind its entry directory.
-fn object() -> Result<Uid>
-    ensures { IfOk result (λ u. u ≡ record { counter = 2; home = 2 }) }
+fn object() -> Uid
+    ensures { result ≡ record { counter = 2; home = 2 } }
 {
-    Ok(Uid::from_parts(2, process(2, 1)?.node()))
+    Uid::from_parts(2, process(2, 1).node())
 }
 
 /// Steps of a generator of 64 bits, which tell how fast a machine is.

@@ -21,7 +21,7 @@ pub enum Deeds {
 }
 
 /// The program, before it was asked.
-fn program(alloc: Global, deeds: Deeds, uid: Uid) -> Result<Repeat>
+fn program(alloc: Global, deeds: Deeds, uid: Uid) -> Result<Repeat, NoMemory>
     ensures whole { IfOk result (λ program. program.spent ≡ false) }
     ensures fresh { IfOk result (λ program. want_of program ≡ Phase) }
 {
@@ -47,8 +47,8 @@ struct Side {
 }
 
 impl Side {
-    fn new(alloc: Global, deeds: Deeds) -> Result<Side> {
-        let number = process(1, 1)?.node();
+    fn new(alloc: Global, deeds: Deeds) -> Result<Side, NoMemory> {
+        let number = process(1, 1).node();
         let uid = Uid::from_parts(2, number);
         let mut opening = Opening::new(alloc, 1, 1024);
         opening.add(uid, ObjKind::File, 1)?;

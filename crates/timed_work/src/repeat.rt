@@ -9,7 +9,7 @@ use std::marker::Model;
 use uid_names::NoMemory;
 
 /// Which operation it wants now.
-#[derive(Clone, Copy, Debug, PartialEq, Eq)]
+#[derive(Clone, Copy)]
 enum Turn {
     First,
     Odd,

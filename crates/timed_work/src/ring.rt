@@ -17,7 +17,7 @@ pub enum Sample {
 }
 
 /// The bytes of a frame from node 1 to node 2.
-fn frame(alloc: Global, sample: Sample) -> Result<ByteList, NoMemory> {
+fn put_frame(bytes: &mut ByteList, sample: Sample) -> Result<(), NoMemory> {
     let (kind, rest): (u8, &[u8]) = match sample {
         Sample::Lock => (4, &[2]),
         Sample::PageOut => (
@@ -25,13 +25,19 @@ fn frame(alloc: Global, sample: Sample) -> Result<ByteList, NoMemory> {
             &[0, 0, 0, 1, 0, 0, 0, 0, 0, 0, 0, 1, 0, 0, 0, 0, 0, 0, 0, 1],
         ),
     };
-    let mut bytes = ByteList::from_slice(alloc, &[1, kind, 1, 2, 1, 0, 0, 0])?;
+    bytes.extend(&[1, kind, 1, 2, 1, 0, 0, 0])?;
     bytes.extend(&[0, 0, 0, 0, 0, 0, 1, 9, 0, 0, 0, 0, 0, 0, 1, 9])?;
     bytes.extend(&[0, 0, 0, 0, 0, 0x20, 0, 2])?;
     bytes.extend(rest)?;
     if kind == 2 {
         bytes.extend(&[7; 1024])?;
     }
+    Ok(())
+}
+
+fn frame(alloc: Global, sample: Sample) -> Result<ByteList, NoMemory> {
+    let mut bytes = ByteList::new(alloc);
+    put_frame(&mut bytes, sample)?;
     Ok(bytes)
 }
 
@@ -82,15 +88,21 @@ fn event(alloc: Global, tick: u64, node: NodeId, other: NodeId) -> Event {
     Event::new(Place { tick, node }, what, effects)
 }
 
-/// A thousand events of two nodes, and their names.
-fn events(alloc: Global) -> Result<(EventList, NodeNames)> {
+/// A thousand events of two nodes.
+fn events(alloc: Global) -> Result<EventList, NoMemory> {
+    let (node, other) = (process(1, 1).node(), process(2, 1).node());
     let mut events = EventList::new(alloc);
     for tick in 1..1001 {
-        events.push(event(alloc, tick, process(1, 1)?.node(), process(2, 1)?.node()))?;
+        events.push(event(alloc, tick, node, other))?;
     }
+    Ok(events)
+}
+
+/// Their names.
+fn names(alloc: Global) -> Result<NodeNames, NoMemory> {
     let a = ByteList::from_slice(alloc, b"a")?;
     let b = ByteList::from_slice(alloc, b"b")?;
-    Ok((events, NodeNames::from_list(alloc, &[a, b])?))
+    NodeNames::from_list(alloc, &[a, b])
 }
 
 fn write(alloc: Global, events: &EventList, names: &NodeNames) -> Result<LineBuffer, NoMemory> {
@@ -102,7 +114,7 @@ fn write(alloc: Global, events: &EventList, names: &NodeNames) -> Result<LineBuf
 
 /// A journal has a thousand lines, and their room is found each time.
 pub fn write_journals(rt: &HostRuntime, count: u32) -> Result<(u64, u64)> {
-    let (events, names) = events(rt.alloc())?;
+    let (events, names) = (events(rt.alloc())?, names(rt.alloc())?);
     timed!(rt, count, _i => {
         let lines = write(rt.alloc(), &events, &names)?;
         if lines.bytes().is_empty() { 0 } else { 1000 }
@@ -110,7 +122,7 @@ pub fn write_journals(rt: &HostRuntime, count: u32) -> Result<(u64, u64)> {
 }
 
 pub fn read_journals(rt: &HostRuntime, count: u32) -> Result<(u64, u64)> {
-    let (events, names) = events(rt.alloc())?;
+    let (events, names) = (events(rt.alloc())?, names(rt.alloc())?);
     let lines = write(rt.alloc(), &events, &names)?;
     timed!(rt, count, _i => {
         let read = read_journal(rt.alloc(), lines.bytes(), &names)?;

@@ -2,7 +2,7 @@
 ghost use Rattle.std.specs.Prelude.{◌<◌};
 
 use crate::sink::{Counter, Unit};
-use crate::work::{Order, Work, head};
+use crate::work::{Order, Work, put, put_head};
 use anyhow::Result;
 use dom_io::MemSource;
 use node_threads::OpenGate;
@@ -16,89 +16,110 @@ use uid_names::{ByteList, NoMemory};
 const COMMANDS: u32 = 20_000;
 
 /// The commands of a process in a phase, on an object that moves on from phase to phase.
-fn turn_of(alloc: Global, script: &mut ByteList, q: u32, phase: u32) -> Result<(), NoMemory>
+fn put_turn(alloc: Global, script: &mut ByteList, q: u32, phase: u32) -> Result<(), NoMemory>
     requires process { q < 32 }
     requires phase { phase < 1000 }
 {
     let (node, proc, object) = (q / 4, q % 4 + 1, (q + phase * 5) % 32);
     let place = (q * 97 + phase * 131) % 4_000;
-    script.extend(format!(in alloc; "n{node}.{proc} lock o{object} w\n")?.as_bytes())?;
-    script.extend(format!(in alloc;
-        "n{node}.{proc} store o{object} {place} \"12345678\"\n"
-    )?.as_bytes())?;
-    script.extend(format!(in alloc; "n{node}.{proc} load o{object} {place} 8\n")?.as_bytes())?;
-    script.extend(format!(in alloc; "n{node}.{proc} length o{object}\n")?.as_bytes())?;
-    script.extend(format!(in alloc; "n{node}.{proc} unlock o{object}\n")?.as_bytes())
+    let text =
+        b"nA.B lock oC w\nnA.B store oC D \"12345678\"\nnA.B load oC D 8\nnA.B length oC\nnA.B unlock oC\n";
+    put(alloc, script, text, &[node, proc, object, place])
 }
 
-fn mixed(alloc: Global) -> Result<ByteList, NoMemory> {
-    let mut script = head(alloc, Work::Mixed)?;
+/// A phase of the mixed work.
+fn put_phase(alloc: Global, script: &mut ByteList, phase: u32) -> Result<(), NoMemory>
+    requires { phase < 1000 }
+{
+    if phase > 0 {
+        script.extend(b"phase\n")?;
+    }
+    for q in 0..32 {
+        put_turn(alloc, script, q, phase)?;
+    }
+    Ok(())
+}
+
+fn put_mixed(alloc: Global, script: &mut ByteList) -> Result<(), NoMemory> {
     for phase in 0..COMMANDS / 160 {
-        if phase > 0 {
-            script.extend(b"phase\n")?;
-        }
-        for q in 0..32 {
-            turn_of(alloc, &mut script, q, phase)?;
-        }
+        put_phase(alloc, script, phase)?;
     }
-    Ok(script)
+    Ok(())
 }
 
-fn resident(alloc: Global) -> Result<ByteList, NoMemory> {
-    let mut script = head(alloc, Work::Resident)?;
-    for n in 0..8u32 {
-        script.extend(format!(in alloc; "n{n}.1 lock o{n} w\n")?.as_bytes())?;
-        for i in 0..COMMANDS / 16 - 1 {
-            let place = i % 4 * 1_024;
-            script.extend(format!(in alloc;
-                "n{n}.1 store o{n} {place} \"12345678\"\n"
-            )?.as_bytes())?;
-            script.extend(format!(in alloc; "n{n}.1 load o{n} {place} 8\n")?.as_bytes())?;
-        }
+/// What the process of a node stores and loads, once it has locked its object.
+fn put_stores(alloc: Global, script: &mut ByteList, node: u32) -> Result<(), NoMemory> {
+    put(alloc, script, b"nA.1 lock oA w\n", &[node])?;
+    for i in 0..COMMANDS / 16 - 1 {
+        let text = b"nA.1 store oA B \"12345678\"\nnA.1 load oA B 8\n";
+        put(alloc, script, text, &[node, i % 4 * 1_024])?;
     }
-    Ok(script)
+    Ok(())
 }
 
-fn locks(alloc: Global) -> Result<ByteList, NoMemory> {
-    let mut script = head(alloc, Work::Locks)?;
+fn put_locks(script: &mut ByteList) -> Result<(), NoMemory> {
     for _ in 0..COMMANDS / 2 {
         script.extend(b"n0.1 lock o1 w\nn0.1 unlock o1\n")?;
     }
-    Ok(script)
+    Ok(())
 }
 
-fn evictions(alloc: Global) -> Result<ByteList, NoMemory> {
-    let mut script = head(alloc, Work::Evictions)?;
-    for n in 0..8u32 {
-        let object = (n + 1) % 8;
-        script.extend(format!(in alloc; "n{n}.1 lock o{object} w\n")?.as_bytes())?;
-        script.extend(format!(in alloc; "n{n}.1 store o{object} 32767 \"z\"\n")?.as_bytes())?;
-        for i in 0..COMMANDS / 8 - 2 {
-            let place = i % 32 * 1_024;
-            script.extend(format!(in alloc; "n{n}.1 load o{object} {place} 1\n")?.as_bytes())?;
-        }
+/// What the process of a node loads, once it has locked an object of another node and stored at its end.
+fn put_loads(alloc: Global, script: &mut ByteList, node: u32, object: u32) -> Result<(), NoMemory> {
+    let text = b"nA.1 lock oB w\nnA.1 store oB 32767 \"z\"\n";
+    put(alloc, script, text, &[node, object])?;
+    for i in 0..COMMANDS / 8 - 2 {
+        let place = i % 32 * 1_024;
+        put(alloc, script, b"nA.1 load oB C 1\n", &[node, object, place])?;
     }
-    Ok(script)
+    Ok(())
 }
 
-fn text(alloc: Global, work: Work) -> Result<ByteList, NoMemory> {
+/// What the process of a node does.
+fn put_node(alloc: Global, script: &mut ByteList, work: Work, node: u32) -> Result<(), NoMemory>
+    requires { node < 8 }
+{
     match work {
-        Work::Mixed => mixed(alloc),
-        Work::Resident => resident(alloc),
-        Work::Locks => locks(alloc),
-        Work::Evictions => evictions(alloc),
+        Work::Resident => put_stores(alloc, script, node),
+        Work::Evictions => put_loads(alloc, script, node, (node + 1) % 8),
+        _ => Ok(()),
     }
+}
+
+fn put_script(alloc: Global, script: &mut ByteList, work: Work) -> Result<(), NoMemory> {
+    put_head(alloc, script, work)?;
+    match work {
+        Work::Mixed => return put_mixed(alloc, script),
+        Work::Locks => return put_locks(script),
+        _ => {}
+    }
+    for node in 0..8 {
+        put_node(alloc, script, work, node)?;
+    }
+    Ok(())
+}
+
+fn put_word(alloc: Global, words: &mut Vec<String>, word: &str) -> Result<(), NoMemory> {
+    words.push(String::from_str(alloc, word)?)?;
+    Ok(())
 }
 
 /// The words that ask for a run, in the turns of a number or by threads.
-fn words_of(alloc: Global, order: Order, turns: u32) -> Result<Vec<String>> {
-    let mut words = Vec::new(alloc);
-    words.push(String::from_str(alloc, "run")?)?;
-    if order == Order::Turns {
-        words.push(String::from_str(alloc, "--turns")?)?;
-        words.push(format!(in alloc; "{turns}")?)?;
+fn put_words(
+    alloc: Global,
+    words: &mut Vec<String>,
+    order: Order,
+    turns: u32,
+) -> Result<(), NoMemory> {
+    put_word(alloc, words, "run")?;
+    match order {
+        Order::Turns => {
+            put_word(alloc, words, "--turns")?;
+            words.push(format!(in alloc; "{turns}")?)?;
+            Ok(())
+        }
+        Order::Threads => Ok(()),
     }
-    Ok(words)
 }
 
 /// Runs a script in the turns of this number, or by threads; how much its journal has, in this unit.
@@ -110,7 +131,8 @@ fn run_once<R: Threads + Wait + Sync>(
     turns: u32,
     unit: Unit,
 ) -> Result<u32> {
-    let words = words_of(alloc, order, turns)?;
+    let mut words = Vec::new(alloc);
+    put_words(alloc, &mut words, order, turns)?;
     let mut source = MemSource::new(alloc, script, &[])?;
     let (mut out, mut journal) = (Counter::new(Unit::Bytes), Counter::new(unit));
     let status = run_domain(
@@ -156,6 +178,7 @@ pub fn run<R: Threads + Wait + Sync>(
     order: Order,
     count: u32,
 ) -> Result<(u64, u64)> {
-    let script = text(rt.alloc(), work)?;
+    let mut script = ByteList::new(rt.alloc());
+    put_script(rt.alloc(), &mut script, work)?;
     run_script(rt, threads, script.bytes(), order, count)
 }

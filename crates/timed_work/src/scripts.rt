@@ -1,7 +1,8 @@
 //! What runs a script: its reader, the shells of its processes, and the plain store.
-ghost use Rattle.std.specs.Prelude.{◌≤◌, length};
+ghost use Rattle.std.specs.Prelude.{◌≤◌, length, IfOk};
 ghost use Rattle.dom_history.specs.Ranges.{IsOp};
 
+use crate::work::put;
 use crate::{object, process};
 use aegis_shell::Shell;
 use anyhow::Result;
@@ -12,20 +13,27 @@ use std::alloc::Global;
 use uid_names::{ByteList, Mode, NoMemory, ProcId};
 
 /// A script of eight nodes with 4,000 objects each, and of 32 processes with 625 commands each, in 1,048,576 bytes.
-fn script(alloc: Global) -> Result<ByteList, NoMemory> {
-    let mut script = ByteList::from_slice(alloc, b"node n1\nnode n2\nnode n3\nnode n4\n")?;
-    script.extend(b"node n5\nnode n6\nnode n7\nnode n8\n")?;
-    for i in 0..32_000u32 {
-        let node = i % 8 + 1;
-        script.extend(format!(in alloc; "object ob{i} 1 n{node}\n")?.as_bytes())?;
+fn put_script(alloc: Global, script: &mut ByteList) -> Result<(), NoMemory> {
+    for i in 1..9 {
+        put(alloc, script, b"node nA\n", &[i])?;
     }
-    for i in 0..20_000u32 {
+    for i in 0..32_000 {
+        put(alloc, script, b"object obA 1 nB\n", &[i, i % 8 + 1])?;
+    }
+    for i in 0..20_000 {
         let (node, number) = (i % 8 + 1, i / 8 % 4 + 1);
-        script.extend(format!(in alloc; "n{node}.{number} lock ob{i} r\n")?.as_bytes())?;
+        put(alloc, script, b"nA.B lock obC r\n", &[node, number, i])?;
     }
     for _ in script.bytes().len()..1_048_576 {
         script.push(b'\n')?;
     }
+    Ok(())
+}
+
+/// Its bytes.
+fn script(alloc: Global) -> Result<ByteList, NoMemory> {
+    let mut script = ByteList::new(alloc);
+    put_script(alloc, &mut script)?;
     Ok(script)
 }
 
@@ -38,10 +46,10 @@ pub fn read(rt: &HostRuntime, count: u32) -> Result<(u64, u64)> {
 }
 
 /// Makes the shells of all 32 processes of a script, which are there at a time: how many they are.
-fn shells_made(alloc: Global, script: &Script) -> Result<usize> {
+fn shells_made(alloc: Global, script: &Script) -> Result<usize, NoMemory> {
     let mut shells = Vec::new(alloc);
     for p in 0..32u8 {
-        let proc = process(p / 4 + 1, p % 4 + 1)?;
+        let proc = process(p / 4 + 1, p % 4 + 1);
         shells.push(Shell::new(alloc, script, proc)?)?;
     }
     Ok(shells.len())
@@ -65,12 +73,12 @@ impl Side {
     fn new(alloc: Global) -> Result<Side> {
         let script = read_script(alloc, b"node a\nnode b\nobject x 1 b")?;
         let store = PlainStore::new(alloc, script.opening())?;
-        let (proc, deeds) = (process(1, 1)?, 0);
+        let (proc, deeds) = (process(1, 1), 0);
         Ok(Side { store, proc, deeds })
     }
 
     /// Does an operation; 1 where it is answered with what was asked for, else 0.
-    fn apply(&mut self, alloc: Global, op: &Op) -> Result<u32>
+    fn apply(&mut self, alloc: Global, op: &Op) -> Result<u32, NoMemory>
         requires { IsOp op.now }
     {
         if self.deeds >= 1_000_000_000_000 {
@@ -78,24 +86,33 @@ impl Side {
         }
         let reply = self.store.apply(alloc, self.proc, op)?;
         self.deeds += 1;
-        match reply {
+        match &reply {
             Reply::Fine | Reply::Bytes(_) | Reply::Size(_) => Ok(1),
             _ => Ok(0),
         }
     }
 
-    /// A lock, a store, a load, a length and an unlock in turn.
-    fn operate(&mut self, alloc: Global, i: u32) -> Result<u32> {
-        let (uid, mode, count) = (object()?, Mode::Write, 1);
-        let (spot, _number) = (Spot::Of(uid, 0), uid.number());
-        let bytes = ByteList::from_slice(alloc, b"some bytes")?;
-        match i % 5 {
-            0 => self.apply(alloc, &Op::Lock { uid, mode }),
-            1 => self.apply(alloc, &Op::Store { spot, bytes }),
-            2 => self.apply(alloc, &Op::Load { spot, count }),
-            3 => self.apply(alloc, &Op::Length { uid }),
-            _ => self.apply(alloc, &Op::Unlock { uid }),
+    fn operate(&mut self, alloc: Global, i: u32) -> Result<u32, NoMemory> {
+        let op = operation(alloc, i)?;
+        self.apply(alloc, &op)
+    }
+}
+
+/// A lock, a store, a load, a length and an unlock in turn.
+fn operation(alloc: Global, i: u32) -> Result<Op, NoMemory>
+    ensures { IfOk result IsOp }
+{
+    let (uid, mode, count) = (object(), Mode::Write, 1);
+    let (spot, _number) = (Spot::Of(uid, 0), uid.number());
+    match i % 5 {
+        0 => Ok(Op::Lock { uid, mode }),
+        1 => {
+            let bytes = ByteList::from_slice(alloc, b"some bytes")?;
+            Ok(Op::Store { spot, bytes })
         }
+        2 => Ok(Op::Load { spot, count }),
+        3 => Ok(Op::Length { uid }),
+        _ => Ok(Op::Unlock { uid }),
     }
 }
 

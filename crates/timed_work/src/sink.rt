@@ -4,7 +4,7 @@ ghost use Rattle.std.specs.Prelude.{None};
 use dom_io::{Sink, Took};
 
 /// What is counted.
-#[derive(Clone, Copy, Debug, PartialEq, Eq)]
+#[derive(Clone, Copy)]
 pub enum Unit {
     /// Which costs nothing for each of them.
     Bytes,

@@ -65,25 +65,37 @@ fn load(uid: Uid, page: u32) -> Op
     Op::Load { spot, count }
 }
 
+/// What a process does with an object that it holds.
+fn add_turn(alloc: Global, list: &mut WantList, uid: Uid, page: u32) -> Result<(), NoMemory> {
+    list.add(store(alloc, uid, page)?)?;
+    list.add(load(uid, page))?;
+    list.add(length(uid))?;
+    list.add(unlock(uid))
+}
+
+/// The phases behind the first, with the lock of another object in each, and the next one behind the last.
+fn add_phases(alloc: Global, list: &mut WantList, q: u32) -> Result<(), NoMemory>
+    requires process { q < 32 }
+{
+    for phase in 1..32 {
+        let uid = object_of((q + phase * 5) % 32);
+        list.add_phase()?;
+        list.add(lock(uid))?;
+        add_turn(alloc, list, uid, (q + phase) % 4)?;
+    }
+    list.add_phase()
+}
+
 /// In each phase a process has another object, which another one had before.
 fn mixed(alloc: Global, q: u32, units: u32) -> Result<Rounds, NoMemory>
     requires process { q < 32 }
     requires few { units ≤ 100 }
     ensures { IfOk result IsReady }
 {
-    let mut list = WantList::new(alloc, Want::Do(lock(object_of(q))))?;
-    for phase in 0..32 {
-        let uid = object_of((q + phase * 5) % 32);
-        if phase > 0 {
-            list.add_phase()?;
-            list.add(lock(uid))?;
-        }
-        list.add(store(alloc, uid, (q + phase) % 4)?)?;
-        list.add(load(uid, (q + phase) % 4))?;
-        list.add(length(uid))?;
-        list.add(unlock(uid))?;
-    }
-    list.add_phase()?;
+    let uid = object_of(q);
+    let mut list = WantList::new(alloc, Want::Do(lock(uid)))?;
+    add_turn(alloc, &mut list, uid, q % 4)?;
+    add_phases(alloc, &mut list, q)?;
     // Behind its last phase it wants none.
     Ok(Rounds::new(list, (PHASES * 6 * units).saturating_sub(1)))
 }

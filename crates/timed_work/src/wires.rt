@@ -14,10 +14,10 @@ use uid_names::{Mode, NoMemory};
 use wire_links::{Carried, Parcel, RING_ROOM, Spelled, WireIn, WireOut, pair};
 
 /// What a frame to node 2 carries.
-fn body(alloc: Global, sample: Sample) -> Result<Body>
+fn body(alloc: Global, sample: Sample) -> Result<Body, NoMemory>
     ensures { IfOk result (IsBody 2) }
 {
-    let (uid, mode) = (object()?, Mode::Write);
+    let (uid, mode) = (object(), Mode::Write);
     match sample {
         Sample::Lock => Ok(Body::Lock { uid, mode }),
         Sample::PageOut => {
@@ -35,11 +35,11 @@ fn body(alloc: Global, sample: Sample) -> Result<Body>
 }
 
 /// A frame from node 1 to node 2.
-fn frame(alloc: Global, sample: Sample) -> Result<Frame>
+fn frame(alloc: Global, sample: Sample) -> Result<Frame, NoMemory>
     ensures link { IfOk result (λ m. (m.from ≡ 1) × (m.to ≡ 2)) }
     ensures tick { IfOk result (λ m. m.tick < 2 ^ 40) }
 {
-    let (from, to) = (process(1, 1)?.node(), process(2, 1)?.node());
+    let (from, to) = (process(1, 1).node(), process(2, 1).node());
     Ok(Frame::new(from, to, 1, 9, 9, body(alloc, sample)?))
 }
 
@@ -59,8 +59,8 @@ struct Side {
 }
 
 impl Side {
-    fn new(alloc: Global, sample: Sample) -> Result<Side> {
-        let (from, to) = (process(1, 1)?.node(), process(2, 1)?.node());
+    fn new(alloc: Global, sample: Sample) -> Result<Side, NoMemory> {
+        let (from, to) = (process(1, 1).node(), process(2, 1).node());
         let plan = FaultPlan::new(alloc);
         let (out, into) = pair(alloc, from, to, &plan)?;
         let frame = frame(alloc, sample)?;
@@ -76,8 +76,8 @@ impl Side {
         self.out.send(alloc, &self.frame)?;
         self.out.flush();
         match self.into.take() {
-            Some(Carried::Put(entry)) => match entry.received {
-                Parcel::Frame(bytes) => Ok(look(&bytes)),
+            Some(Carried::Put(entry)) => match &entry.received {
+                Parcel::Frame(bytes) => Ok(look(bytes)),
                 Parcel::Mark(_) => Ok(0),
             },
             _ => Ok(0),

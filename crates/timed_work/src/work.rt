@@ -3,7 +3,7 @@ use std::alloc::Global;
 use uid_names::{ByteList, NoMemory};
 
 /// What the processes do.
-#[derive(Clone, Copy, Debug, PartialEq, Eq)]
+#[derive(Clone, Copy)]
 pub enum Work {
     /// 32 processes on eight nodes of eight frames; in each phase each locks, loads, stores and unlocks an object that
     /// another one had before.
@@ -17,7 +17,7 @@ pub enum Work {
 }
 
 /// How nodes are run.
-#[derive(Clone, Copy, Debug, PartialEq, Eq)]
+#[derive(Clone, Copy)]
 pub enum Order {
     /// On one thread, each time in other turns.
     Turns,
@@ -28,6 +28,27 @@ pub enum Order {
 /// How many phases of the mixed work are one unit.
 pub const PHASES: u32 = 20;
 
+/// Puts a number last.
+fn put_number(alloc: Global, script: &mut ByteList, number: u32) -> Result<(), NoMemory> {
+    script.extend(format!(in alloc; "{number}")?.as_bytes())
+}
+
+/// Puts a text last in which `A` stands for the first of these numbers, `B` for the second, and so on.
+pub fn put(
+    alloc: Global,
+    script: &mut ByteList,
+    text: &[u8],
+    numbers: &[u32],
+) -> Result<(), NoMemory> {
+    for byte in text {
+        match numbers.get(usize::from(byte.wrapping_sub(b'A'))) {
+            Some(number) => put_number(alloc, script, *number)?,
+            None => script.push(*byte)?,
+        }
+    }
+    Ok(())
+}
+
 /// So many nodes with so many frames each.
 pub fn put_nodes(
     alloc: Global,
@@ -36,7 +57,7 @@ pub fn put_nodes(
     frames: u32,
 ) -> Result<(), NoMemory> {
     for i in 0..count {
-        script.extend(format!(in alloc; "node n{i} frames {frames}\n")?.as_bytes())?;
+        put(alloc, script, b"node nA frames B\n", &[i, frames])?;
     }
     Ok(())
 }
@@ -49,22 +70,19 @@ fn put_objects(
     room: u32,
 ) -> Result<(), NoMemory> {
     for i in 0..count {
-        let node = i % 8;
-        script.extend(format!(in alloc; "object o{i} {room} n{node}\n")?.as_bytes())?;
+        put(alloc, script, b"object oA B nC\n", &[i, room, i % 8])?;
     }
     Ok(())
 }
 
 /// The nodes and objects.
-pub fn head(alloc: Global, work: Work) -> Result<ByteList, NoMemory> {
-    let mut script = ByteList::new(alloc);
+pub fn put_head(alloc: Global, script: &mut ByteList, work: Work) -> Result<(), NoMemory> {
     let (nodes, frames, objects, room) = match work {
         Work::Mixed => (8, 8, 32, 4),
         Work::Resident => (8, 64, 8, 4),
         Work::Locks => (2, 64, 2, 1),
         Work::Evictions => (8, 8, 8, 32),
     };
-    put_nodes(alloc, &mut script, nodes, frames)?;
-    put_objects(alloc, &mut script, objects, room)?;
-    Ok(script)
+    put_nodes(alloc, script, nodes, frames)?;
+    put_objects(alloc, script, objects, room)
 }

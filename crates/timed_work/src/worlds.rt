@@ -16,7 +16,7 @@ use crate::micros;
 use crate::rounds::Rounds;
 use crate::sink::{Counter, Unit};
 use crate::teams::team;
-use crate::work::{Order, PHASES, Work, head};
+use crate::work::{Order, PHASES, Work, put_head};
 use anyhow::Result;
 use dom_history::{FaultPlan, MergedLogs, NodeNames};
 use journal_text::{JournalLines, are_merged_named};
@@ -30,20 +30,32 @@ use script_reader::{NodeRow, Script, read_script};
 use std::alloc::Global;
 use std::sync::Wait;
 use std::thread::Threads;
-use uid_names::{NoMemory, NodeId};
+use uid_names::{ByteList, NoMemory, NodeId};
 use world_core::World;
 
 /// No event gives a node this tick.
 const LAST_TICK: u64 = 1 << 40;
 
 /// What a script declares for the work: the nodes, the objects and the phases.
-fn declared(alloc: Global, work: Work, units: u32) -> Result<Script> {
-    let mut script = head(alloc, work)?;
-    if work == Work::Mixed {
+fn put_declared(
+    alloc: Global,
+    script: &mut ByteList,
+    work: Work,
+    units: u32,
+) -> Result<(), NoMemory> {
+    put_head(alloc, script, work)?;
+    if let Work::Mixed = work {
         for _ in 1..units.saturating_mul(PHASES) {
             script.extend(b"phase\n")?;
         }
     }
+    Ok(())
+}
+
+/// The same as it is read.
+fn declared(alloc: Global, work: Work, units: u32) -> Result<Script> {
+    let mut script = ByteList::new(alloc);
+    put_declared(alloc, &mut script, work, units)?;
     Ok(read_script(alloc, script.bytes())?)
 }
 
@@ -216,7 +228,10 @@ pub fn run<R: Threads + Wait + Sync>(
     order: Order,
     count: u32,
 ) -> Result<(u64, u64)> {
-    let most = if work == Work::Mixed { 50 } else { 100 };
+    let most = match work {
+        Work::Mixed => 50,
+        _ => 100,
+    };
     let (mut events, mut micros) = (0_u64, 0_u64);
     for turns in 0..count.div_ceil(most) {
         let units = count.saturating_sub(turns.saturating_mul(most)).min(most);

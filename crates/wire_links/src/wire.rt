@@ -1,5 +1,5 @@
 //! The two ends of a link.
-ghost use Rattle.std.specs.Prelude.{◌≡◌, ◌≢◌, ◌+◌, ◌<◌, ◌≤◌, ◌^◌, ◌++◌, ◌∷◌, ◌↔◌, [], length, OnOk, OnErr, IfOk, IfSome, IfNone, IsSome, IsTrue};
+ghost use Rattle.std.specs.Prelude.{◌≡◌, ◌≢◌, ◌+◌, ◌<◌, ◌≤◌, ◌^◌, ◌++◌, ◌∷◌, ◌↔◌, [], length, OnOk, OnErr, IfOk, IfSome, IfNone, IsSome, IsTrue, IsFalse};
 ghost use Rattle.std.specs.List.{list_any};
 ghost use Rattle.std.specs.VecDeque.{deque_len, deque_capacity};
 ghost use mathlib.Core.List.{IsPrefix};
@@ -27,7 +27,6 @@ pub const RING_ROOM: usize = 256;
 
 /// The end from which a link leads. What waits to be pushed stands in the link; word of a reply that is lost or late, and what stands before
 /// it, in the outbox.
-#[derive(Drop)]
 pub struct WireOut {
     fates: LinkFates,
     link: Link<Parcel>,
@@ -35,10 +34,28 @@ pub struct WireOut {
     producer: Producer<Carried>,
 }
 
+// Of its own, so that what drops one calls this and does not take it apart in place.
+impl Drop for WireOut {
+    fn drop(self) {
+        let WireOut {
+            fates: _,
+            link: _,
+            outbox: _,
+            producer: _,
+        } = self;
+    }
+}
+
 /// The end to which it leads.
-#[derive(Drop)]
 pub struct WireIn {
     consumer: Consumer<Carried>,
+}
+
+// Of its own, so that what drops one calls this and does not take it apart in place.
+impl Drop for WireIn {
+    fn drop(self) {
+        let WireIn { consumer: _ } = self;
+    }
 }
 
 /// The two ends of a link on which nothing was sent, over a ring that has room for [`RING_ROOM`] entries.
@@ -292,6 +309,17 @@ impl WireIn {
         ensures same { SameIn self.old self.new }
     {
         self.consumer.pop().ok()
+    }
+
+    /// Whether nothing waits here, as far as this end sees it now; what it sees is known from then on. Takes no memory.
+    pub fn is_empty(&mut self) -> bool
+        ensures nothing { IsTrue result → known self.new ≡ [] }
+        ensures some { IsFalse result → 0 < length (known self.new) }
+        ensures taken { taken self.new ≡ taken self.old }
+        ensures first { IsPrefix (known self.old) (known self.new) }
+        ensures same { SameIn self.old self.new }
+    {
+        self.consumer.is_empty()
     }
 
     /// How many entries were pushed and not taken, with both ends of one link in one hand; they are known from then on. What

@@ -95,7 +95,7 @@ impl<P: Program, G: Pages> World<P, G> {
         ensures programs { IfOk result (λ r. (p : ProcName) → named r.1.items p ≡ program_at (map (λ y. y.node) self.stations.items) p) }
     {
         let mut nodes = Vec::with_capacity(alloc, self.stations.len())?;
-        for station in self.stations {
+        for station in self.into_stations() {
             nodes.push(station.node)?;
         }
         let (logs, programs) = take_apart(alloc, nodes)?;

@@ -16,16 +16,38 @@ use uid_names::NoMemory;
 /// All nodes on one thread, with what waits on their links by a fault plan.
 ///
 /// A world that found no memory at a turn is spent.
-#[derive(Drop)]
 pub struct World<P: Program, G: Pages> {
     pub(crate) stations: Vec<Station<P, G>>,
     pub(crate) plan: FaultPlan,
     pub(crate) spent: bool,
 }
 
+// Of its own, so that what drops one calls this and does not take it apart in place.
+impl<P: Program, G: Pages> Drop for World<P, G> {
+    fn drop(self) {
+        let World {
+            stations: _,
+            plan: _,
+            spent: _,
+        } = self;
+    }
+}
+
 impl<P: Program, G: Pages> World<P, G> {
     ghost use Rattle.world_core.specs.SoFar.{IsRightSoFar};
     ghost use Rattle.world_core.specs.Stands.{AreNodes, Stands, IsTurn, IsTurnAt, TellsEnd, IsBelow};
+
+    /// Its stations, by number of node.
+    pub(crate) fn into_stations(self) -> Vec<Station<P, G>>
+        ensures { result.items ≡ self.stations.items }
+    {
+        let World {
+            stations,
+            plan: _,
+            spent: _,
+        } = self;
+        stations
+    }
 
     /// The world of these nodes, which are all, by number, as they were made.
     pub fn new(
@@ -38,6 +60,8 @@ impl<P: Program, G: Pages> World<P, G> {
             Stands P.wants P.becomes made s world (first_world s)) }
         ensures plan { IfOk result (λ world. world.plan ≡ plan) }
     {
+        // What each plan keeps.
+        let _rows = plan.rows();
         let count = nodes.len() as u8;
         let mut stations = Vec::with_capacity(alloc, nodes.len())?;
         for node in nodes {

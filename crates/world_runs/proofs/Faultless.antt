@@ -28,12 +28,12 @@ use Rattle.fault_handler.specs.LockCalls.{LockCall, LockAnswer, lock_call, lock_
 use Rattle.fault_handler.specs.Invariant.{IsProc, IsDesk}
 use Rattle.fault_handler.specs.Conditions.{IsIdle, IsAccessing}
 use Rattle.lock_validate.proofs.Standing.{lock_call-is, answer-is}
-use Rattle.desk_laws.specs.Causes.{Cause, comes_of, MayCome}
-use Rattle.desk_laws.specs.Left.{answer_reply}
-use Rattle.desk_laws.specs.Refusals.{Refuses}
-use Rattle.desk_laws.specs.Turns.{Says, IsMade}
-use Rattle.desk_laws.proofs.EachCall.{comes_of-made}
-use Rattle.desk_laws.proofs.Facts.{Always-then}
+use Rattle.lock_validate.specs.Causes.{Cause, comes_of, MayCome}
+use Rattle.lock_validate.specs.Left.{answer_reply}
+use Rattle.lock_validate.specs.Refusals.{Refuses}
+use Rattle.lock_validate.specs.Turns.{Says, IsMade}
+use Rattle.lock_validate.proofs.EachCall.{comes_of-made}
+use Rattle.lock_validate.proofs.Facts.{Always-then}
 use Rattle.node_runs.specs.RunHistories.{is_fault}
 use Rattle.node_runs.specs.Operations.{new_by, list_by, begun, gone_on, Said, said_to_new, said_to_list, said_to_lock, said_to_call, said_by, said_of, answered}
 use Rattle.node_runs.specs.Agreements.{IsCallOpen, IsCalling}

@@ -4,7 +4,7 @@ use Rattle.fault_handler.specs.Accesses.{desk_op, access_of}
 use Rattle.fault_handler.specs.Outcomes.{as_access, Gives}
 use Rattle.fault_handler.proofs.Outcomes.{IsAfter, Holds}
 use Rattle.fault_handler.proofs.Beginning.{access_of-after}
-use Rattle.desk_laws.specs.Causes.{Cause}
+use Rattle.lock_validate.specs.Causes.{Cause}
 use Rattle.desk_bench.proofs.Keeps.{desk_op-is, came-ready}
 use Rattle.desk_bench.proofs.driver.access.Goals as goal
 

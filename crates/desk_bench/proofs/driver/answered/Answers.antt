@@ -10,7 +10,7 @@ use Rattle.fault_handler.specs.Unseen.{said_to}
 use Rattle.fault_handler.proofs.Accessing.{IsDoneAfter}
 use Rattle.fault_handler.proofs.Answering.{page_answer-said, page_came_of-after, some-op}
 use Rattle.lock_validate.specs.Answers.{answer_came_of}
-use Rattle.desk_laws.specs.Causes.{Cause}
+use Rattle.lock_validate.specs.Causes.{Cause}
 use Rattle.desk_bench.proofs.Keeps.{page-answered, lock-some, lock-other, lock-answered, came-ready, settled-ready}
 use Rattle.desk_bench.proofs.driver.answered.Goals as goal
 

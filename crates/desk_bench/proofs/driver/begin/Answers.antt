@@ -1,7 +1,7 @@
 use Rattle.std.proofs.Common.{true, false, refl, arith}
 use Rattle.lock_validate.specs.Locking.{begin_lock_of}
 use Rattle.lock_validate.specs.Releases.{begin_unlock_of, begin_delete_of}
-use Rattle.desk_laws.specs.Causes.{Cause}
+use Rattle.lock_validate.specs.Causes.{Cause}
 use Rattle.desk_bench.proofs.Keeps.{settled-ready}
 use Rattle.desk_bench.proofs.driver.begin.Goals as goal
 

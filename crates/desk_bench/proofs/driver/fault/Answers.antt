@@ -9,7 +9,7 @@ use Rattle.fault_handler.specs.LockCalls.{lock_call}
 use Rattle.fault_handler.proofs.TransitKeeps.{open_task}
 use Rattle.fault_handler.proofs.Accessing.{ready-idle}
 use Rattle.lock_validate.specs.Faults.{call_failed_of}
-use Rattle.desk_laws.specs.Causes.{Cause}
+use Rattle.lock_validate.specs.Causes.{Cause}
 use Rattle.desk_bench.proofs.Keeps.{lock-some, lock-opened, settled-ready}
 use Rattle.desk_bench.proofs.driver.fault.Goals as goal
 

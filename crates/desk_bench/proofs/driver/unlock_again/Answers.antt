@@ -1,6 +1,6 @@
 use Rattle.std.proofs.Common.{false, refl, arith}
 use Rattle.lock_validate.specs.Releases.{begin_release_of}
-use Rattle.desk_laws.specs.Causes.{Cause}
+use Rattle.lock_validate.specs.Causes.{Cause}
 use Rattle.desk_bench.proofs.Keeps.{settled-ready}
 use Rattle.desk_bench.proofs.driver.unlock_again.Goals as goal
 

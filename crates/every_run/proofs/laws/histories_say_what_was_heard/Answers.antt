@@ -7,7 +7,7 @@ use Rattle.node_runs.specs.NodesKeep.{IsTimely}
 use Rattle.node_runs.specs.Runs.{World, choice_of, world_of}
 use Rattle.node_runs.specs.RunHistories.{history_of}
 use Rattle.every_run.specs.HeardOf.{heard_in, own_entries, heard_by_phase}
-use Rattle.run_calls.proofs.HistoryEntries.{IsReached}
+use Rattle.run_states.proofs.HistoryEntries.{IsReached}
 use Rattle.every_run.proofs.Reached.{reached-of, done-apart}
 use Rattle.every_run.proofs.laws.histories_say_what_was_heard.Goals as goal
 

@@ -17,10 +17,12 @@ returns-then-is_over g c =
 
 pub loop-preserved : goal.loop-preserved
 loop-preserved g c =
-    goes-then g.P.Program.wants g.P.Program.becomes c.args.last_tick c.args.post c.loop.post c.serve_post-round.new.post c.loop.invariant c.serve_post-round.ensures
+    goes-then g.P.Program.wants g.P.Program.becomes c.args.last_tick c.args.post c.serve_post-round.new.post c.rest.new.post
+    (goes-then g.P.Program.wants g.P.Program.becomes c.args.last_tick c.args.post c.loop.post c.serve_post-round.new.post c.loop.invariant c.serve_post-round.ensures)
+    (c.rest.ensures c.args.last_tick c.requires.last)
 
-pub loop-preserved-then-is_flushed : goal.loop-preserved-then-is_flushed
-loop-preserved-then-is_flushed g c =
+pub loop-preserved-then-are_enough : goal.loop-preserved-then-are_enough
+loop-preserved-then-are_enough g c =
     goes-then g.P.Program.wants g.P.Program.becomes c.args.last_tick c.args.post c.loop.post c.serve_post-round.new.post c.loop.invariant c.serve_post-round.ensures
 
 pub pass-requires : goal.pass-requires

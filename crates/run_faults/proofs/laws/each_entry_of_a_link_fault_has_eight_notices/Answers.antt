@@ -6,7 +6,7 @@ use Rattle.node_runs.specs.Runs.{World, Noted, choice_of}
 use Rattle.node_runs.specs.RunHistories.{all_told, history_in, history_if}
 use Rattle.world_runs.specs.Faults.{CallName, IsFaultlessNote}
 use Rattle.world_runs.proofs.LostFrames.{done-is}
-use Rattle.run_calls.specs.NotedEntries.{entry_of}
+use Rattle.run_states.specs.NotedEntries.{entry_of}
 use Rattle.run_faults.specs.LinkFaults.{fault_entries}
 use Rattle.run_faults.specs.EightNotices.{HasEightNotices}
 use Rattle.run_faults.proofs.Ends.{each-from, one-end}

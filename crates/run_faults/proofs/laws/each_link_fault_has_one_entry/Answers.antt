@@ -6,7 +6,7 @@ use Rattle.node_runs.specs.Runs.{World, Noted, choice_of, world_of}
 use Rattle.node_runs.specs.RunHistories.{all_told, history_if, history_of}
 use Rattle.world_runs.specs.Faults.{faults_in, IsFaultlessNote}
 use Rattle.world_runs.proofs.LostFrames.{done-is}
-use Rattle.run_calls.proofs.HistoryEntries.{history-entries}
+use Rattle.run_states.proofs.HistoryEntries.{history-entries}
 use Rattle.run_faults.specs.LinkFaults.{fault_entries, link_faults}
 use Rattle.run_faults.proofs.Ends.{each-from}
 use Rattle.run_faults.proofs.NotedFaults.{by_fault, as-many-entries}

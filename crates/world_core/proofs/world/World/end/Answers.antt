@@ -19,7 +19,7 @@ loop-station-preserved g c =
 
 pub take_apart-requires : goal.take_apart-requires
 take_apart-requires g c =
-    let all = all_taken c.into_iter-station-iterator.result c.loop-station.yielded c.loop-station.station-iterator c.args.self.stations.items c.loop-station.yielded_by c.into_iter-station-iterator.ensures.into_iter_gives.0 c.in-None.ensures.steps.0 in
+    let all = all_taken c.into_iter-station-iterator.result c.loop-station.yielded c.loop-station.station-iterator c.into_stations-station-items.result.items c.loop-station.yielded_by c.into_iter-station-iterator.ensures.into_iter_gives.0 c.in-None.ensures.steps.0 ∙ c.into_stations-station-items.ensures in
     record {
       numbers = subst (All AreNumbered) (sym (c.loop-station.invariant ∙ ap (map (λ (y : Station g.row.P.Denot g.row.G.Denot). y.node)) all))
           (All-map AreNumbered (λ (y : Station g.row.P.Denot g.row.G.Denot). y.node) c.args.self.stations.items c.requires.numbers);
@@ -27,7 +27,7 @@ take_apart-requires g c =
 
 pub by_place-requires : goal.by_place-requires
 by_place-requires g c =
-    let all = all_taken c.into_iter-station-iterator.result c.loop-station.yielded c.loop-station.station-iterator c.args.self.stations.items c.loop-station.yielded_by c.into_iter-station-iterator.ensures.into_iter_gives.0 c.in-None.ensures.steps.0 in
+    let all = all_taken c.into_iter-station-iterator.result c.loop-station.yielded c.loop-station.station-iterator c.into_stations-station-items.result.items c.loop-station.yielded_by c.into_iter-station-iterator.ensures.into_iter_gives.0 c.in-None.ensures.steps.0 ∙ c.into_stations-station-items.ensures in
     let logs = c.in_ok-logs.ensures.logs
     ∙ ap (map (λ (x : Noted g.row.P.Denot). x.log)) (c.loop-station.invariant ∙ ap (map (λ (y : Station g.row.P.Denot g.row.G.Denot). y.node)) all)
     ∙ map-map (λ (x : Noted g.row.P.Denot). x.log) (λ (y : Station g.row.P.Denot g.row.G.Denot). y.node) c.args.self.stations.items in
@@ -35,7 +35,7 @@ by_place-requires g c =
 
 pub returns-clause-events : goal.returns-clause-events
 returns-clause-events g c =
-    let all = all_taken c.into_iter-station-iterator.result c.loop-station.yielded c.loop-station.station-iterator c.args.self.stations.items c.loop-station.yielded_by c.into_iter-station-iterator.ensures.into_iter_gives.0 c.in-None.ensures.steps.0 in
+    let all = all_taken c.into_iter-station-iterator.result c.loop-station.yielded c.loop-station.station-iterator c.into_stations-station-items.result.items c.loop-station.yielded_by c.into_iter-station-iterator.ensures.into_iter_gives.0 c.in-None.ensures.steps.0 ∙ c.into_stations-station-items.ensures in
     let logs = c.in_ok-logs.ensures.logs
     ∙ ap (map (λ (x : Noted g.row.P.Denot). x.log)) (c.loop-station.invariant ∙ ap (map (λ (y : Station g.row.P.Denot g.row.G.Denot). y.node)) all)
     ∙ map-map (λ (x : Noted g.row.P.Denot). x.log) (λ (y : Station g.row.P.Denot g.row.G.Denot). y.node) c.args.self.stations.items in
@@ -43,6 +43,6 @@ returns-clause-events g c =
 
 pub returns-clause-programs : goal.returns-clause-programs
 returns-clause-programs g c = λ p.
-    (let all = all_taken c.into_iter-station-iterator.result c.loop-station.yielded c.loop-station.station-iterator c.args.self.stations.items c.loop-station.yielded_by c.into_iter-station-iterator.ensures.into_iter_gives.0 c.in-None.ensures.steps.0 in
+    (let all = all_taken c.into_iter-station-iterator.result c.loop-station.yielded c.loop-station.station-iterator c.into_stations-station-items.result.items c.loop-station.yielded_by c.into_iter-station-iterator.ensures.into_iter_gives.0 c.in-None.ensures.steps.0 ∙ c.into_stations-station-items.ensures in
     c.in_ok-logs.ensures.programs p
     ∙ ap (λ (xs : List (Noted g.row.P.Denot)). program_at xs p) (c.loop-station.invariant ∙ ap (map (λ (y : Station g.row.P.Denot g.row.G.Denot). y.node)) all))

@@ -1,6 +1,5 @@
 use Rattle.std.proofs.Common.{◌≡◌, ◌++◌, ◌∷◌, [], ℕ, Some, List, refl, sym, ap, subst, ◌∙◌, length}
 use Rattle.std.specs.Prelude.{slice_get, IsSomeAnd}
-use Rattle.dom_history.specs.Plans.{IsPlan}
 use Rattle.world_core.specs.declared.station.Station.{Station}
 use Rattle.world_core.specs.Firsts.{IsFirst}
 use Rattle.ended_nodes.proofs.Elements.{all_taken}
@@ -12,7 +11,7 @@ returns-clause-stands g c = λ made s are.
     (let all = all_taken c.into_iter-node-iterator.result c.loop-node.yielded c.loop-node.node-iterator c.args.nodes.items c.loop-node.yielded_by c.into_iter-node-iterator.ensures.into_iter_gives.0 c.in-None.ensures.steps.0 in
     let count = c.len-count.ensures ∙ (c.args.nodes.ok.0 ∙ are.count) in
     first-stands g.P.Program.wants g.P.Program.becomes made s c.args.nodes.items are (record { stations = c.loop-node.stations; plan = c.args.plan; spent = _ }) refl
-    (subst IsPlan c.plan.view_is c.plan.invariant.rows)
+    c.rows-rows.ensures.plan
     (c.loop-node.invariant.0 ∙ ap length all)
     (λ n y e.
     subst (λ nodes. IsSomeAnd (slice_get c.args.nodes.items n) (λ x. IsFirst nodes x y)) count

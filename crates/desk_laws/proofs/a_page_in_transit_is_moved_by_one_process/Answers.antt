@@ -1,5 +1,0 @@
-use Rattle.desk_laws.proofs.GoesHome.{goes-home}
-use Rattle.desk_laws.proofs.a_page_in_transit_is_moved_by_one_process.Goals as goal
-
-pub returns : goal.returns
-returns c = record { moved = λ d u k is there transit. goes-home d is u k there transit; alone = λ d is. is.moved.apart }

@@ -1,0 +1,7 @@
+use Rattle.std.specs.Option.{option_copied}
+use Rattle.plain_machines.proofs.Beginning.{goes_on}
+use Rattle.naming_tree.specs.ByPaths.{by_path_asks, by_path_after}
+use Rattle.plain_machines.proofs.machines.list_to_end.Goals as goal
+
+pub steps-preserved : goal.steps-preserved
+steps-preserved c = goes_on by_path_asks by_path_after c.steps.machine _ (option_copied c.as_ref.result) _ _ c.in_ok-step.ensures.after c.in_ok-step.ensures.step (rw c.in-Ok.is at c.in_ok-reply.ensures)

@@ -1,4 +1,0 @@
-//! Laws of homes and of locks: homes are what the history says, and what processes keep stands there.
-#![tactic(auto)]
-
-pub mod laws;
