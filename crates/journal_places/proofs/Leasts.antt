@@ -2,12 +2,11 @@
 use Rattle.std.proofs.Common.{◌≡◌, ◌⊎◌, ℕ, zero, suc, ◌+◌, ◌-◌, ◌*◌, ◌/◌, ◌%◌, ◌<◌, ◌≤◌, Bool, true, false, Option, Some, None, IfSome, List, [], ◌∷◌, ◌++◌, length, map, inl, inr, refl, sym, ap, subst, ◌∙◌, arith}
 use Rattle.std.specs.Prelude.{◌==◌, ◌&&◌, nat_le, if◌then◌else◌, slice_get, All}
 use Rattle.std.proofs.lemmas.Bool.Decides.{nat_tests}
-use Rattle.std.proofs.lemmas.List.{append-nil}
 use Rattle.std.proofs.Math.Nat.{div-lt_iff_lt-mul, mod-lt}
 use Rattle.std.proofs.lemmas.Nat.{div-add-mod'}
 use Rattle.std.proofs.lemmas.Option.{same_Some, slice_get-map, slice_get_within}
 use Rattle.std.specs.Option.{option_map}
-use Rattle.uid_names.proofs.ListLemmas.{by_cases, get-within}
+use Rattle.uid_names.proofs.ListLemmas.{get-within}
 use Rattle.uid_names.proofs.Passed.{equal, left-true, right-true}
 use Rattle.dom_history.specs.declared.event.What.{What}
 use Rattle.dom_history.specs.declared.event.What.TheVariants.{Begin, Go, Take, Notice, Ready, Mark}
@@ -21,13 +20,13 @@ use Rattle.world_runs.specs.NamedNodes.{NamesNodes, NamesNodesIn}
 use Rattle.checked_runs.specs.Matching.{Taken, at_line, takes_with_lines, AreMatched}
 use Rattle.checked_runs.specs.Places.{sent_in, delivered_on}
 use Rattle.journal_places.specs.Links.{link_place, at_link}
-use Rattle.journal_places.specs.Orders.{IsOrder, IsOrderAs, IsMatching, IsFirstFault, fault_in, line_or, taken_of}
-use Rattle.journal_places.specs.Judged.{ArePlaces, KeepsPlaces, IsLeastFault, least_of, stale_line}
+use Rattle.journal_places.specs.Orders.{IsOrder, IsOrderAs, IsFirstFault, fault_in, line_or, taken_of}
+use Rattle.journal_places.specs.Judged.{ArePlaces, IsLeastFault, least_of, stale_line}
 use Rattle.journal_places.specs.declared.order.Early.{Early}
 use Rattle.journal_places.specs.declared.order.Order.{Order}
 use Rattle.journal_places.specs.declared.places.Places.{Places}
 use Rattle.journal_places.proofs.LinkPlaces.{link-within}
-use Rattle.journal_places.proofs.Least.{IsLeast, IsFirstWithout, least-line, least-none}
+use Rattle.journal_places.proofs.Least.{IsLeast, least-line, least-none}
 
 -- the least of a line and of others, where there are any
 abbrev pub least_all : Option ℕ → List (Option ℕ) → Option ℕ

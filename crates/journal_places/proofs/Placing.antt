@@ -1,17 +1,15 @@
 -- The places that are kept, event by event.
-use Rattle.std.proofs.Common.{◌≡◌, ◌≢◌, ℕ, ◌+◌, ◌*◌, ◌<◌, ◌≤◌, Bool, true, false, Option, Some, None, IfSome, List, [], ◌∷◌, ◌++◌, length, map, inl, inr, refl, sym, ap, subst, ◌∙◌, arith}
+use Rattle.std.proofs.Common.{◌≡◌, ℕ, ◌+◌, ◌*◌, ◌<◌, ◌≤◌, Bool, true, false, Option, Some, None, IfSome, List, [], ◌∷◌, ◌++◌, length, map, refl, sym, ap, subst, ◌∙◌, arith}
 use Rattle.std.specs.Prelude.{◌^◌, ◌==◌, ◌&&◌, ◌||◌, not, if◌then◌else◌, slice_set, All}
-use Rattle.std.proofs.lemmas.Bool.{cases_eq}
 use Rattle.std.proofs.lemmas.Bool.Decides.{nat_tests}
 use Rattle.std.proofs.lemmas.List.{append-nil, append_assoc, length-set}
 use Rattle.std.proofs.lemmas.List.Elements.{All-cons}
-use Rattle.uid_names.proofs.ListLemmas.{by_cases, get-within}
+use Rattle.uid_names.proofs.ListLemmas.{by_cases}
 use Rattle.uid_names.proofs.Passed.{equal, left-true, right-true}
 use Rattle.uid_names.specs.declared.limits.TheConstants.{MAX_NODES}
 use Rattle.dom_history.specs.declared.event.What.{What}
 use Rattle.dom_history.specs.declared.event.What.TheVariants.{Begin, Go, Take, Notice, Ready, Mark}
 use Rattle.dom_history.specs.declared.event.Sent.{Sent}
-use Rattle.dom_history.specs.declared.plan.Fate.{Fate}
 use Rattle.dom_history.specs.declared.plan.FateRow.{FateRow}
 use Rattle.dom_history.specs.Events.{Happening}
 use Rattle.dom_history.specs.Plans.{fate_of}
@@ -19,9 +17,9 @@ use Rattle.fault_handler.specs.Desks.{IsNode}
 use Rattle.node_runs.specs.Deliveries.{copy_if, is_gone, taken_on}
 use Rattle.world_runs.specs.Gone.{was_told}
 use Rattle.world_runs.specs.NamedNodes.{NamesNodes}
-use Rattle.world_runs.specs.Sendings.{Sending, frame_to, frames_in, frames_on, mark_to, sending_if, sendings, sent_by, sent_if}
+use Rattle.world_runs.specs.Sendings.{Sending, frame_to, frames_in, frames_on, mark_to, sending_if, sendings, sent_if}
 use Rattle.checked_runs.specs.Matching.{Taken, at_line, takes_with_lines}
-use Rattle.checked_runs.specs.Places.{Counts, sent_in, is_news}
+use Rattle.checked_runs.specs.Places.{Counts, sent_in}
 use Rattle.journal_places.specs.Links.{link_place, at_link}
 use Rattle.journal_places.specs.Orders.{IsOrder}
 use Rattle.journal_places.specs.Judged.{ArePlaces, KeepsPlaces, TellsAgain, least_of, line_if, is_stale, stale_line, taken_then, sent_then, tells_old}

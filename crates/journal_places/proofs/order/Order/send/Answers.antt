@@ -1,4 +1,4 @@
-use Rattle.std.proofs.Common.{◌≡◌, ◌+◌, ℕ, List, ap, sym, subst, ◌∙◌, map}
+use Rattle.std.proofs.Common.{◌+◌, List, ap, sym, subst, ◌∙◌, map}
 use Rattle.node_runs.specs.Deliveries.{deliveries}
 use Rattle.world_runs.specs.Links as links
 use Rattle.ring_links.specs.Carried.{plain_later, plain_link}

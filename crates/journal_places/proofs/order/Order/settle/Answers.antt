@@ -1,8 +1,6 @@
-use Rattle.std.proofs.Common.{◌≡◌, ◌≢◌, ℕ, Option, Some, None, List, inl, inr, refl, ap, sym, subst, drop, ◌∙◌}
+use Rattle.std.proofs.Common.{◌≡◌, ℕ, Option, Some, None, inl, inr, refl, ap, sym, subst, drop, ◌∙◌}
 use Rattle.std.proofs.lemmas.Bool.{cases_eq}
 use Rattle.ring_links.specs.Carried.{Carrying}
-use Rattle.ring_links.specs.declared.link.Later.{Later}
-use Rattle.checked_runs.specs.Matching.{Taken}
 use Rattle.journal_places.specs.Orders.{IsHalfwayAs, IsOrderAs}
 use Rattle.journal_places.specs.declared.order.Bare.{Bare}
 use Rattle.journal_places.specs.declared.order.Order.{Order}

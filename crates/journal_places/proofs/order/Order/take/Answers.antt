@@ -1,4 +1,4 @@
-use Rattle.std.proofs.Common.{◌≡◌, ◌≢◌, ℕ, Option, Some, None, List, [], ◌∷◌, ◌++◌, inl, inr, refl, ap, sym, subst, drop, ◌∙◌}
+use Rattle.std.proofs.Common.{◌≡◌, ℕ, Option, Some, None, [], ◌∷◌, ◌++◌, inl, inr, refl, sym, subst, drop}
 use Rattle.std.proofs.lemmas.Bool.{cases_eq}
 use Rattle.node_runs.specs.Deliveries.{deliveries}
 use Rattle.ring_links.specs.Carried.{Carrying}

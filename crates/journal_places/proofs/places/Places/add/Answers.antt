@@ -1,5 +1,5 @@
-use Rattle.std.proofs.Common.{◌≡◌, ◌≤◌, ◌+◌, ◌*◌, ◌<◌, ℕ, length, List, Option, IfSome, ap, sym, subst, ◌∙◌, arith}
-use Rattle.std.specs.Prelude.{◌^◌, ◌∷◌, OnOk}
+use Rattle.std.proofs.Common.{◌≡◌, ◌≤◌, ◌+◌, ◌*◌, List, Option, IfSome, ap, sym, subst, ◌∙◌, arith}
+use Rattle.std.specs.Prelude.{◌∷◌, OnOk}
 use Rattle.std.proofs.lemmas.Result.{on_ok_weaker}
 use Rattle.uid_names.specs.declared.ids.Place.{Place}
 use Rattle.uid_names.specs.declared.limits.TheConstants.{MAX_NODES}
@@ -9,7 +9,6 @@ use Rattle.dom_history.specs.declared.plan.FateRow.{FateRow}
 use Rattle.checked_runs.specs.Matching.{takes_with_lines}
 use Rattle.checked_runs.specs.Places.{sent_in}
 use Rattle.journal_places.specs.Judged.{ArePlaces, stale_line}
-use Rattle.journal_places.specs.declared.places.Places.{Places}
 use Rattle.journal_places.proofs.Placing.{add-from, frames-low}
 use Rattle.journal_places.proofs.places.Places.add.Goals as goal
 

@@ -1,8 +1,7 @@
-use Rattle.std.proofs.Common.{◌≡◌, ◌+◌, ℕ, [], ◌∷◌, ◌++◌, List, All, length, refl, ap, sym, subst, ◌∙◌, arith}
+use Rattle.std.proofs.Common.{ℕ, [], ◌∷◌, List, All, length, refl, ap, sym, subst, arith}
 use Rattle.std.proofs.lemmas.List.{length-append}
 use Rattle.std.proofs.lemmas.List.Elements.{All-append, All-cons, All-nil}
 use Rattle.dom_history.specs.declared.plan.Fate.{Fate}
-use Rattle.dom_history.specs.Events.{Happening}
 use Rattle.dom_history.specs.Plans.{fate_of}
 use Rattle.world_runs.specs.NamedNodes.{NamesNodes}
 use Rattle.journal_places.specs.Links.{link_place}
