@@ -2,7 +2,5 @@
 #![tactic(auto)]
 
 pub mod draws;
-#[cfg(test)]
-mod tests;
 
 pub use draws::Draws;

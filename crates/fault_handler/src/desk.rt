@@ -1,5 +1,5 @@
 //! The desk of a node.
-ghost use Rattle.std.specs.Prelude.{◌≡◌, ◌≤◌, length, Some, None, IfOk, IfSome, is_some};
+ghost use Rattle.std.specs.Prelude.{◌≡◌, ◌≤◌, [], ◌∷◌, length, Some, None, IfOk, IfSome, is_some};
 ghost use Rattle.std.specs.Bool.{OnTrue};
 ghost use Rattle.dom_history.specs.Locks.{is_held};
 ghost use Rattle.page_cache.specs.Caches.{IsResident};
@@ -79,6 +79,30 @@ impl Model for Desk {
     ghost invariant = { λ d. IsDesk (desk_of d) };
 }
 
+/// What four processes know of their locks, which are none.
+fn no_locks(alloc: Global) -> Result<[EntryTable; NODE_PROCESSES], NoMemory>
+    ensures { IfOk result (λ tables. tables ≡ [] ∷ [] ∷ [] ∷ [] ∷ []) }
+{
+    Ok([
+        EntryTable::new(alloc)?,
+        EntryTable::new(alloc)?,
+        EntryTable::new(alloc)?,
+        EntryTable::new(alloc)?,
+    ])
+}
+
+/// The mappings of four processes, which are none.
+fn no_mappings(alloc: Global) -> Result<[AddressMap; NODE_PROCESSES], NoMemory>
+    ensures { IfOk result (λ maps. maps ≡ [] ∷ [] ∷ [] ∷ [] ∷ []) }
+{
+    Ok([
+        AddressMap::new(alloc)?,
+        AddressMap::new(alloc)?,
+        AddressMap::new(alloc)?,
+        AddressMap::new(alloc)?,
+    ])
+}
+
 impl Desk {
     /// The desk of a node, of so many nodes, with so many page frames: no page, no lock, no mapping.
     pub fn new(alloc: Global, node: NodeId, nodes: u8, frames: u16) -> Result<Desk, NoMemory>
@@ -88,6 +112,9 @@ impl Desk {
         requires frames_high { frames ≤ MOST_FRAMES }
         ensures { IfOk result (λ desk. desk ≡ empty_desk node nodes frames) }
     {
+        // What may find no memory comes first, so that little is given back there.
+        let entries = no_locks(alloc)?;
+        let maps = no_mappings(alloc)?;
         let pages = ResidentPages::new(alloc, frames)?;
         Ok(Desk {
             node,
@@ -95,18 +122,8 @@ impl Desk {
             pages,
             seen: Seen::new(alloc),
             known: UidTable::new(alloc),
-            entries: [
-                EntryTable::new(alloc)?,
-                EntryTable::new(alloc)?,
-                EntryTable::new(alloc)?,
-                EntryTable::new(alloc)?,
-            ],
-            maps: [
-                AddressMap::new(alloc)?,
-                AddressMap::new(alloc)?,
-                AddressMap::new(alloc)?,
-                AddressMap::new(alloc)?,
-            ],
+            entries,
+            maps,
             calls: [None; NODE_PROCESSES],
             tasks: [None, None, None, None],
         })

@@ -5,3 +5,4 @@ pub mod Chosen
 pub mod Ending
 pub mod Together
 pub mod Recent
+pub mod Scanning

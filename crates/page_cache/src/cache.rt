@@ -39,7 +39,6 @@ fn is_clean(flags: Flags) -> bool
 }
 
 /// The resident pages, each in a frame of its own, and the frames that are reserved for pages to come.
-#[derive(Drop)]
 pub struct Cache {
     pool: Frames,
     reserved: u16,
@@ -49,6 +48,19 @@ pub struct Cache {
     index: Index,
     // How many of the pages are clean and not in transit.
     clean: u16,
+}
+
+// Of its own, so that what drops one calls this and does not take it apart in place.
+impl Drop for Cache {
+    fn drop(self) {
+        let Cache {
+            pool: _,
+            reserved: _,
+            order: _,
+            index: _,
+            clean: _,
+        } = self;
+    }
 }
 
 impl Model for Cache {

@@ -11,7 +11,6 @@ use std::alloc::Global;
 use std::marker::Model;
 
 /// A pool of frames, each of which holds a page's bytes with its flags, or is free.
-#[derive(Drop)]
 pub struct Frames {
     count: u16,
     // The flags of the taken frames; their keys are the frames' numbers.
@@ -19,6 +18,17 @@ pub struct Frames {
     // One region, taken when the pool is made. A frame's number is its place there: the slab hands out numbers
     // below its capacity, and the region has a page for each. A free frame's bytes are whatever it had last.
     pages: Vec<[u8; PAGE_BYTES]>,
+}
+
+// Of its own, so that what drops one calls this and does not take it apart in place.
+impl Drop for Frames {
+    fn drop(self) {
+        let Frames {
+            count: _,
+            numbers: _,
+            pages: _,
+        } = self;
+    }
 }
 
 impl Model for Frames {

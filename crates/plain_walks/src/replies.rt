@@ -1,4 +1,4 @@
-//! What a plain store of one node answers to some operations in turn.
+//! What a plain store of one node answers to operations in turn, by rows of words.
 ghost use Rattle.std.specs.Prelude.{◌<◌, IsTrue};
 ghost use Rattle.uid_names.specs.Names.{IsName};
 ghost use Rattle.dom_history.specs.Ranges.{IsInPage, IsOp, IsSpot};
@@ -7,9 +7,130 @@ use dom_history::{EndWord, Op, Reply, Spot};
 use plain_store::PlainStore;
 use samples::{node, object, proc};
 use std::alloc::Global;
-use std::process::Abort;
 use std::test::Fail;
-use uid_names::{ByteList, MAX_ROOM, Mode, ObjKind, Opening, PAGE_BYTES, ProcId, Uid};
+use uid_names::{ByteList, LockRow, MAX_ROOM, Mode, ObjKind, Opening, PAGE_BYTES, ProcId, Uid};
+
+/// How often an operation is done, the operation, and its reply. An operation is in words: the process of node 1 that asks it, what it
+/// does, the object, by its counter and its home, or the address, and what else it needs. A reply is the word of its end, and what it tells.
+type Row = (usize, &'static str, &'static str);
+
+/// The most words of an operation.
+const MOST: usize = 5;
+
+const CASES: [(&str, &[Row]); 9] = [
+    (
+        "an object is made, locked, stored to, loaded from and unlocked",
+        &[
+            (1, "1 new 1 1", "ok"),
+            (1, "1 lock 2.1 w", "ok"),
+            (1, "1 lock 3.1 w", "no-object"),
+            (1, "1 store 2.1 0 hi", "ok"),
+            (1, "1 load 2.1 0 2", "ok hi"),
+            (1, "1 length 2.1", "ok 2"),
+            (1, "1 unlock 2.1", "ok"),
+            (1, "1 unlock 2.1", "not-held"),
+        ],
+    ),
+    (
+        "a home that is no node has no space and no locks",
+        &[
+            (1, "1 new 2 1", "no-space"),
+            (1, "1 lock 1.2 r", "no-object"),
+            (1, "1 list 2", "ok"),
+        ],
+    ),
+    (
+        "a deleted object is gone and frees its room: sixteen objects of 1,024 pages fill the volume",
+        &[
+            (1, "1 lock 1.1 w", "ok"),
+            (1, "1 delete 1.1", "ok"),
+            (1, "1 unlock 1.1", "not-held"),
+            (1, "2 lock 1.1 w", "no-object"),
+            (16, "1 new 1 1024", "ok"),
+            (1, "1 new 1 1024", "no-space"),
+        ],
+    ),
+    (
+        "objects fit into the volume beside the entry directory, which has 8 of its 16,384 pages",
+        &[
+            (15, "1 new 1 1024", "ok"),
+            (1, "1 new 1 1017", "no-space"),
+            (1, "1 new 1 1016", "ok"),
+            (1, "1 new 1 1", "no-space"),
+        ],
+    ),
+    (
+        "readers share, and a conflict names the first holder",
+        &[
+            (1, "2 lock 1.1 r", "ok"),
+            (1, "1 lock 1.1 r", "ok"),
+            (1, "3 lock 1.1 w", "conflict 1 1"),
+            (1, "1 delete 1.1", "wrong-mode"),
+        ],
+    ),
+    (
+        "co-writers of a node write together and remove nothing, and a reader goes with none of them",
+        &[
+            (1, "2 lock 1.1 c", "ok"),
+            (1, "1 lock 1.1 c", "ok"),
+            (1, "3 lock 1.1 r", "conflict 1 3"),
+            (1, "2 store 1.1 0 no", "ok"),
+            (1, "1 store 1.1 1 k", "ok"),
+            (1, "2 load 1.1 0 2", "ok nk"),
+            (1, "1 delete 1.1", "wrong-mode"),
+            (1, "1 unlock 1.1", "ok"),
+            (1, "2 unlock 1.1", "ok"),
+            (1, "3 lock 1.1 r", "ok"),
+        ],
+    ),
+    (
+        "loads end at the length and stores at the room",
+        &[
+            (1, "1 load 1.1 0 3", "no-lock"),
+            (1, "1 lock 1.1 w", "ok"),
+            (1, "1 store 1.1 0 hi", "ok"),
+            (1, "1 store 1.1 8192 hi", "past-room"),
+            (1, "1 store 1.1 8190 hi", "ok"),
+            (1, "1 load 1.1 0 3", "ok hi\0"),
+            (1, "1 load 1.1 8192 1", "past-end"),
+        ],
+    ),
+    (
+        "addresses name the bytes of a mapped object until it is unmapped",
+        &[
+            (1, "1 lock 1.1 w", "ok"),
+            (1, "1 loadat 32767 1", "not-mapped"),
+            (1, "1 map 1.1", "ok 0 1"),
+            (1, "1 map 1.1", "ok 0 0"),
+            (1, "1 storeat 1 hi", "ok"),
+            (1, "1 load 1.1 0 3", "ok \0hi"),
+            (1, "1 loadat 32767 1", "past-end"),
+            (1, "1 loadat 32768 1", "not-mapped"),
+            (1, "1 unmap 1.1", "ok"),
+            (1, "1 unmap 1.1", "not-mapped"),
+        ],
+    ),
+    (
+        "a list tells the locks of a home in order",
+        &[
+            (1, "2 lock 1.1 r", "ok"),
+            (1, "1 lock 1.1 r", "ok"),
+            (1, "1 list 1", "ok 1 2"),
+        ],
+    ),
+];
+
+/// Objects of rooms in turn, each of which is made, locked, mapped and unlocked; of one, by its place from 0, what its mapping comes to.
+const MAPPINGS: [(&[u32], usize, &str); 8] = [
+    (&[33, 1, 32, 64], 0, "ok 0 1"),
+    (&[33, 1, 32, 64], 1, "ok 65536 1"),
+    (&[33, 1, 32, 64], 2, "ok 98304 1"),
+    (&[33, 1, 32, 64], 3, "ok 131072 1"),
+    (&[1; 17], 15, "ok 491520 1"),
+    (&[1; 17], 16, "too-many-maps"),
+    (&[1024; 9], 7, "ok 7340032 1"),
+    (&[1024; 9], 8, "no-segment"),
+];
 
 fn is_named(uid: Uid) -> bool
     ensures { IsTrue result → IsName uid }
@@ -78,274 +199,215 @@ fn replies(alloc: Global, ops: &[(ProcId, Op)]) -> Result<Vec<Reply>, Fail> {
     Ok(replies)
 }
 
-/// The words of the replies to operations in turn, a blank behind each.
-fn words(alloc: Global, ops: &[(ProcId, Op)]) -> Result<ByteList, Fail> {
-    let mut text = ByteList::new(alloc);
-    for reply in &replies(alloc, ops)? {
-        text.extend(EndWord::of(reply).word().as_bytes())?;
-        text.push(b' ')?;
+/// The words of a line. Those that are missing are empty.
+fn words(line: &str) -> [&str; MOST] {
+    let mut words = [""; MOST];
+    let mut rest = line.split(' ');
+    for place in 0..MOST {
+        words[place] = rest.next().unwrap_or("");
+    }
+    words
+}
+
+fn number(word: &str) -> Result<u32, Fail> {
+    Ok(word.parse::<u32>().ok().ok_or("no number")?)
+}
+
+fn number8(word: &str) -> Result<u8, Fail> {
+    Ok(word.parse::<u8>().ok().ok_or("no number below 256")?)
+}
+
+/// An object, as `2.1`: its counter and its home.
+fn object_of(word: &str) -> Result<Uid, Fail> {
+    let (counter, home) = word.split_once('.').ok_or("no object")?;
+    let counter = u64::from(number(counter)?);
+    if counter == 0 {
+        return Err(Fail::from("no counter"));
+    }
+    object(counter, number8(home)?)
+}
+
+/// What is done to an object, or to a home, by a word alone.
+fn plain_op(verb: &str, word: &str) -> Result<Op, Fail> {
+    if verb == "list" {
+        let (home, after) = (node(number8(word)?)?, None);
+        return Ok(Op::List { home, after });
+    }
+    let uid = object_of(word)?;
+    match verb {
+        "unlock" => Ok(Op::Unlock { uid }),
+        "delete" => Ok(Op::Delete { uid }),
+        "length" => Ok(Op::Length { uid }),
+        "map" => Ok(Op::Map { uid }),
+        "unmap" => Ok(Op::Unmap { uid }),
+        _ => Err(Fail::from("no operation")),
+    }
+}
+
+/// Whether a verb is of an address, and not of an offset of an object.
+fn is_at(verb: &str) -> bool {
+    verb == "loadat" || verb == "storeat"
+}
+
+/// The place that words name: an address, or an offset of an object.
+fn spot_of(verb: &str, first: &str, second: &str) -> Result<Spot, Fail> {
+    if is_at(verb) {
+        Ok(Spot::Addr(number(first)?))
+    } else {
+        Ok(Spot::Of(object_of(first)?, number(second)?))
+    }
+}
+
+fn file(home: &str, room: &str) -> Result<Op, Fail> {
+    Ok(Op::New {
+        home: node(number8(home)?)?,
+        kind: ObjKind::File,
+        room: number(room)?,
+    })
+}
+
+fn lock(uid: &str, mode: &str) -> Result<Op, Fail> {
+    let mode = match mode {
+        "r" => Mode::Read,
+        "c" => Mode::CoWrite,
+        _ => Mode::Write,
+    };
+    Ok(Op::Lock {
+        uid: object_of(uid)?,
+        mode,
+    })
+}
+
+/// The operation that words name.
+fn op_of(alloc: Global, line: &str) -> Result<Op, Fail> {
+    let [_, verb, first, second, third] = words(line);
+    let last = if is_at(verb) { second } else { third };
+    match verb {
+        "new" => file(first, second),
+        "lock" => lock(first, second),
+        "load" | "loadat" => {
+            let (spot, count) = (spot_of(verb, first, second)?, number(last)?);
+            Ok(Op::Load { spot, count })
+        }
+        "store" | "storeat" => {
+            let spot = spot_of(verb, first, second)?;
+            let bytes = ByteList::from_slice(alloc, last.as_bytes())?;
+            Ok(Op::Store { spot, bytes })
+        }
+        _ => plain_op(verb, first),
+    }
+}
+
+/// The operations of rows, with who asks each.
+fn ops_of(alloc: Global, rows: &[Row]) -> Result<Vec<(ProcId, Op)>, Fail> {
+    let mut ops = Vec::new(alloc);
+    for (times, line, _) in rows {
+        let [first, ..] = words(line);
+        for _ in 0..*times {
+            ops.push((proc(1, number8(first)?)?, op_of(alloc, line)?))?;
+        }
+    }
+    Ok(ops)
+}
+
+/// A word, and numbers behind it.
+fn told(alloc: Global, word: &str, numbers: &[u64]) -> Result<String, Fail> {
+    let mut text = format!(in alloc; "{word}")?;
+    for number in numbers {
+        text.push_str(format!(in alloc; " {number}")?.as_str())?;
     }
     Ok(text)
 }
 
-fn file(home: u8, room: u32) -> Result<Op, Fail> {
-    Ok(Op::New {
-        home: node(home)?,
-        kind: ObjKind::File,
-        room,
-    })
-}
-
-fn lock(uid: Uid, mode: Mode) -> Op {
-    Op::Lock { uid, mode }
-}
-
-fn load(spot: Spot, count: u32) -> Op {
-    Op::Load { spot, count }
-}
-
-fn store(alloc: Global, spot: Spot, text: &[u8]) -> Result<Op, Fail> {
-    let bytes = ByteList::from_slice(alloc, text)?;
-    Ok(Op::Store { spot, bytes })
-}
-
-#[test]
-fn an_object_is_made_locked_stored_to_loaded_from_and_unlocked(
-    rt: HostRuntime,
-) -> Result<(), Fail> {
-    let alloc = rt.alloc();
-    let p = proc(1, 1)?;
-    let uid = object(2, 1)?;
-    let spot = Spot::Of(uid, 0);
-    let ops = [
-        (p, file(1, 1)?),
-        (p, lock(uid, Mode::Write)),
-        (p, store(alloc, spot, b"hi")?),
-        (p, load(spot, 2)),
-        (p, Op::Length { uid }),
-        (p, Op::Unlock { uid }),
-        (p, Op::Unlock { uid }),
-    ];
-    assert_eq!(rt;
-        words(alloc, &ops)?.bytes(),
-        b"ok ok ok ok ok ok not-held ".as_slice()
-    );
-    let replies = replies(alloc, &ops)?;
-    assert!(rt; matches!(replies.first(), Some(Reply::Made(made)) if *made == uid));
-    match replies.get(3) {
-        Some(Reply::Bytes(list)) => assert_eq!(rt; list.bytes(), b"hi".as_slice()),
-        _ => return Err(Fail::from("not loaded")),
+/// The word of a list, and the processes of its rows.
+fn listed(alloc: Global, word: &str, rows: &[LockRow]) -> Result<String, Fail> {
+    let mut numbers = Vec::new(alloc);
+    for row in rows {
+        numbers.push(u64::from(row.proc.number()))?;
     }
-    assert!(rt; matches!(replies.get(4), Some(Reply::Size(2))));
-    Ok(())
+    told(alloc, word, numbers.as_slice())
 }
 
-#[test]
-fn a_home_that_is_no_node_has_no_space_and_no_locks(rt: HostRuntime) -> Result<(), Fail> {
-    let alloc = rt.alloc();
-    let p = proc(1, 1)?;
-    let home = node(2)?;
-    let after = None;
-    let ops = [
-        (p, file(2, 1)?),
-        (p, lock(object(1, 2)?, Mode::Read)),
-        (p, Op::List { home, after }),
-    ];
-    assert_eq!(rt;
-        words(alloc, &ops)?.bytes(),
-        b"no-space no-object ok ".as_slice()
-    );
-    match replies(alloc, &ops)?.last() {
-        Some(Reply::Locks { rows, more }) => {
-            assert_eq!(rt; rows.items().len(), 0);
-            assert!(rt; !*more);
+/// A reply in words. Of bytes, which are a text here, that text.
+fn said(alloc: Global, reply: &Reply) -> Result<String, Fail> {
+    let word = EndWord::of(reply).word();
+    match reply {
+        Reply::Bytes(bytes) => {
+            let text = str::from_utf8(bytes.bytes()).ok().ok_or("no text")?;
+            Ok(format!(in alloc; "{word} {text}")?)
         }
-        _ => return Err(Fail::from("not listed")),
-    }
-    Ok(())
-}
-
-#[test]
-fn a_deleted_object_is_gone_and_frees_its_room(rt: HostRuntime) -> Result<(), Fail> {
-    let alloc = rt.alloc();
-    let (p, uid) = (proc(1, 1)?, object(1, 1)?);
-    let mut ops = Vec::new(alloc);
-    ops.push((p, lock(uid, Mode::Write)))?;
-    ops.push((p, Op::Delete { uid }))?;
-    ops.push((p, Op::Unlock { uid }))?;
-    ops.push((proc(1, 2)?, lock(uid, Mode::Write)))?;
-    // Sixteen objects of 1,024 pages fill the volume.
-    for _ in 0..17 {
-        ops.push((p, file(1, 1024)?))?;
-    }
-    assert_eq!(rt;
-        words(alloc, ops.as_slice())?.bytes(),
-        b"ok ok not-held no-object ok ok ok ok ok ok ok ok ok ok ok ok ok ok ok ok no-space ".as_slice()
-    );
-    Ok(())
-}
-
-#[test]
-fn objects_fit_into_the_volume_beside_the_entry_directory(rt: HostRuntime) -> Result<(), Fail> {
-    let alloc = rt.alloc();
-    let p = proc(1, 1)?;
-    let mut ops = Vec::new(alloc);
-    for _ in 0..15 {
-        ops.push((p, file(1, 1024)?))?;
-    }
-    // The entry directory has 8 of the 16,384 pages.
-    ops.push((p, file(1, 1017)?))?;
-    ops.push((p, file(1, 1016)?))?;
-    ops.push((p, file(1, 1)?))?;
-    assert_eq!(rt;
-        words(alloc, ops.as_slice())?.bytes(),
-        b"ok ok ok ok ok ok ok ok ok ok ok ok ok ok ok no-space ok no-space ".as_slice()
-    );
-    Ok(())
-}
-
-#[test]
-fn readers_share_and_a_conflict_names_the_first_holder(rt: HostRuntime) -> Result<(), Fail> {
-    let alloc = rt.alloc();
-    let (p, q, r) = (proc(1, 1)?, proc(1, 2)?, proc(1, 3)?);
-    let uid = object(1, 1)?;
-    let ops = [
-        (q, lock(uid, Mode::Read)),
-        (p, lock(uid, Mode::Read)),
-        (r, lock(uid, Mode::Write)),
-        (p, Op::Delete { uid }),
-    ];
-    assert_eq!(rt;
-        words(alloc, &ops)?.bytes(),
-        b"ok ok conflict wrong-mode ".as_slice()
-    );
-    match replies(alloc, &ops)?.get(2) {
-        Some(Reply::Conflict(holder, mode)) => {
-            assert_eq!(rt; *holder, p);
-            assert_eq!(rt; *mode, Mode::Read);
+        Reply::Size(length) => told(alloc, word, &[u64::from(*length)]),
+        Reply::At { address, fresh } => {
+            told(alloc, word, &[u64::from(*address), u64::from(*fresh)])
         }
-        _ => return Err(Fail::from("no conflict")),
+        Reply::Conflict(holder, mode) => told(
+            alloc,
+            word,
+            &[u64::from(holder.number()), u64::from(mode.code())],
+        ),
+        Reply::Locks { rows, more: false } => listed(alloc, word, rows.items()),
+        _ => told(alloc, word, &[]),
     }
-    Ok(())
+}
+
+/// Whether the replies to the operations of rows are those that these have.
+fn is_as_said(alloc: Global, rows: &[Row]) -> Result<bool, Fail> {
+    let ops = ops_of(alloc, rows)?;
+    let replies = replies(alloc, ops.as_slice())?;
+    let mut came = replies.iter();
+    for (times, _, expected) in rows {
+        for _ in 0..*times {
+            let reply = came.next().ok_or("no reply")?;
+            if said(alloc, reply)?.as_str() != *expected {
+                return Ok(false);
+            }
+        }
+    }
+    Ok(came.next().is_none())
 }
 
 #[test]
-fn loads_end_at_the_length_and_stores_at_the_room(rt: HostRuntime) -> Result<(), Fail> {
-    let alloc = rt.alloc();
-    let (p, uid) = (proc(1, 1)?, object(1, 1)?);
-    let at = |offset| Spot::Of(uid, offset);
-    let ops = [
-        (p, load(at(0), 3)),
-        (p, lock(uid, Mode::Write)),
-        (p, store(alloc, at(0), b"hi")?),
-        (p, store(alloc, at(8192), b"hi")?),
-        (p, store(alloc, at(8190), b"hi")?),
-        (p, load(at(0), 3)),
-        (p, load(at(8192), 1)),
-    ];
-    assert_eq!(rt;
-        words(alloc, &ops)?.bytes(),
-        b"no-lock ok ok past-room ok ok past-end ".as_slice()
-    );
-    match replies(alloc, &ops)?.get(5) {
-        Some(Reply::Bytes(list)) => assert_eq!(rt; list.bytes(), b"hi\0".as_slice()),
-        _ => return Err(Fail::from("not loaded")),
+fn operations_are_answered_as_rows_say(rt: HostRuntime) -> Result<(), Fail> {
+    for (_title, rows) in CASES {
+        assert!(rt; is_as_said(rt.alloc(), rows)?);
     }
-    Ok(())
-}
-
-#[test]
-fn addresses_name_the_bytes_of_a_mapped_object_until_it_is_unmapped(
-    rt: HostRuntime,
-) -> Result<(), Fail> {
-    let alloc = rt.alloc();
-    let (p, uid) = (proc(1, 1)?, object(1, 1)?);
-    let last = Spot::Addr(32_767);
-    let ops = [
-        (p, lock(uid, Mode::Write)),
-        (p, load(last, 1)),
-        (p, Op::Map { uid }),
-        (p, Op::Map { uid }),
-        (p, store(alloc, Spot::Addr(1), b"hi")?),
-        (p, load(Spot::Of(uid, 0), 3)),
-        (p, load(last, 1)),
-        (p, load(Spot::Addr(32_768), 1)),
-        (p, Op::Unmap { uid }),
-        (p, Op::Unmap { uid }),
-    ];
-    assert_eq!(rt;
-        words(alloc, &ops)?.bytes(),
-        b"ok not-mapped ok ok ok ok past-end not-mapped ok not-mapped ".as_slice()
-    );
-    match replies(alloc, &ops)?.get(5) {
-        Some(Reply::Bytes(list)) => assert_eq!(rt; list.bytes(), b"\0hi".as_slice()),
-        _ => return Err(Fail::from("not loaded")),
-    }
+    // One that is wrong is seen to be.
+    assert!(rt; !is_as_said(rt.alloc(), &[(1, "1 unlock 1.1", "ok")])?);
     Ok(())
 }
 
 /// Makes an object of each room in turn, and locks, maps and unlocks it; the replies to the mappings.
 fn map_rooms(alloc: Global, rooms: &[u32]) -> Result<Vec<Reply>, Fail> {
     let p = proc(1, 1)?;
-    let mode = Mode::Read;
+    let (home, kind, mode) = (node(1)?, ObjKind::File, Mode::Read);
     let mut ops = Vec::new(alloc);
     for (i, room) in rooms.iter().enumerate() {
         if i > 100 {
             return Err(Fail::from("too many rooms"));
         }
         let uid = object(i as u64 + 2, 1)?;
-        ops.push((p, file(1, *room)?))?;
-        ops.push((p, lock(uid, mode)))?;
+        ops.push((
+            p,
+            Op::New {
+                home,
+                kind,
+                room: *room,
+            },
+        ))?;
+        ops.push((p, Op::Lock { uid, mode }))?;
         ops.push((p, Op::Map { uid }))?;
         ops.push((p, Op::Unlock { uid }))?;
     }
     replies(alloc, ops.as_slice())
 }
 
-/// Where the mapping of the object at this place of `map_rooms` begins; None where there is none.
-fn mapped_at(replies: &[Reply], i: usize) -> Option<u32>
-    requires { i < 100 }
-{
-    match replies.get(4 * i + 2) {
-        Some(Reply::At { address, fresh }) if *fresh => Some(*address),
-        _ => None,
-    }
-}
-
 #[test]
 fn mappings_take_the_lowest_runs_up_to_a_limit(rt: HostRuntime) -> Result<(), Fail> {
     let alloc = rt.alloc();
-    let mixed = map_rooms(alloc, &[33, 1, 32, 64])?;
-    assert_eq!(rt; mapped_at(&mixed, 0), Some(0));
-    assert_eq!(rt; mapped_at(&mixed, 1), Some(65_536));
-    assert_eq!(rt; mapped_at(&mixed, 2), Some(98_304));
-    assert_eq!(rt; mapped_at(&mixed, 3), Some(131_072));
-    let few = map_rooms(alloc, &[1; 17])?;
-    assert_eq!(rt; mapped_at(&few, 15), Some(491_520));
-    assert!(rt; matches!(few.get(66), Some(Reply::TooManyMaps)));
-    let great = map_rooms(alloc, &[1024; 9])?;
-    assert_eq!(rt; mapped_at(&great, 7), Some(7_340_032));
-    assert!(rt; matches!(great.get(34), Some(Reply::NoSegment)));
-    Ok(())
-}
-
-#[test]
-fn a_list_tells_the_locks_of_a_home_in_order(rt: HostRuntime) -> Result<(), Fail> {
-    let alloc = rt.alloc();
-    let (p, q, uid) = (proc(1, 1)?, proc(1, 2)?, object(1, 1)?);
-    let (home, after) = (uid.home(), None);
-    let ops = [
-        (q, lock(uid, Mode::Read)),
-        (p, lock(uid, Mode::Read)),
-        (p, Op::List { home, after }),
-    ];
-    match replies(alloc, &ops)?.get(2) {
-        Some(Reply::Locks { rows, more }) => {
-            assert_eq!(rt; rows.items().len(), 2);
-            assert!(rt; rows.items().first().is_some_and(|row| row.is_of(p, uid)));
-            assert!(rt; !*more);
-        }
-        _ => return Err(Fail::from("not listed")),
+    for (rooms, place, expected) in MAPPINGS {
+        let replies = map_rooms(alloc, rooms)?;
+        let reply = replies.get(4 * place + 2).ok_or("no reply")?;
+        assert!(rt; said(alloc, reply)?.as_str() == expected);
     }
     Ok(())
 }

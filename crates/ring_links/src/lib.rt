@@ -7,8 +7,6 @@ pub mod laws;
 pub mod link;
 pub mod merge;
 pub mod notice;
-#[cfg(test)]
-mod tests;
 
 pub use entry::{Entry, Waiting};
 pub use link::Link;

@@ -7,3 +7,4 @@ pub mod Judged
 pub mod FirstNodes
 pub mod RanNodes
 pub mod Threads
+pub mod Again

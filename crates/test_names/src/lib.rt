@@ -1,7 +1,9 @@
-//! Walks by chance: names beside a plain tree, and files beside plain lists of bytes. They stand apart since a crate that has
+//! Draws, and walks by chance: names beside a plain tree, and files beside plain lists of bytes. They stand apart since a crate that has
 //! tests is proved twice. No program stands on it.
 #![tactic(auto)]
 
+#[cfg(test)]
+mod draws;
 #[cfg(test)]
 mod stream_walks;
 #[cfg(test)]

@@ -31,3 +31,4 @@ pub mod NextWorld
 pub mod Picked
 pub mod Sendable
 pub mod Turned
+pub mod Oldest

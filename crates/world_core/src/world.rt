@@ -75,7 +75,6 @@ impl<P: Program, G: Pages> World<P, G> {
     }
 
     /// How many events are enabled.
-    #[tactic(auto, using(crate::proofs::Finding::counts_step, crate::proofs::Finding::counts_all))]
     fn enabled(&self) -> usize
         requires { sum (enabled_counts self.now.stations.items) < 2 ^ 64 }
         ensures { result ≡ sum (enabled_counts self.now.stations.items) }
@@ -89,7 +88,6 @@ impl<P: Program, G: Pages> World<P, G> {
 
     /// The node of the enabled event at a place, by its place among the nodes, and the event's place among those of
     /// the node.
-    #[tactic(auto, using(crate::proofs::Finding::counts_step, crate::proofs::Finding::counts_all, crate::proofs::Finding::count_at))]
     fn find(&self, place: usize) -> Option<(usize, usize)>
         ensures { MatchOption result (sum (enabled_counts self.now.stations.items) ≤ place)
             (λ at. IsPlace (enabled_counts self.now.stations.items) place at.0 at.1) }
@@ -109,7 +107,7 @@ impl<P: Program, G: Pages> World<P, G> {
     /// enabled, which is just where all nodes have ended. What was done so far, ended or not, is by place a run by the plan, and all is right
     /// after each of its events: the history is one of one store, keeps the phases apart, and has what each program asked, once and in order,
     /// with the replies that it heard; no home refused an open call for a page, a length or a removal; at each unlock of a held lock the home
-    /// has all; and each page that was dropped for another was the clean one used longest ago. Without memory the world is spent.
+    /// has what its process stored last; and each page that was dropped for another was the clean one used longest ago. Without memory the world is spent.
     pub fn turn(&mut self, alloc: Global, choice: u64) -> Result<bool, NoMemory>
         requires stands { (made : ℕ → ℕ → Option P) × (s : Setup) × (w : Done) × Stands P.wants P.becomes made s self.old w }
         requires below { IsBelow (2 ^ 40) self.old }

@@ -1,28 +1,19 @@
-use Rattle.std.proofs.Common.{◌≡◌, ◌+◌, ◌<◌, length, take, get_or, subst, arith}
-use Rattle.std.specs.Prelude.{◌-◌, sum}
-use Rattle.world_core.specs.Places.{enabled_counts}
-use Rattle.world_core.proofs.Finding.{counts_step, count_at}
+use Rattle.std.proofs.Common.{◌<◌, ℕ, length, subst, ◌∙◌}
+use Rattle.world_core.proofs.Finding.{len-items, count-here, left-on, place-behind}
 use Rattle.world_core.proofs.world.World.find.Goals as goal
 
 pub returns-then-left-enabled : goal.returns-then-left-enabled
-returns-then-left-enabled g c =
-    let all = c.args.self.now.stations.items in
-    let i = c.loop-i.i in
-    let y = c.station-item.result in
-    let same = c.deref-station-items.ensures.value in
-    record {
-      count = length y.enabled.items;
-      node_is = count_at all i y (subst (λ ys. i < length ys) same c.loop-i-test.true) (subst (λ ys. y ≡ get_or ys i y) same c.station-item.is);
-      own_is = let len = c.len-enabled.ensures in let low = c.if-left-enabled.true in omega (arith, len, low);
-      place_is = c.loop-i.invariant;
-    }
+returns-then-left-enabled g c = record {
+  count = length c.station-item.result.enabled.items;
+  node_is = count-here c.args.self.now.stations.items c.deref-station-items.result.now c.deref-station-items.ensures.value c.loop-i.i c.station-item.result c.loop-i-test.true c.station-item.is;
+  own_is = subst (λ (n : ℕ). c.loop-i.left < n) (c.len-enabled.ensures ∙ len-items c.station-item.result) c.if-left-enabled.true;
+  place_is = c.loop-i.invariant;
+}
 
 pub loop-i-preserved : goal.loop-i-preserved
 loop-i-preserved g c =
-    let all = c.args.self.now.stations.items in
-    let i = c.loop-i.i in
-    let y = c.station-item.result in
-    let same = c.deref-station-items.ensures.value in
-    let step = counts_step all i y (subst (λ ys. i < length ys) same c.loop-i-test.true) (subst (λ ys. y ≡ get_or ys i y) same c.station-item.is) in
-    let more : sum (take (i + 1) (enabled_counts all)) + (c.loop-i.left - c.len-enabled.result) ≡ c.args.place = omega (arith, step, c.loop-i.invariant, c.len-enabled.ensures, c.if-left-enabled.false) in
-    more
+    left-on c.args.self.now.stations.items c.deref-station-items.result.now c.deref-station-items.ensures.value c.loop-i.i c.station-item.result c.loop-i-test.true c.station-item.is
+    c.loop-i.left c.len-enabled.result c.args.place c.loop-i.invariant (c.len-enabled.ensures ∙ len-items c.station-item.result) c.if-left-enabled.false
+
+pub returns : goal.returns
+returns g c = place-behind c.args.self.now.stations.items c.deref-station-items.result.now c.deref-station-items.ensures.value c.loop-i.i c.loop-i-test.false c.loop-i.left c.args.place c.loop-i.invariant

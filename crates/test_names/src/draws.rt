@@ -1,5 +1,5 @@
 //! Drawn numbers.
-use crate::Draws;
+use drawn_numbers::Draws;
 
 /// The first draws of two seeds.
 #[test]

@@ -1,6 +1,6 @@
 //! What waits on a link.
-use crate::{Link, Waiting};
 use dom_history::Fate;
+use ring_links::{Link, Waiting};
 use ring_messages::{Body, Frame};
 use std::test::Fail;
 use uid_names::NodeId;
