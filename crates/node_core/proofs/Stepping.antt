@@ -29,7 +29,7 @@ use Rattle.node_runs.proofs.SettingUp.{given-procs}
 use Rattle.node_runs.proofs.Forgetting.{alike-on}
 use Rattle.node_core.specs.Processes.{want_at}
 use Rattle.node_core.specs.Programs.{program_in, numbers_in, told_all}
-use Rattle.node_core.specs.Nodes.{Inner, Noted, given_in, IsTold, IsKept, line_of, given_of, state_of, Stands, Happened}
+use Rattle.node_core.specs.Nodes.{Inner, Noted, given_in, IsTold, IsKept, line_of, given_of, state_of, Stands, Happened, HappenedAside}
 use Rattle.node_core.specs.Machines as machine
 use Rattle.node_core.specs.Machines.{inner_of}
 use Rattle.node_core.specs.Outcomes.{Led}
@@ -183,5 +183,30 @@ module _ {P G : Type 0} (spent : P → Bool) (wants : P → Want) (becomes : P �
             emits = emits-is found.0 found.2;
             events = events ∙ ap (λ (h : Happening). log.events ++ h ∷ []) (line-is found.0 found.2);
             node = same_node;
+          },
+        )
+
+    -- the same where it is handed back, and the journal stays
+    pub happened-aside : (t : Stepped) × HappenedAside wants becomes made g what incoming (record { inner = inner_of new; log = log; spent = false }) (record { place = place; what = what; effects = done.effects }) emitted n t
+    happened-aside =
+        let found = step-there spent wants becomes made g before_it n stands kept what incoming may s named in
+        let there = stands-after found.0 found.2 in (
+          found.0,
+          record {
+            step = found.1;
+            stands = record {
+              whole = refl;
+              number = there.number;
+              nodes = there.nodes;
+              greatest = there.greatest;
+              frames = there.frames;
+              phases = there.phases;
+              programs = there.programs;
+              asks = there.asks;
+              told = there.told;
+              alike = there.alike;
+            };
+            emits = emits-is found.0 found.2;
+            event_is = line-is found.0 found.2;
           },
         )

@@ -157,6 +157,19 @@ module _ {P : Type 0} where
       (made : ℕ → Option P) (g : Given) (n : NodeState) → Stands wants becomes made g old n →
       (s : Stepped) × Happened wants becomes made g what incoming old new emitted n s
 
+  -- the event that a call did and handed back, of a state for which the node stood
+  pub record HappenedAside (wants : P → Want) (becomes : P → Option Reply → P) (made : ℕ → Option P) (g : Given) (what : What) (incoming : Incoming) (new : Noted P) (event : Happening) (emitted : Emitted) (n : NodeState) (s : Stepped) : Type 0 where
+    pub step : named_step g n what incoming ≡ Some s
+    pub stands : Stands wants becomes made g new s.node
+    pub emits : emitted ≡ emitted_by what s
+    pub event_is : event ≡ line_of g.number what s
+
+  -- the same, whatever the node stood for
+  abbrev pub DoesAside : (P → Want) → (P → Option Reply → P) → What → Incoming → Noted P → Noted P → Happening → Emitted → Type 0
+  DoesAside wants becomes what incoming old new event emitted =
+      (made : ℕ → Option P) (g : Given) (n : NodeState) → Stands wants becomes made g old n →
+      (s : Stepped) × HappenedAside wants becomes made g what incoming new event emitted n s
+
   -- a node was given this
   pub record IsGivenBy (wants : P → Want) (becomes : P → Option Reply → P) (setup : NodeSetup) (start : Start) (made : List (ℕ × P)) (g : Given) : Type 0 where
     pub number : g.number ≡ setup.node

@@ -77,6 +77,32 @@ fn write(
     }
 }
 
+/// The event of what was done, and what it emits, where no journal is written.
+fn aside(place: Place, what: What, done: Done) -> (Event, Emitted)
+    requires what { IsWhat what }
+    requires effects { AreEffects done.effects }
+    ensures event { result.0 ≡ record { place = place; what = what; effects = done.effects } }
+    ensures emits { result.1 ≡ record { frame = indexed done.frame done.effects.sent; mark = mark_in what } }
+{
+    let Done { frame, effects } = done;
+    let (sent, mark) = (effects.sent, mark_in(&what));
+    let event = Event::new(place, what, effects);
+    // Each answer is made where it is returned, as in `write`.
+    match frame {
+        Some(frame) => match sent {
+            Some(sent) => (
+                event,
+                Emitted {
+                    frame: Some((sent.index, frame)),
+                    mark,
+                },
+            ),
+            None => (event, Emitted { frame: None, mark }),
+        },
+        None => (event, Emitted { frame: None, mark }),
+    }
+}
+
 /// A node: its home side, its desk, its processes with their programs, and its journal.
 ///
 /// A node that found no memory at an event is spent: no event of it is enabled.
@@ -112,7 +138,7 @@ impl<P: Program, G: Pages> Model for Node<P, G> {
 }
 
 impl<P: Program, G: Pages> Node<P, G> {
-    ghost use Rattle.node_core.specs.Nodes.{given_of, state_of, program_of, is_enabled, Stands, Happened, Does, IsGivenBy};
+    ghost use Rattle.node_core.specs.Nodes.{given_of, state_of, program_of, is_enabled, Stands, Happened, Does, DoesAside, IsGivenBy};
 
     /// A node at the start. Each program is asked what it wants first.
     ///
@@ -258,5 +284,29 @@ impl<P: Program, G: Pages> Node<P, G> {
         let place = self.machine.place();
         let (log, spent) = (&mut self.log, &mut self.spent);
         write(log, spent, place, what, done)
+    }
+
+    /// One event, which is enabled, as `step` does it, handed back with what it emits: the journal stays as it was. Without memory the
+    /// node is spent.
+    pub fn step_aside(
+        &mut self,
+        alloc: Global,
+        what: What,
+        incoming: &Incoming,
+    ) -> Result<(Event, Emitted), NoMemory>
+        requires enabled { is_enabled self.old what (seen incoming.now) ≡ true }
+        requires tick { (state_of self.old).tick < 2 ^ 40 }
+        requires incoming { tick_of (seen incoming.now) < 2 ^ 40 }
+        ensures happens { IfOk result (λ did. DoesAside P.wants P.becomes what (seen incoming.now) self.old self.new did.0 did.1) }
+        ensures log { self.new.log ≡ self.old.log }
+        ensures spent { OnErr result (self.new.spent ≡ true) }
+    {
+        incoming.known();
+        self.spent = true;
+        let mut done = Done::new(alloc);
+        self.machine.happen(alloc, &what, incoming, &mut done)?;
+        let place = self.machine.place();
+        self.spent = false;
+        Ok(aside(place, what, done))
     }
 }
