@@ -1,9 +1,8 @@
 //! What the events of a run say of link faults, and what its processes answered, as a call that runs scripts has them.
 use anyhow::{Context, Result};
 use dom_text::decimal;
-use node_threads::OpenGate;
 use script_reader::{Script, read_script};
-use script_runner::{AnswerRow, run_script};
+use script_runner::{AnswerRow, OpenGate, run_script};
 use std::alloc::Global;
 use std::sync::Wait;
 use std::thread::Threads;

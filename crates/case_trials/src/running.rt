@@ -2,8 +2,7 @@
 use crate::streams::{Calls, Feed, Tray, Written};
 use anyhow::Result;
 use dom_io::{RealSink, RealSource};
-use node_threads::OpenGate;
-use script_runner::run_domain;
+use script_runner::{OpenGate, run_domain};
 use std::alloc::Global;
 use std::sync::Wait;
 use std::thread::Threads;

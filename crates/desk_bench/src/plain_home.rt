@@ -37,6 +37,14 @@ pub(crate) fn page_of(offset: u32) -> usize {
     offset as usize / PAGE_BYTES
 }
 
+/// Whether two processes of one node may hold an object so at once: where both read, or both co-write.
+fn go_together(one: Mode, other: Mode) -> bool {
+    match (one, other) {
+        (Mode::Read, Mode::Read) | (Mode::CoWrite, Mode::CoWrite) => true,
+        _ => false,
+    }
+}
+
 impl Object {
     pub fn new(uid: Uid) -> Object {
         Object {
@@ -126,7 +134,7 @@ impl Object {
         for row in &self.rows {
             if let Some((holder, held, _)) = row
                 && *holder != proc
-                && (mode.writes() || held.writes())
+                && !go_together(mode, *held)
             {
                 return Body::Conflict {
                     proc: *holder,

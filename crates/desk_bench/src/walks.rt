@@ -74,8 +74,9 @@ struct Seat {
 fn drawn(draws: &mut Draws) -> Deed {
     let offset = place_of(draws.below(PAGES as u32));
     match draws.below(64) {
-        0..4 => Deed::Lock(Mode::Read),
-        4..8 => Deed::Lock(Mode::Write),
+        0..3 => Deed::Lock(Mode::Read),
+        3..5 => Deed::Lock(Mode::Write),
+        5..8 => Deed::Lock(Mode::CoWrite),
         8..12 => Deed::Unlock,
         12 => Deed::Length,
         13..36 => Deed::Store(offset, draws.below(256) as u8),

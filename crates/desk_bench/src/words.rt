@@ -53,7 +53,7 @@ pub fn object(word: &str) -> Result<Uid> {
     Ok(Uid::from_parts(counter, home))
 }
 
-/// `r` or `w`.
+/// `r`, `w` or `c`.
 pub fn mode(word: &str) -> Result<Mode> {
     let letter = word.as_bytes().first().context("no mode")?;
     Mode::from_letter(*letter).context("no mode")

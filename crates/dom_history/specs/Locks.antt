@@ -1,7 +1,7 @@
 -- What a process knows of its locks, and what others meet.
-use Rattle.std.specs.Prelude.{ℕ, ◌==◌, Bool, true, false, not, ◌&&◌, ◌||◌, if◌then◌else◌, Option, Some, None, List, [], ◌∷◌, ◌++◌, filter}
+use Rattle.std.specs.Prelude.{ℕ, ◌≡◌, ◌==◌, Bool, true, false, not, ◌&&◌, ◌||◌, if◌then◌else◌, Option, Some, None, List, [], ◌∷◌, ◌++◌, filter}
 use Rattle.uid_names.specs.Names.{ProcName, ObjectName, same_proc, same_uid}
-use Rattle.uid_names.specs.Modes.{mode_removes}
+use Rattle.uid_names.specs.Modes.{mode_removes, mode_shared}
 use Rattle.uid_names.specs.InOrder.{put_in_order}
 use Rattle.uid_names.specs.Rows.{row_lt, same_row}
 use Rattle.uid_names.specs.declared.lock_row.LockRow.{LockRow}
@@ -91,6 +91,10 @@ holds p u (TakesLock q v m ∷ past) = if same_proc p q && same_uid u v then Som
 holds p u (FreesLock q v ∷ past) = if same_proc p q && same_uid u v then None else holds p u past
 holds p u (Deletes q v ∷ past) = if same_proc p q && same_uid u v then None else holds p u past
 holds p u (_ ∷ past) = holds p u past
+
+-- no other process than p holds u in a mode that is shared
+abbrev pub IsAlone : ProcName → ObjectName → List StoreEffect → Type 0
+IsAlone p u past = (q : ProcName) (m : Mode) → same_proc p q ≡ false → holds q u past ≡ Some m → mode_shared m ≡ false
 
 -- the rows without that of p on u
 abbrev pub rows_without : ProcName → ObjectName → List LockRow → List LockRow

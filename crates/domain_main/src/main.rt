@@ -2,8 +2,7 @@
 #![tactic(auto)]
 
 use dom_io::{RealSink, RealSource};
-use node_threads::OpenGate;
-use script_runner::run_domain;
+use script_runner::{OpenGate, run_domain};
 use std::process::ExitCode;
 use std::rt::Runtime;
 use std::{env, io};

@@ -25,7 +25,7 @@ pub record IsRightAt (s : Setup) (es : List Happening) (w : World) : Type 0 wher
   pub asked : AreAskedHeard s w
   -- no home refused an open call for a page, a length or a removal
   pub answered : AreOpenRight s w
-  -- at each unlock of a lock that its process held the home has all
+  -- at each unlock of a lock that its process held the home has what the process stored, and all where no other holds the object shared
   pub homes : HomesHaveAll s es
 
 -- all is right after these events, and was so after each event before: the newer ones stand first

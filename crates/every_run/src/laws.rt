@@ -27,7 +27,8 @@ ghost use Rattle.every_run.specs.HeardByHistories.{heard_by_history, AreHeardByP
 ghost use Rattle.every_run.specs.HeardSamples as sample;
 
 use run_ends::laws::no_turn_is_stuck;
-use run_moves::laws::{a_home_has_all_at_an_unlock, each_history_is_one_of_one_store};
+use run_moves::homes::a_home_has_what_was_stored_at_an_unlock;
+use run_moves::laws::each_history_is_one_of_one_store;
 use run_states::calls::{
     ended_runs_have_ended_histories, entries_are_what_programs_heard, histories_follow_programs,
     open_operations_stand_last, phases_never_overlap, programs_of_ended_runs_are_done,
@@ -55,7 +56,7 @@ pub fn every_run_is_right()
     histories_follow_programs();
     entries_are_what_programs_heard();
     an_open_call_finds_what_it_needs();
-    a_home_has_all_at_an_unlock();
+    a_home_has_what_was_stored_at_an_unlock();
 }
 
 /// Turns are one way to a run: the events that they did, by place, are a run by the plan, and a right one; where all nodes have ended in

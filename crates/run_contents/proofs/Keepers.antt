@@ -1,10 +1,11 @@
 -- Who keeps what is dirty, and whose rows stand beside his.
 use Rattle.std.proofs.Common.{◌≡◌, ◌≢◌, ℕ, Bool, true, false, List, Option, Some, None, inl, inr, refl, sym, ap, ◌∙◌, arith}
-use Rattle.std.specs.Prelude.{◌&&◌, ◌||◌, not}
+use Rattle.std.specs.Prelude.{◌&&◌, not}
 use Rattle.std.proofs.lemmas.Bool.{cases_eq}
 use Rattle.uid_names.specs.Names.{ProcName, ObjectName, same_proc}
-use Rattle.uid_names.specs.Modes.{mode_writes, modes_clash}
+use Rattle.uid_names.specs.Modes.{mode_writes}
 use Rattle.uid_names.specs.declared.mode.Mode.{Mode}
+use Rattle.uid_names.proofs.Codes.{writes-together}
 use Rattle.uid_names.proofs.ListLemmas.{by_cases}
 use Rattle.uid_names.proofs.Orders.{same_proc_is}
 use Rattle.dom_history.specs.declared.deed.LockState.{LockState}
@@ -96,19 +97,13 @@ other-node : (a p b q : ℕ) → a ≢ b → same_proc (proc_at a p) (proc_at b 
 other-node a p b q differs = by_cases (same_proc (proc_at a p) (proc_at b q)) (same_proc (proc_at a p) (proc_at b q) ≡ false)
     (λ same. absurd (differs (ap (λ (r : ProcName). r.node) (same_proc_is (proc_at a p) (proc_at b q) same)))) (λ h. h)
 
-pub writes-clash : (P Q : ProcName) (m k : Mode) → mode_writes k ≡ true → modes_clash P m Q k ≡ false → ⊥
-writes-clash P Q m k writes none = absurd (by (mode_writes m) (mode_writes k) writes none)
-  where
-    by : (a b : Bool) → b ≡ true → (a || b) ≡ false → ⊥
-    by a false w h = absurd (cc)
-    by true true w h = absurd (cc)
-    by false true w h = absurd (cc)
-
 module _ (s : Setup) (setup : IsSetup s) (cs : List Choice) (w : World) (e : world_after s cs ≡ Some w) (timely : IsTimely w) where
   -- where a process of a node keeps an object, no other node writes it
   pub writes-alone : (n p : ℕ) (u : ObjectName) (m : Mode) (grant : ℕ) → IsKeeping w n p u m grant → (a : ℕ) → Writer w a u → a ≡ n
   writes-alone n p u m grant keeping a writes = elim (cases_eq a n) [
     | inl same ↦ same
-    | inr differs ↦ absurd (writes-clash (proc_at n p) (proc_at a writes.proc) m writes.mode writes.writes
-        ((standing-are s setup cs w e timely).apart n p a writes.proc u m writes.mode grant writes.grant keeping writes.keeping (other-node n p a writes.proc (λ same. differs (sym same)))))
+    | inr differs ↦
+        (let together = writes-together (proc_at n p) m (proc_at a writes.proc) writes.mode writes.writes
+        ((standing-are s setup cs w e timely).apart n p a writes.proc u m writes.mode grant writes.grant keeping writes.keeping (other-node n p a writes.proc (λ same. differs (sym same)))) in
+        sym together.1.1)
   ]

@@ -1,10 +1,11 @@
 -- What is so of a world of a run, by the laws below; and that one node writes.
-use Rattle.std.proofs.Common.{◌≡◌, ℕ, Bool, true, false, List, Some, subst, arith}
-use Rattle.std.specs.Prelude.{◌==◌, ◌||◌}
+use Rattle.std.proofs.Common.{◌≡◌, ℕ, true, false, List, Some, subst, ◌∙◌, arith}
+use Rattle.std.specs.Prelude.{◌==◌}
 use Rattle.std.proofs.lemmas.Bool.Decides.{nat_tests}
 use Rattle.uid_names.specs.Names.{ProcName, ObjectName, same_proc}
-use Rattle.uid_names.specs.Modes.{mode_writes, modes_clash}
+use Rattle.uid_names.specs.Modes.{modes_clash}
 use Rattle.uid_names.specs.declared.mode.Mode.{Mode}
+use Rattle.uid_names.proofs.Codes.{writes-together}
 use Rattle.uid_names.proofs.ListLemmas.{by_cases}
 use Rattle.dom_history.specs.Objects.{is_node}
 use Rattle.lock_manager.specs.Grants.{grant_of}
@@ -77,15 +78,8 @@ one-writer locks a p b u m grant number table row granted = by_cases (a == b) (a
     let apart : same_proc (proc_at a p) w.proc ≡ false = (let at = w.at in grind (arith, nat_tests, differs, at)) in
     let free : modes_clash (proc_at a p) m w.proc w.mode ≡ false =
     subst (λ k. modes_clash (proc_at a p) m w.proc k ≡ false) y.2 (subst (λ k. modes_clash (proc_at a p) k w.proc y.0.row.mode ≡ false) x.2 (holders-compatible (proc_at a p) w.proc u (locks u.home).grants x.0 y.0 table.compatible x.1 y.1 apart)) in
-    absurd (clash m w.mode w.writes free))
-  where
-    clash : (m k : Mode) → mode_writes k ≡ true → (mode_writes m || mode_writes k) ≡ false → ⊥
-    clash m k writes free = by (mode_writes m) (mode_writes k) writes free
-      where
-        by : (x y : Bool) → y ≡ true → (x || y) ≡ false → ⊥
-        by true y is free = absurd (cc)
-        by false true is free = absurd (cc)
-        by false false is free = absurd (cc)
+    let together = writes-together (proc_at a p) m w.proc w.mode w.writes free in
+    together.1.1 ∙ w.at)
 
 -- what the home told of an open write that it took is a stamp of its object
 pub tells-stored : (w : World) (ask : Ask) (written : Write) (t : ℕ) → write_of ask ≡ Some written → TellsItem w ask (Answer.Stored t) → IsStampOf w written.uid t

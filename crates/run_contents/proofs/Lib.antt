@@ -34,7 +34,4 @@ pub mod Endings
 pub mod Stepping
 pub mod StoresRun
 pub mod LoadedPages
-pub mod StandingRows
-pub mod WholeHomes
-pub mod GivenBack
 pub mod StoresAre

@@ -1,18 +1,15 @@
--- So in every run, by what stamps, contents, lock states and mappings are.
+-- So in every run, by what stamps, contents and mappings are.
 use Rattle.std.proofs.Common.{◌≡◌, List, Some}
 use Rattle.node_runs.specs.Setups.{Setup, IsSetup}
 use Rattle.node_runs.specs.NodesKeep.{IsTimely}
 use Rattle.node_runs.specs.Runs.{World, Choice, world_after}
 use Rattle.node_runs.proofs.Running.{run-keeps}
-use Rattle.run_effects.proofs.States.{states-told}
 use Rattle.run_effects.proofs.Targets.{targets-told}
 use Rattle.run_contents.proofs.Stamping.{stamped-are}
 use Rattle.run_contents.proofs.Keeping.{contents-are}
 use Rattle.run_contents.specs.Stores.{AreStores, AreReadsRight}
-use Rattle.run_contents.specs.Releases.{AreReleasesWhole}
 use Rattle.run_contents.proofs.ReadsRight.{reads-right}
 use Rattle.run_contents.proofs.StoresRun.{kept-are}
-use Rattle.run_contents.proofs.GivenBack.{releases-are}
 
 module _ (s : Setup) (setup : IsSetup s) where
   pub stores-are : (cs : List Choice) (w : World) → world_after s cs ≡ Some w → IsTimely w → AreStores s w
@@ -20,6 +17,3 @@ module _ (s : Setup) (setup : IsSetup s) where
 
   pub reads-are : (cs : List Choice) (w : World) → world_after s cs ≡ Some w → IsTimely w → AreReadsRight s w
   reads-are cs w e timely = reads-right s setup cs w e timely ((run-keeps s setup cs w e).kept timely).nodes (contents-are s setup cs w e timely) (stamped-are s setup cs w e timely) (stores-are cs w e timely)
-
-  pub whole-are : (cs : List Choice) (w : World) → world_after s cs ≡ Some w → IsTimely w → AreReleasesWhole s w
-  whole-are = releases-are s setup stores-are (states-told s setup)

@@ -5,4 +5,3 @@ pub mod ObjectMoves
 pub mod Writes
 pub mod DeskContents
 pub mod Stores
-pub mod Releases

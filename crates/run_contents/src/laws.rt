@@ -8,7 +8,6 @@ ghost use Rattle.run_contents.specs.Contents.{content};
 ghost use Rattle.run_contents.specs.Stamps.{stamp_at, IsThere, AreStamped};
 ghost use Rattle.run_contents.specs.ObjectMoves.{ObjectMove};
 ghost use Rattle.run_contents.specs.Stores.{AreStores, AreReadsRight};
-ghost use Rattle.run_contents.specs.Releases.{AreReleasesWhole};
 
 /// In every run in which no tick is above 2^40: a home has what its object holds at its stamp; what a home told of an object at a stamp
 /// is what that held there; and no stamp that was told, was seen, or is the base of a write is above the object's, as long as it is there.
@@ -40,9 +39,4 @@ pub fn the_last_store_is_at_the_writing_node_or_at_home()
 /// So what a process that keeps an object reads at its node is what one store has.
 pub fn what_is_read_is_the_last_store()
     ensures { InEveryRun AreReadsRight }
-{}
-
-/// And where a home takes back a lock that its process held, it has each byte and the length of the object as one store has them.
-pub fn a_home_has_all_where_a_lock_is_given_back()
-    ensures { InEveryRun AreReleasesWhole }
 {}

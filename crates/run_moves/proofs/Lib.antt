@@ -26,6 +26,14 @@ pub mod Telling
 pub mod Growing
 pub mod Moving
 pub mod ToldAlways
-pub mod Unlocks
 pub mod Known
 pub mod DoubtfulRun
+pub mod Owned
+pub mod Beside
+pub mod Releasing
+pub mod LeftRun
+pub mod StandingRows
+pub mod HomesHave
+pub mod GivenBack
+pub mod ReleasesAre
+pub mod Unlocks

@@ -1,4 +1,4 @@
--- Where the history of a run has the unlock of a process that held its object, the home has each byte and the length that the history says.
+-- Where the history of a run has the unlock of a process that held its object, the home has what that process stored.
 use Rattle.std.proofs.Common.{◌≡◌, ℕ, true, false, List, [], ◌∷◌, ◌++◌, Option, Some, None, inl, refl, sym, ap, subst, ◌∙◌, arith, append_assoc}
 use Rattle.std.specs.Prelude.{if◌then◌else◌, map}
 use Rattle.std.specs.Option.{option_map}
@@ -47,10 +47,7 @@ use Rattle.run_states.proofs.ToldAnswers.{told-are}
 use Rattle.run_states.specs.HistoryHomes.{held_then}
 use Rattle.run_effects.specs.NotedEffects.{noted_past}
 use Rattle.run_effects.specs.NotedDeeds.{noted_deeds}
-use Rattle.run_contents.specs.Releases.{IsUnlocked, IsGivenBack}
-use Rattle.run_contents.proofs.StoresAre.{whole-are}
 use Rattle.run_moves.specs.KnownRuns.{IsAlwaysKnown}
-use Rattle.run_moves.specs.HomesAtUnlocks.{HomesHaveAll}
 use Rattle.run_moves.proofs.Alone.{alone-are}
 use Rattle.run_moves.proofs.InOrder.{told-op}
 use Rattle.run_states.proofs.ItemViews.{IsAmong, IsItemAt, did, faulted, answered, left_open, opened, each-item}
@@ -59,6 +56,9 @@ use Rattle.run_moves.proofs.SameItems.{items-append}
 use Rattle.run_moves.proofs.Standing.{items-at}
 use Rattle.run_moves.proofs.TellsThen.{ToldThen}
 use Rattle.run_moves.proofs.ToldAlways.{told-always}
+use Rattle.run_moves.specs.HomesAtUnlocks.{HomesHaveAll}
+use Rattle.run_moves.specs.Releases.{IsUnlocked, IsGivenBack}
+use Rattle.run_moves.proofs.ReleasesAre.{released-are}
 
 -- what stands before a place, where the items are cut there
 before-all : (x : Place) (ys : List Item) → EachOf (λ i. place_lt (place_of i) x ≡ true) ys → before x ys ≡ ys
@@ -223,23 +223,25 @@ module _ (s : Setup) (setup : IsSetup s) (known : IsAlwaysKnown s) (es : List Ha
         held = held-then;
       }
 
-      has-all : HomeHasIn s.opening (store_effects (deeds (before x.place items))) u (world_of s (until x.place es))
+      has-all : HomeHasIn s.opening (store_effects (deeds (before x.place items))) u x.proc (world_of s (until x.place es))
       has-all =
           let node : is_node s.opening was.it.place.node ≡ true = each-middle (λ (j : Noted). is_node s.opening j.place.node ≡ true) was.newer was.it was.older (subst (EachOf (λ (j : Noted). is_node s.opening j.place.node ≡ true)) was.parts (alone-are s setup cs w e timely).nodes) in
-          let has : HasObject s.opening (noted_past was.older) (held_then s u.home (was.it ∷ was.older)).home u (attr_of (held_then s u.home (was.it ∷ was.older)).home u) = whole-are s setup cs w e timely was.newer was.older was.it u t.proc was.parts node given in
+          let has : HasObject s.opening (noted_past was.older) (held_then s u.home (was.it ∷ was.older)).home u x.proc (attr_of (held_then s u.home (was.it ∷ was.older)).home u) =
+          subst (λ q. HasObject s.opening (noted_past was.older) (held_then s u.home (was.it ∷ was.older)).home u q (attr_of (held_then s u.home (was.it ∷ was.older)).home u)) proc
+          (released-are s setup cs w e timely was.newer was.older was.it u t.proc was.parts node given) in
           let past : store_effects (deeds (before x.place items)) ≡ noted_past was.older =
           ap (λ y. store_effects (deeds (before y items))) (sym at-x) ∙ (ap (λ is. store_effects (deeds is)) (before-is was.newer was.it was.older was.parts)
           ∙ (known cs w e timely).effects (was.newer ++ was.it ∷ []) was.older (was.parts ∙ sym (append_assoc was.newer (was.it ∷ []) was.older))) in
           let up = until-world s es w run e was.newer was.it was.older was.parts in
           let home : (up.world.nodes u.home).side.home ≡ (held_then s u.home (was.it ∷ was.older)).home =
           ap (λ (h : Held). h.home) ((replays-are s (map choice_of (until was.it.place es)) up.world up.is).homes u.home) ∙ ap (λ ns. (held_then s u.home ns).home) up.trace in
-          subst (λ y. HomeHasIn s.opening (store_effects (deeds (before x.place items))) u (world_of s (until y es))) at-x
-          (subst (HomeHasIn s.opening (store_effects (deeds (before x.place items))) u) (sym up.is)
-          (subst (λ (h : HomeState). HasObject s.opening (store_effects (deeds (before x.place items))) h u (attr_of h u)) (sym home)
-          (subst (λ past. HasObject s.opening past (held_then s u.home (was.it ∷ was.older)).home u (attr_of (held_then s u.home (was.it ∷ was.older)).home u)) (sym past) has)))
+          subst (λ y. HomeHasIn s.opening (store_effects (deeds (before x.place items))) u x.proc (world_of s (until y es))) at-x
+          (subst (HomeHasIn s.opening (store_effects (deeds (before x.place items))) u x.proc) (sym up.is)
+          (subst (λ (h : HomeState). HasObject s.opening (store_effects (deeds (before x.place items))) h u x.proc (attr_of h u)) (sym home)
+          (subst (λ past. HasObject s.opening past (held_then s u.home (was.it ∷ was.older)).home u x.proc (attr_of (held_then s u.home (was.it ∷ was.older)).home u)) (sym past) has)))
 
     abbrev Result : Type 0
-    Result = HomeHasIn s.opening (store_effects (deeds (before x.place items))) u (world_of s (until x.place es))
+    Result = HomeHasIn s.opening (store_effects (deeds (before x.place items))) u x.proc (world_of s (until x.place es))
 
     by-item : (j : Noted) → SomeOf (λ i. i ≡ j) w.trace → (i : Item) → IsItemAt w j i → i ≡ Answered x → Result
     by-item j some _ (did p phase other r note) same = absurd (
@@ -259,6 +261,6 @@ module _ (s : Setup) (setup : IsSetup s) (known : IsAlwaysKnown s) (es : List Ha
 
   pub homes-have-all : HomesHaveAll s es
   homes-have-all x u is =
-      subst (λ o. HomeHasIn s.opening (store_effects (deeds (before x.place (history_if s o).items))) u (world_of s (until x.place es))) (sym e)
+      subst (λ o. HomeHasIn s.opening (store_effects (deeds (before x.place (history_if s o).items))) u x.proc (world_of s (until x.place es))) (sym e)
       (has-item x u is.op is.reply (subst (λ o. is_held (state u (own x.proc (told (entries (before x.place (history_if s o).items))))) ≡ true) e is.held)
       (subst (λ o. SomeOf (λ i. i ≡ Answered x) (history_if s o).items) e is.there))

@@ -1,4 +1,4 @@
--- That a home has all of an object where the history has the unlock of its holder.
+-- That a home has what a process stored to an object where the history has the unlock of the process.
 use Rattle.std.specs.Prelude.{◌≡◌, true, List}
 use Rattle.uid_names.specs.Names.{ObjectName}
 use Rattle.dom_history.specs.declared.op.Op.TheVariants.{Unlock}
@@ -19,4 +19,4 @@ pub record IsUnlockOf (s : Setup) (es : List Happening) (u : ObjectName) (e : En
   pub held : is_held (state u (before_op s.opening (before e.place (history_of s es).items) e.proc).told) ≡ true
 
 abbrev pub HomesHaveAll : Setup → List Happening → Type 0
-HomesHaveAll s es = (e : Entry) (u : ObjectName) → IsUnlockOf s es u e → HomeHas s es e.place u
+HomesHaveAll s es = (e : Entry) (u : ObjectName) → IsUnlockOf s es u e → HomeHas s es e.place u e.proc

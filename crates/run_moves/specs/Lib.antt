@@ -2,4 +2,8 @@ pub mod DeskReplies
 pub mod HomeReplies
 pub mod KnownRuns
 pub mod MovedHistories
+pub mod Left
+pub mod Sharing
+pub mod Releases
 pub mod HomesAtUnlocks
+pub mod TwoStorers

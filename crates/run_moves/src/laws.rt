@@ -4,12 +4,11 @@ ghost use Rattle.dom_history.specs.Events.{Happening};
 ghost use Rattle.dom_history.specs.Legal.{IsLegal};
 ghost use Rattle.node_runs.specs.Setups.{Setup, IsSetup};
 ghost use Rattle.node_runs.specs.NodesKeep.{IsTimely, InEveryRun};
-ghost use Rattle.node_runs.specs.Runs.{Choice, World, world_after, world_of, IsRun};
+ghost use Rattle.node_runs.specs.Runs.{Choice, World, world_after, world_of};
 ghost use Rattle.node_runs.specs.RunHistories.{history_of};
 ghost use Rattle.node_runs.specs.Deliveries.{IsPlanned};
 ghost use Rattle.world_runs.specs.Picked.{IsPicked};
 ghost use Rattle.run_moves.specs.MovedHistories.{IsHistoryMoved};
-ghost use Rattle.run_moves.specs.HomesAtUnlocks.{HomesHaveAll};
 ghost use Rattle.run_moves.specs.DeskReplies.{AreDeskReplies};
 ghost use Rattle.run_moves.specs.HomeReplies.{AreHomeReplies};
 ghost use Rattle.node_runs.specs.DoubtfulRun as doubtful;
@@ -35,12 +34,6 @@ pub fn each_event_moves_the_history()
 /// So the history of every such run is one of one store.
 pub fn each_history_is_one_of_one_store()
     ensures { (s : Setup) → IsSetup s → (es : List Happening) (w : World) → world_of s es ≡ Some w → IsTimely w → IsLegal s.opening (history_of s es) }
-{}
-
-/// And where the history has the unlock of a process that held its object, the home of the object has each byte of it and its length as the
-/// history says, with all that was decided up to there.
-pub fn a_home_has_all_at_an_unlock()
-    ensures { (s : Setup) → IsSetup s → (es : List Happening) (w : World) → IsRun s es → world_of s es ≡ Some w → IsTimely w → HomesHaveAll s es }
 {}
 
 /// A run of two nodes in which eight frames of a lock are lost, which a seed picks by the plan: the eighth notice gives the lock's

@@ -80,7 +80,7 @@ rows-with new (g ∷ grants) =
 abbrev AreCompatible : List Grant → Type 0
 AreCompatible = AllPairs (λ a b. are_in_conflict a b ≡ false)
 
--- where a process holds an object in a mode that writes, clear other holds it
+-- where a process holds an object in a mode that removes, no other holds it
 module _ (q : ProcName) (v : ObjectName) where
   abbrev IsOwn : Grant → Type 0
   IsOwn g = is_on v g ≡ same_row q v g.row

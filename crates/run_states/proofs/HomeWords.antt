@@ -36,7 +36,7 @@ use Rattle.run_states.specs.HomeWords.{SaysSo, AreHomeWords}
 use Rattle.run_states.proofs.HistoryHomes.{answered-behind, meant-at, homes-always}
 use Rattle.run_states.proofs.HomeRows.{IsMeantAt}
 
-find-row : (test : LockRow → Bool) (grants : List Grant) → find test (rows_of grants) ≡ option_map (λ (g : Grant). g.row) (find (λ g. test g.row) grants)
+pub find-row : (test : LockRow → Bool) (grants : List Grant) → find test (rows_of grants) ≡ option_map (λ (g : Grant). g.row) (find (λ g. test g.row) grants)
 find-row test [] = refl
 find-row test (g ∷ grants) = by_cases (test g.row) (find test (rows_of (g ∷ grants)) ≡ option_map (λ (k : Grant). k.row) (find (λ k. test k.row) (g ∷ grants))) (λ h. rw h refl) (λ h. rw h (find-row test grants))
 

@@ -284,8 +284,9 @@ pub fn run_domain<S: Source, O: Sink, J: Sink, K: Gate, R: Threads + Wait + Sync
     // of the script's nodes, which is planned by its faults, and the one that the number of turns picks where the words say one. All
     // nodes have ended in it. Its history is one of one store without nodes or caches, and holds each process's commands once and in
     // order, to their end, in phases that never overlap; the report is exactly its answers, just one for each command. And at each
-    // unlock of a held lock every page that the holder modified is at its home. Where the words ask for the script of a seed it is
-    // the generated one, and in place of the report stands the line that sums up its answers.
+    // unlock of a held lock what its process stored last is at its home; and everything is, where no other process holds the
+    // object shared. Where the words ask for the script of a seed it is the generated one, and in place of the report stands the
+    // line that sums up its answers.
     ensures kept { (a : Asked) → AskFor words.now a → Promised a (over S.left S.faults script.old script.new)
         (over O.held O.faults out.old out.new) (over J.held J.faults journal.old journal.new) result }
 {

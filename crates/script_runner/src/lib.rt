@@ -12,5 +12,6 @@ mod summary;
 mod words;
 
 pub use domain::run_domain;
+pub use node_threads::{Gate, OpenGate};
 pub use nodes::nodes_of;
 pub use run::{AnswerRow, AnswerRows, Ran, run_script, run_script_in_turns};

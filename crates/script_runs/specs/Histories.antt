@@ -34,8 +34,8 @@ FollowsScript s events = Follows (ask s) (script_history s events)
 abbrev pub IsOfOneStore : Content → List Happening → Type 0
 IsOfOneStore s events = IsLegal s.opening (script_history s events)
 
--- at each unlock of a lock that its process held, the object's home has every byte and the length of it as the history has them there, and so
--- every page that the holder modified
+-- at each unlock of a lock that its process held, the object's home has each byte whose last store is the process's, as the history has it there,
+-- and no length below its stores; and every byte and the length, where no other process holds the object shared
 abbrev pub HomesHaveAll : Content → List Happening → Type 0
 HomesHaveAll s events = HomesHaveAllOf (setup_of s) events
 

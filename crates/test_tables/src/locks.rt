@@ -26,6 +26,20 @@ fn a_conflict_names_the_holder(rt: HostRuntime) -> Result<(), Fail> {
 }
 
 #[test]
+fn co_writers_of_one_node_hold_an_object_together(rt: HostRuntime) -> Result<(), Fail> {
+    let mut locks = Locks::new(rt.alloc())?;
+    let (first, second, away) = (proc(1, 1)?, proc(1, 2)?, proc(2, 1)?);
+    let uid = object(2, 1)?;
+    assert_eq!(rt; locks.ask(second, uid, Mode::CoWrite), Ok(1));
+    assert_eq!(rt; locks.ask(first, uid, Mode::CoWrite), Ok(2));
+    let refused = locks.ask(away, uid, Mode::CoWrite);
+    assert_eq!(rt; refused, Err(AskRefusal::Conflict(first, Mode::CoWrite)));
+    assert!(rt; locks.writes(1, uid, first.node()));
+    assert!(rt; !locks.writes(1, uid, away.node()));
+    Ok(())
+}
+
+#[test]
 fn a_second_list_goes_on_behind_the_first(rt: HostRuntime) -> Result<(), Fail> {
     let mut locks = Locks::new(rt.alloc())?;
     for at in 0..96u64 {

@@ -48,19 +48,23 @@ fn texts_that_name_no_object_are_refused(rt: HostRuntime) {
     assert!(rt; Uid::read(b"0000000000a00001").is_ok());
 }
 
-/// Modes of two processes, and whether they conflict.
-const CLASHES: [(Mode, Mode, bool); 4] = [
-    (Mode::Read, Mode::Read, false),
-    (Mode::Read, Mode::Write, true),
-    (Mode::Write, Mode::Read, true),
-    (Mode::Write, Mode::Write, true),
+/// Modes of a process and of another, the number of the other's node, and whether they conflict.
+const CLASHES: [(Mode, Mode, u8, bool); 8] = [
+    (Mode::Read, Mode::Read, 2, false),
+    (Mode::Read, Mode::Write, 2, true),
+    (Mode::Write, Mode::Read, 2, true),
+    (Mode::Write, Mode::Write, 2, true),
+    (Mode::CoWrite, Mode::CoWrite, 1, false),
+    (Mode::CoWrite, Mode::CoWrite, 2, true),
+    (Mode::CoWrite, Mode::Read, 1, true),
+    (Mode::Write, Mode::CoWrite, 1, true),
 ];
 
 #[test]
-fn modes_conflict_unless_both_read(rt: HostRuntime) -> Result<(), Fail> {
+fn modes_conflict_unless_both_read_or_co_write_at_one_node(rt: HostRuntime) -> Result<(), Fail> {
     let p = proc(1, 1)?;
-    let q = proc(2, 1)?;
-    for (held, asked, expected) in CLASHES {
+    for (held, asked, other, expected) in CLASHES {
+        let q = proc(other, 2)?;
         assert!(rt; clash(p, held, q, asked) == expected);
     }
     Ok(())
@@ -68,10 +72,19 @@ fn modes_conflict_unless_both_read(rt: HostRuntime) -> Result<(), Fail> {
 
 #[test]
 fn modes_have_letters_and_codes(rt: HostRuntime) {
-    for (letter, mode) in [(b'w', Some(Mode::Write)), (b'R', None)] {
+    for (letter, mode) in [
+        (b'w', Some(Mode::Write)),
+        (b'c', Some(Mode::CoWrite)),
+        (b'R', None),
+    ] {
         assert!(rt; Mode::from_letter(letter) == mode);
     }
-    for (code, mode) in [(1, Some(Mode::Read)), (0, None)] {
+    for (code, mode) in [
+        (1, Some(Mode::Read)),
+        (3, Some(Mode::CoWrite)),
+        (4, None),
+        (0, None),
+    ] {
         assert!(rt; Mode::from_code(code) == mode);
     }
 }

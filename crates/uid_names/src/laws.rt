@@ -1,6 +1,6 @@
 //! Laws of names. Each stands on a function without a body, so that the check proves it.
 ghost use Rattle.std.specs.Prelude.{◌≡◌, ◌≢◌, ℕ, ◌<◌, ◌^◌, true, false, if◌then◌else◌, Some, None, IsTrue, List, [], nat_lt};
-ghost use Rattle.uid_names.specs.Modes.{mode_writes, mode_removes, modes_clash, mode_letter, mode_code, mode_of_letter, mode_of_code, object_code, object_of_code};
+ghost use Rattle.uid_names.specs.Modes.{mode_writes, mode_removes, mode_shared, modes_clash, mode_letter, mode_code, mode_of_letter, mode_of_code, object_code, object_of_code};
 ghost use Rattle.uid_names.specs.Tables.{AreRising, row_of, with_row, without_row};
 ghost use Rattle.uid_names.specs.declared.mode.Mode.{Mode};
 ghost use Rattle.uid_names.specs.declared.mode.ObjKind.{ObjKind};
@@ -21,9 +21,14 @@ pub fn names_are_one_to_one()
     ensures order { (u v : ObjectName) → IsName u → IsName v → uid_lt u v ≡ nat_lt (number_of u) (number_of v) }
 {}
 
-/// A mode that removes writes, and a conflict is one from both sides.
+/// A mode that removes writes and is not shared, one that is shared writes, and a conflict is one from both sides.
+/// Where a mode that writes goes with another, both are shared, and of processes of one node.
 pub fn modes_agree()
     ensures removes { (m : Mode) → mode_removes m ≡ true → mode_writes m ≡ true }
+    ensures alone { (m : Mode) → mode_removes m ≡ true → mode_shared m ≡ false }
+    ensures shared { (m : Mode) → mode_shared m ≡ true → mode_writes m ≡ true }
+    ensures together { (p : ProcName) (m : Mode) (q : ProcName) (n : Mode) → mode_writes n ≡ true → modes_clash p m q n ≡ false →
+        (mode_shared m ≡ true) × ((mode_shared n ≡ true) × (p.node ≡ q.node)) }
     ensures clash { (p : ProcName) (m : Mode) (q : ProcName) (n : Mode) → modes_clash p m q n ≡ modes_clash q n p m }
 {}
 

@@ -1,6 +1,6 @@
 //! Modes of locks and kinds of objects. Every layer speaks of modes by these calls alone.
 ghost use Rattle.std.specs.Prelude.{◌≡◌, ◌≢◌, MatchOption};
-ghost use Rattle.uid_names.specs.Modes.{mode_writes, mode_removes, modes_clash, mode_letter, mode_code, mode_of_letter, mode_of_code, object_code, object_of_code};
+ghost use Rattle.uid_names.specs.Modes.{mode_writes, mode_removes, mode_shared, are_together, modes_clash, mode_letter, mode_code, mode_of_letter, mode_of_code, object_code, object_of_code};
 ghost use Rattle.uid_names.specs.declared.mode.Mode.{Mode};
 ghost use Rattle.uid_names.specs.declared.mode.ObjKind.{ObjKind};
 
@@ -11,6 +11,7 @@ use crate::ids::ProcId;
 pub enum Mode {
     Read,
     Write,
+    CoWrite,
 }
 
 impl Mode {
@@ -20,17 +21,18 @@ impl Mode {
     {
         match self {
             Mode::Read => false,
-            Mode::Write => true,
+            Mode::Write | Mode::CoWrite => true,
         }
     }
 
-    /// `r` or `w`, as scripts and answers have it.
+    /// `r`, `w` or `c`, as scripts and answers have it.
     pub fn letter(self) -> u8
         ensures { result ≡ mode_letter self }
     {
         match self {
             Mode::Read => b'r',
             Mode::Write => b'w',
+            Mode::CoWrite => b'c',
         }
     }
 
@@ -39,8 +41,18 @@ impl Mode {
         ensures { result ≡ mode_removes self }
     {
         match self {
-            Mode::Read => false,
+            Mode::Read | Mode::CoWrite => false,
             Mode::Write => true,
+        }
+    }
+
+    /// Whether several processes of one node may hold an object so at once.
+    pub fn is_shared(self) -> bool
+        ensures { result ≡ mode_shared self }
+    {
+        match self {
+            Mode::Read | Mode::Write => false,
+            Mode::CoWrite => true,
         }
     }
 
@@ -52,17 +64,19 @@ impl Mode {
         match letter {
             b'r' => Some(Mode::Read),
             b'w' => Some(Mode::Write),
+            b'c' => Some(Mode::CoWrite),
             _ => None,
         }
     }
 
-    /// 1 or 2, as frames have it.
+    /// 1, 2 or 3, as frames have it.
     pub fn code(self) -> u8
         ensures { result ≡ mode_code self }
     {
         match self {
             Mode::Read => 1,
             Mode::Write => 2,
+            Mode::CoWrite => 3,
         }
     }
 
@@ -74,17 +88,24 @@ impl Mode {
         match code {
             1 => Some(Mode::Read),
             2 => Some(Mode::Write),
+            3 => Some(Mode::CoWrite),
             _ => None,
         }
     }
 }
 
-/// Whether the locks of two processes on one object conflict.
+/// Whether two that write go together: both are shared, and of processes of one node.
+fn write_together(p: ProcId, m: Mode, q: ProcId, n: Mode) -> bool
+    ensures { result ≡ are_together p m q n }
+{
+    m.is_shared() && n.is_shared() && p.node().number() == q.node().number()
+}
+
+/// Whether the locks of two processes on one object conflict: unless both only read, or they write together.
 pub fn clash(p: ProcId, m: Mode, q: ProcId, n: Mode) -> bool
     ensures { result ≡ modes_clash p m q n }
 {
-    let _processes = (p, q);
-    m.writes() || n.writes()
+    (m.writes() || n.writes()) && !write_together(p, m, q, n)
 }
 
 /// What an object is.

@@ -1,4 +1,5 @@
--- That a home has everything of an object where it takes back a lock that its process held: each page that was stored, and the length.
+-- That a home has what a process stored to an object where it takes back the lock that the process held; and all of it, where no other process
+-- holds it shared.
 use Rattle.std.specs.Prelude.{◌≡◌, ℕ, true, List, ◌∷◌, ◌++◌}
 use Rattle.uid_names.specs.Names.{ProcName, ObjectName}
 use Rattle.dom_history.specs.Locks.{is_held, state}
@@ -33,7 +34,7 @@ pub record IsGivenBack (w : World) (u : ObjectName) (p : ProcName) (j : Noted) (
   pub told : SomeOf (IsUnlocked u p number) (all_told w.trace)
   pub held : is_held (state u (own p (noted_deeds older))) ≡ true
 
--- the home has all that one store has of the object there
-abbrev pub AreReleasesWhole : Setup → World → Type 0
-AreReleasesWhole s w = (newer older : List Noted) (j : Noted) (u : ObjectName) (p : ProcName) → w.trace ≡ newer ++ j ∷ older → is_node s.opening j.place.node ≡ true → IsGivenBack w u p j older
-    → let home = (held_then s u.home (j ∷ older)).home in HasObject s.opening (noted_past older) home u (attr_of home u)
+-- the home has the process's last stores of the object there
+abbrev pub AreReleasesHome : Setup → World → Type 0
+AreReleasesHome s w = (newer older : List Noted) (j : Noted) (u : ObjectName) (p : ProcName) → w.trace ≡ newer ++ j ∷ older → is_node s.opening j.place.node ≡ true → IsGivenBack w u p j older
+    → let home = (held_then s u.home (j ∷ older)).home in HasObject s.opening (noted_past older) home u p (attr_of home u)

@@ -1,4 +1,4 @@
--- In every run a home has all of an object where it takes back a lock that its process held.
+-- In every run a home has what a process stored to an object where it takes back the lock that the process held.
 use Rattle.std.proofs.Common.{◌≡◌, ℕ, ◌+◌, ◌≤◌, ◌<◌, Bool, true, false, List, [], ◌∷◌, ◌++◌, length, Option, Some, None, inl, inr, refl, sym, ap, subst, ◌∙◌, arith}
 use Rattle.std.specs.Prelude.{◌==◌, ◌&&◌, not}
 use Rattle.std.proofs.lemmas.Bool.{cases_eq}
@@ -59,10 +59,11 @@ use Rattle.run_effects.specs.NotedDeeds.{noted_deeds}
 use Rattle.run_effects.specs.States.{AreStatesTold}
 use Rattle.run_contents.specs.Stamps.{home_at}
 use Rattle.run_contents.specs.Stores.{AreStores}
-use Rattle.run_contents.specs.Releases.{IsUnlocked, AreReleasesWhole}
-use Rattle.run_contents.proofs.StandingRows.{IsGivenUp, rowed-are}
 use Rattle.run_contents.proofs.StoresRun.{calls-of-nodes}
-use Rattle.run_contents.proofs.WholeHomes.{home-whole}
+use Rattle.run_moves.specs.Left.{AreLeft}
+use Rattle.run_moves.specs.Releases.{IsUnlocked, AreReleasesHome}
+use Rattle.run_moves.proofs.HomesHave.{home-has}
+use Rattle.run_moves.proofs.StandingRows.{IsGivenUp, rowed-are}
 
 -- whether the open call has this number
 abbrev is_awaited : ℕ → Await → Bool
@@ -83,12 +84,12 @@ pub record IsOpenNoMore (w : World) (p : ProcName) (number : ℕ) : Type 0 where
 abbrev pub IsToldFine : World → ObjectName → ProcName → ℕ → Type 0
 IsToldFine w u p number = SomeOf (IsUnlocked u p number) (all_told w.trace)
 
-abbrev pub HasAll : Setup → Noted → List Noted → ObjectName → Type 0
-HasAll s j older u = let home = (held_then s u.home (j ∷ older)).home in HasObject s.opening (noted_past older) home u (attr_of home u)
+abbrev pub HasOf : Setup → Noted → List Noted → ObjectName → ProcName → Type 0
+HasOf s j older u p = let home = (held_then s u.home (j ∷ older)).home in HasObject s.opening (noted_past older) home u p (attr_of home u)
 
--- the home has all; or its process did not hold the lock, by what it had been told; or did not have the call open
+-- the home has what the process stored; or its process did not hold the lock, by what it had been told; or did not have the call open
 pub data GivesBack (s : Setup) (w : World) (j : Noted) (older : List Noted) (u : ObjectName) (p : ProcName) (number : ℕ) : Type 0 where
-  whole : HasAll s j older u → GivesBack s w j older u p number
+  whole : HasOf s j older u p → GivesBack s w j older u p number
   unheld : is_held (state u (own p (noted_deeds older))) ≡ false → GivesBack s w j older u p number
   untold : IsOpenNoMore w p number → (IsToldFine w u p number → ⊥) → GivesBack s w j older u p number
 
@@ -147,7 +148,7 @@ none-decided t p number named numbered_so (j ∷ older) others (inl is) = by j.n
     by (Note.Did q phase op reply) other is = is
     by (Note.Ended x) other is = is
 
-module _ (s : Setup) (setup : IsSetup s) (cs : List Choice) (old : World) (e : world_after s cs ≡ Some old) (timely : IsTimely old) (c : Choice) (new : World) (next : IsKeptNext s old c new) (stores : AreStores s old) (states : AreStatesTold s old) where
+module _ (s : Setup) (setup : IsSetup s) (cs : List Choice) (old : World) (e : world_after s cs ≡ Some old) (timely : IsTimely old) (c : Choice) (new : World) (next : IsKeptNext s old c new) (left : AreLeft s old) (stores : AreStores s old) (states : AreStatesTold s old) where
   open event s old c new next use {n, step, after, mark}
 
   is_incoming : IsIncoming next.is.incoming
@@ -317,8 +318,8 @@ module _ (s : Setup) (setup : IsSetup s) (cs : List Choice) (old : World) (e : w
         let within = numbered-within number (old.calls p.node p.number) c.node (Ask.Unlock u) asked.call in
         let above : served_of old p u.home < number = subst (λ a. served_of old p a < number) asked.home asked.above in
         let row = rowed-are s setup cs old e timely p.node p.number asked.node asked.proc u given_up (omega (arith, above, within)) in
-        let all = home-whole s setup cs old e timely next.kept.nodes p u row.mode row.grant row.row (given-unkept (entry_at (old.nodes p.node).desk.entries p.number u) given_up) stores (subst (λ a. is_node s.opening a ≡ true) asked.home node) in
-        whole (subst (λ (h : HomeState). HasObject s.opening (noted_past old.trace) h u (attr_of h u)) (sym home-is) all)
+        let all = home-has s setup cs old e timely next.kept.nodes p u row.mode row.grant row.row (given-unkept (entry_at (old.nodes p.node).desk.entries p.number u) given_up) asked.node asked.proc left stores (subst (λ a. is_node s.opening a ≡ true) asked.home node) in
+        whole (subst (λ (h : HomeState). HasObject s.opening (noted_past old.trace) h u p (attr_of h u)) (sym home-is) all)
 
     gives-held : (held open_one : Bool) → is_held (state u (own p (noted_deeds old.trace))) ≡ held → is_open_number number (proc_of (old.nodes p.node) p.number).doing ≡ open_one → is_node s.opening c.node ≡ true → GivesBack s after mark old.trace u p number
     gives-held false open_one held is node = unheld held
@@ -339,16 +340,17 @@ each-at : (s : Setup) (w : World) (newer : List Noted) (j : Noted) (older notes 
 each-at s w [] j older notes is each = (subst (EachGives s w) is each).0
 each-at s w (k ∷ newer) j older notes is each = each-at s w newer j older (newer ++ j ∷ older) refl (subst (EachGives s w) is each).1
 
--- in every run, as the last stores are at home or at the writing node, and desks have what was told of locks
-pub releases-are : (s : Setup) → IsSetup s → ((cs : List Choice) (w : World) → world_after s cs ≡ Some w → IsTimely w → AreStores s w) → ((cs : List Choice) (w : World) → world_after s cs ≡ Some w → IsTimely w → AreStatesTold s w)
-    → (cs : List Choice) (w : World) → world_after s cs ≡ Some w → IsTimely w → AreReleasesWhole s w
-releases-are s setup stores states cs w e timely newer older j u p trace node given_back =
+-- in every run, as what is left is at home, the last stores are there or at the writing node, and desks have what was told of locks
+pub releases-are : (s : Setup) → IsSetup s → ((cs : List Choice) (w : World) → world_after s cs ≡ Some w → IsTimely w → AreLeft s w)
+    → ((cs : List Choice) (w : World) → world_after s cs ≡ Some w → IsTimely w → AreStores s w) → ((cs : List Choice) (w : World) → world_after s cs ≡ Some w → IsTimely w → AreStatesTold s w)
+    → (cs : List Choice) (w : World) → world_after s cs ≡ Some w → IsTimely w → AreReleasesHome s w
+releases-are s setup left stores states cs w e timely newer older j u p trace node given_back =
     by (each-at s w newer j older w.trace trace (each cs w e timely) u p given_back.number given_back.answer given_back.decided node)
   where
     each : (cs : List Choice) (w : World) → world_after s cs ≡ Some w → IsTimely w → EachGives s w w.trace
-    each = every-kept-run s setup (setup-procs s setup) (λ w. EachGives s w w.trace) tt (λ cs old c new e timely next was. each-new s setup cs old e timely c new next (stores cs old e timely) (states cs old e timely) was)
+    each = every-kept-run s setup (setup-procs s setup) (λ w. EachGives s w w.trace) tt (λ cs old c new e timely next was. each-new s setup cs old e timely c new next (left cs old e timely) (stores cs old e timely) (states cs old e timely) was)
 
-    by : GivesBack s w j older u p given_back.number → HasAll s j older u
+    by : GivesBack s w j older u p given_back.number → HasOf s j older u p
     by (whole all) = all
     by (unheld none) = absurd (let h : true ≡ false = sym given_back.held ∙ none in cc)
     by (untold closed none) = absurd (none given_back.told)
