@@ -59,7 +59,7 @@ module _ (d : DeskState) (p : ℕ) (call : LockCall) (u : ObjectName) (s : LockS
   set-object c is = absurd (cc)
 
 -- a note of a release leaves the state
-noted-state : (o : Option LockEntry) → state_in (option_map (noted_if true) o) ≡ state_in o
+pub noted-state : (o : Option LockEntry) → state_in (option_map (noted_if true) o) ≡ state_in o
 noted-state None = refl
 noted-state (Some e) = refl
 

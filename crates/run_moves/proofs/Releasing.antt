@@ -22,6 +22,7 @@ use Rattle.lock_validate.specs.Told.{state_set}
 use Rattle.lock_validate.specs.Turns.{IsMade}
 use Rattle.lock_validate.proofs.DeskStays.{moves-desk}
 use Rattle.lock_validate.proofs.OutcomeSays.{told-settled}
+use Rattle.run_effects.proofs.StateMoves.{noted-state}
 
 -- the entry of an object that is kept stays, or its release or its removal is sent, and its state stays
 pub data KeptThen (c : Cause) (turn : Turn) (u : ObjectName) (old new : Option LockEntry) : Type 0 where
@@ -35,10 +36,6 @@ sets-not d p (Cause.AnswerCame (LockAnswer.Released w)) set is = absurd (cc)
 sets-not d p (Cause.AnswerCame (LockAnswer.Removed w)) set is = absurd (cc)
 sets-not d p (Cause.CallFailed call) set is = absurd (cc)
 sets-not d p c set is = absurd (cc)
-
-noted-state : (o : Option LockEntry) → state_in (option_map (noted_if true) o) ≡ state_in o
-noted-state None = refl
-noted-state (Some e) = refl
 
 module _ (c : Cause) (turn : Turn) (p : ℕ) (proc : IsProc p) (u : ObjectName) (old : Option LockEntry) (kept : keeps old ≡ true) where
   abbrev Then : DeskState → Type 0
