@@ -1,7 +1,8 @@
 //! How an operation ended, in one word.
 ghost use Rattle.std.specs.Prelude.{◌≡◌, ◌≢◌, MatchOption};
 ghost use Rattle.dom_history.specs.declared.end_word.EndWord.{EndWord};
-ghost use Rattle.dom_history.specs.EndWords.{word_text, end_of_word, word_of};
+ghost use Rattle.uid_names.specs.Texts.{begun_so, written_so};
+ghost use Rattle.dom_history.specs.EndWords.{word_text, all_ends, end_of_word, word_of};
 
 use crate::op::Reply;
 
@@ -60,7 +61,10 @@ impl EndWord {
         ensures value { result ≡ end_of_word word.now }
         ensures word { MatchOption result ((w : EndWord) → word.now ≢ word_text w) (λ w. word.now ≡ word_text w) }
     {
-        written_so(word)
+        let Some(first) = word.first() else {
+            return None;
+        };
+        written_so(of_first(*first), word)
     }
 
     /// How an operation ended that has this reply.
@@ -98,29 +102,41 @@ impl EndWord {
     }
 }
 
-/// The end that is written so.
-fn written_so(word: &[u8]) -> Option<EndWord>
-    ensures { MatchOption result ((w : EndWord) → word.now ≢ word_text w) (λ w. word.now ≡ word_text w) }
+/// The ends whose words begin with this byte.
+fn of_first(first: u8) -> &'static [EndWord]
+    ensures { result.now ≡ begun_so word_text all_ends first }
 {
-    match word {
-        b"ok" => Some(EndWord::Fine),
-        b"conflict" => Some(EndWord::Conflict),
-        b"no-object" => Some(EndWord::NoObject),
-        b"already-held" => Some(EndWord::AlreadyHeld),
-        b"not-held" => Some(EndWord::NotHeld),
-        b"unsettled" => Some(EndWord::Unsettled),
-        b"too-many" => Some(EndWord::TooMany),
-        b"no-lock" => Some(EndWord::NoLock),
-        b"wrong-mode" => Some(EndWord::WrongMode),
-        b"past-room" => Some(EndWord::PastRoom),
-        b"past-end" => Some(EndWord::PastEnd),
-        b"no-space" => Some(EndWord::NoSpace),
-        b"kept" => Some(EndWord::Kept),
-        b"doubt" => Some(EndWord::Doubt),
-        b"link-fault" => Some(EndWord::LinkFault),
-        b"too-many-maps" => Some(EndWord::TooManyMaps),
-        b"no-segment" => Some(EndWord::NoSegment),
-        b"not-mapped" => Some(EndWord::NotMapped),
-        _ => None,
+    match first {
+        b'o' => &[EndWord::Fine],
+        b'c' => &[EndWord::Conflict],
+        b'n' => &[
+            EndWord::NoObject,
+            EndWord::NotHeld,
+            EndWord::NoLock,
+            EndWord::NoSpace,
+            EndWord::NoSegment,
+            EndWord::NotMapped,
+        ],
+        b'a' => &[EndWord::AlreadyHeld],
+        b'u' => &[EndWord::Unsettled],
+        b't' => &[EndWord::TooMany, EndWord::TooManyMaps],
+        b'w' => &[EndWord::WrongMode],
+        b'p' => &[EndWord::PastRoom, EndWord::PastEnd],
+        b'k' => &[EndWord::Kept],
+        b'd' => &[EndWord::Doubt],
+        b'l' => &[EndWord::LinkFault],
+        _ => &[],
     }
+}
+
+/// The first of these ends that is written so.
+fn written_so(ends: &[EndWord], word: &[u8]) -> Option<EndWord>
+    ensures { result ≡ written_so word_text ends.now word.now }
+{
+    for end in ends {
+        if end.word().as_bytes() == word {
+            return Some(*end);
+        }
+    }
+    None
 }

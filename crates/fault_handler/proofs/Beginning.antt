@@ -60,7 +60,7 @@ length-known : (o : Option Known) → IfSome o IsKnown → length_of o ≤ MAX_L
 length-known None is = omega arith
 length-known (Some k) is = is.length
 
-room-known : (o : Option Known) → IfSome o IsKnown → room_of o ≤ MAX_ROOM
+pub room-known : (o : Option Known) → IfSome o IsKnown → room_of o ≤ MAX_ROOM
 room-known None is = omega arith
 room-known (Some k) is = is.room.1
 

@@ -20,3 +20,4 @@ pub mod Replying
 pub mod SeenRows
 pub mod Idle
 pub mod Nothing
+pub mod Locally

@@ -1,5 +1,5 @@
 //! The desk of a node.
-ghost use Rattle.std.specs.Prelude.{◌≡◌, ◌≤◌, [], ◌∷◌, length, Some, None, IfOk, IfSome, is_some};
+ghost use Rattle.std.specs.Prelude.{◌≡◌, ◌+◌, ◌*◌, ◌≤◌, [], ◌∷◌, nat_lt, length, Some, None, IfOk, IfSome, is_some};
 ghost use Rattle.std.specs.Bool.{OnTrue};
 ghost use Rattle.dom_history.specs.Locks.{is_held};
 ghost use Rattle.page_cache.specs.Caches.{IsResident};
@@ -30,7 +30,8 @@ use ring_messages::Body;
 use std::alloc::Global;
 use std::marker::Model;
 use uid_names::{
-    MAX_NODES, NODE_PROCESSES, NoMemory, NodeId, PROCESS_LOCKS, ProcId, Uid, UidTable,
+    ByteList, MAX_NODES, NODE_PROCESSES, NoMemory, NodeId, PAGE_BYTES, PROCESS_LOCKS, ProcId, Uid,
+    UidTable,
 };
 use version_stamps::Seen;
 
@@ -285,6 +286,29 @@ impl Desk {
     {
         let _node = self.node;
         let _number = proc.number();
+    }
+
+    /// A process's state on an object.
+    fn lock_state(&self, proc: ProcId, uid: Uid) -> LockState
+        ensures { result ≡ state_of self.now proc.number uid }
+    {
+        self.entries[index_of(proc)].state(uid)
+    }
+
+    /// Whether so many bytes of an object, from an offset on, end past its known length.
+    fn ends_past(&self, uid: Uid, offset: u32, count: u32) -> bool
+        ensures { result ≡ nat_lt (length_of (known_of uid self.now.known)) (offset + count) }
+    {
+        u64::from(self.length_of(uid)) < u64::from(offset) + u64::from(count)
+    }
+
+    /// Whether these bytes, at an offset of an object, end past its known room.
+    fn ends_past_room(&self, uid: Uid, offset: u32, bytes: &ByteList) -> bool
+        requires { length bytes.now ≤ PAGE_BYTES }
+        ensures { result ≡ nat_lt (PAGE_BYTES * room_of (known_of uid self.now.known)) (offset + length bytes.now) }
+    {
+        let end = u64::from(offset) + bytes.bytes().len() as u64;
+        PAGE_BYTES as u64 * u64::from(self.room_of(uid)) < end
     }
 
     /// The known length of an object; 0 without one.

@@ -175,11 +175,21 @@ impl<P: Program, G: Pages> Machine<P, G> {
         requires fresh { (p : ℕ) → IfSome (program_in self.programs.items p) (λ y. P.wants y ≡ Phase) }
         ensures { IfOk result (AllAsked P.spent P.wants P.becomes self) }
     {
+        self.ask_all(alloc)?;
+        Ok(self)
+    }
+
+    /// Asks each program for the first time.
+    fn ask_all(&mut self, alloc: Global) -> Result<(), NoMemory>
+        requires kept { IsKept P.spent P.wants self.old }
+        requires first { (p : ℕ) → proc_of (state_of self.old) p ≡ first_proc }
+        requires fresh { (p : ℕ) → IfSome (program_in self.old.programs.items p) (λ y. P.wants y ≡ Phase) }
+        ensures { OnOk result (AllAsked P.spent P.wants P.becomes self.old self.new) }
+    {
         self.ask_first(alloc, 1)?;
         self.ask_first(alloc, 2)?;
         self.ask_first(alloc, 3)?;
-        self.ask_first(alloc, 4)?;
-        Ok(self)
+        self.ask_first(alloc, 4)
     }
 
     /// Asks a process's program, if it has one, for the first time.

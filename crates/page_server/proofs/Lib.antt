@@ -9,3 +9,5 @@ pub mod Again
 pub mod Begun
 pub mod Sides
 pub mod Writes
+pub mod Copying
+pub mod Leaving

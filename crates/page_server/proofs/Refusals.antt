@@ -21,7 +21,7 @@ on-any (Ok x) p = p
 on-any (Err e) p = tt
 
 -- and on failure
-on-any-err : {T E P : Type 0} (r : Result T E) → P → OnErr r P
+pub on-any-err : {T E P : Type 0} (r : Result T E) → P → OnErr r P
 on-any-err (Ok x) p = tt
 on-any-err (Err e) p = p
 

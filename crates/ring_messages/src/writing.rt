@@ -1,11 +1,12 @@
 //! Writing frames.
-ghost use Rattle.std.specs.Prelude.{◌≡◌, ◌+◌, ◌++◌, List, [], ◌∷◌, length, All, IsTrue, IsFalse, IfOk, OnOk};
+ghost use Rattle.std.specs.Prelude.{◌≡◌, ◌+◌, ◌^◌, ◌<◌, ◌++◌, List, [], ◌∷◌, length, All, IsTrue, IsFalse, IfOk, OnOk};
+ghost use Rattle.uid_names.specs.Modes.{mode_code, object_code};
 ghost use Rattle.std.specs.List.{flat_map};
 ghost use Rattle.uid_names.specs.Names.{IsName, IsProcName};
 ghost use Rattle.ring_messages.specs.Bodies.{is_request};
 ghost use Rattle.ring_messages.specs.Frames.{IsInRange};
 ghost use Rattle.ring_messages.specs.Ranges.{IsBody};
-ghost use Rattle.ring_messages.specs.Spelling.{be32, be64, uid_bytes, proc_bytes, row_bytes, after_bytes, body_bytes, header, head_of, spelling};
+ghost use Rattle.ring_messages.specs.Spelling.{be32, be64, uid_bytes, proc_bytes, row_bytes, flag, after_bytes, body_bytes, header, head_of, spelling};
 ghost use Rattle.ring_messages.specs.Spelled.{IsRow, AreBytes, IsAfter, IsTypedBody, IsHead, Spells};
 ghost use Rattle.ring_messages.specs.Sizes.{body_size};
 
@@ -13,7 +14,7 @@ use crate::body::Body;
 use crate::frame::Frame;
 use byteorder::{BigEndian, ByteOrder};
 use std::alloc::Global;
-use uid_names::{ByteList, LockRow, Mode, NoMemory, PAGE_BYTES, ProcId, Uid};
+use uid_names::{ByteList, LockRow, Mode, NoMemory, ObjKind, PAGE_BYTES, ProcId, Uid};
 
 #[tactic(auto, unfolding(crate::specs::Spelling::be32))]
 fn put_u32(out: &mut ByteList, n: u32) -> Result<(), NoMemory>
@@ -145,6 +146,53 @@ fn put_request(out: &mut ByteList, body: &Body) -> Result<(), NoMemory>
     }
 }
 
+/// A page, with its stamp.
+fn put_stamped(out: &mut ByteList, stamp: u64, bytes: &[u8; PAGE_BYTES]) -> Result<(), NoMemory>
+    ensures text { OnOk result (out.new ≡ out.old ++ (be64 stamp ++ bytes.now)) }
+    ensures typed { OnOk result ((stamp < 2 ^ 64) × AreBytes bytes.now) }
+{
+    put_u64(out, stamp)?;
+    put_page(out, bytes)
+}
+
+/// What is granted: the grant, and what the home knows of the object.
+fn put_granted(
+    out: &mut ByteList,
+    grant: u64,
+    stamp: u64,
+    kind: ObjKind,
+    room: u32,
+    length: u32,
+) -> Result<(), NoMemory>
+    ensures text { OnOk result (out.new ≡ out.old ++ (be64 grant ++ (be64 stamp ++ (object_code kind ∷ (be32 room ++ be32 length))))) }
+    ensures typed { OnOk result ((grant < 2 ^ 64) × (stamp < 2 ^ 64)) }
+{
+    put_u64(out, grant)?;
+    put_u64(out, stamp)?;
+    out.push(kind.code())?;
+    put_u32(out, room)?;
+    put_u32(out, length)
+}
+
+/// Who holds the object, and in which mode.
+fn put_holder(out: &mut ByteList, proc: ProcId, mode: Mode) -> Result<(), NoMemory>
+    ensures text { OnOk result (out.new ≡ out.old ++ (proc_bytes proc ++ (mode_code mode ∷ []))) }
+    ensures is_proc { OnOk result (IsProcName proc) }
+{
+    put_proc(out, proc)?;
+    out.push(mode.code())
+}
+
+/// Rows: how many, whether more follow, and each of them.
+fn put_listed(out: &mut ByteList, rows: &[LockRow], more: bool) -> Result<(), NoMemory>
+    requires { length rows.now < 256 }
+    ensures text { OnOk result (out.new ≡ out.old ++ (length rows.now ∷ flag more ∷ flat_map row_bytes rows.now)) }
+    ensures are_rows { OnOk result (All IsRow rows.now) }
+{
+    out.extend(&[rows.len() as u8, u8::from(more)])?;
+    put_rows(out, rows)
+}
+
 /// The bytes behind the header of a reply.
 fn put_reply(out: &mut ByteList, body: &Body) -> Result<(), NoMemory>
     requires few { IsBody 0 body.now }
@@ -153,10 +201,7 @@ fn put_reply(out: &mut ByteList, body: &Body) -> Result<(), NoMemory>
     ensures typed { OnOk result (IsTypedBody body.now) }
 {
     match body {
-        Body::Page { stamp, bytes } => {
-            put_u64(out, *stamp)?;
-            put_page(out, bytes.bytes())
-        }
+        Body::Page { stamp, bytes } => put_stamped(out, *stamp, bytes.bytes()),
         Body::Stored { stamp } | Body::Stale { stamp } => put_u64(out, *stamp),
         Body::Granted {
             grant,
@@ -164,23 +209,10 @@ fn put_reply(out: &mut ByteList, body: &Body) -> Result<(), NoMemory>
             kind,
             room,
             length,
-        } => {
-            put_u64(out, *grant)?;
-            put_u64(out, *stamp)?;
-            out.push(kind.code())?;
-            put_u32(out, *room)?;
-            put_u32(out, *length)
-        }
-        Body::Conflict { proc, mode } => {
-            put_proc(out, *proc)?;
-            out.push(mode.code())
-        }
+        } => put_granted(out, *grant, *stamp, *kind, *room, *length),
+        Body::Conflict { proc, mode } => put_holder(out, *proc, *mode),
         Body::Made { uid } => put_uid(out, *uid),
-        Body::Listed { rows, more } => {
-            let rows = rows.items();
-            out.extend(&[rows.len() as u8, u8::from(*more)])?;
-            put_rows(out, rows)
-        }
+        Body::Listed { rows, more } => put_listed(out, rows.items(), *more),
         Body::NoGrant | Body::NoObject | Body::Done | Body::NoSpace => Ok(()),
         _ => unreachable!(),
     }

@@ -1,5 +1,5 @@
 -- Lines that are read one by one.
-use Rattle.std.proofs.Common.{◌≡◌, ◌≢◌, ◌<◌, ◌+◌, ◌-◌, take, drop, ℕ, Bool, true, false, List, [], ◌∷◌, ◌++◌, length, Option, Some, None, Ok, Err, MatchOption, refl, ap, sym, arith}
+use Rattle.std.proofs.Common.{◌≡◌, ◌≢◌, ◌<◌, ◌+◌, ◌-◌, take, drop, ℕ, Bool, true, false, List, [], ◌∷◌, ◌++◌, length, Option, Some, None, Ok, Err, MatchOption, refl, ap, sym, ◌∙◌, arith}
 use Rattle.std.specs.Prelude.{◌==◌, ◌||◌, if◌then◌else◌, nat_lt}
 use Rattle.std.proofs.lemmas.List.{length-take, nil_from_length}
 use Rattle.std.proofs.lemmas.Bool.{false≢true, eqb-true, ne_eqb}
@@ -9,11 +9,11 @@ use Rattle.dom_text.specs.declared.token.Token.TheVariants.{Word as WordToken, T
 use Rattle.dom_text.specs.Cuts.{Lacks}
 use Rattle.script_reader.specs.Grammar.{AreGood, IsFirstBad, before_lines, raw_lines, without_cr}
 use Rattle.script_reader.specs.Walk.Formed.{HasForm, IsFormed}
-use Rattle.script_reader.specs.Judging.{has_begun, judged, judged_tokens}
+use Rattle.script_reader.specs.Judging.{has_begun, judged, judged_process, judged_tokens}
 use Rattle.script_reader.specs.Sayings.{Saying, Node, Object, Fault, Phase, Does}
 use Rattle.script_reader.specs.Scripts.{Content}
 use Rattle.script_reader.specs.Walk.Seen.{BeginsWithNoWord, seen, seen_line}
-use Rattle.script_reader.specs.Words.{line_word_of, line_word_text, line_words, verb_of, verb_text, verbs}
+use Rattle.script_reader.specs.Words.{ProcessWord, line_word_of, line_word_text, line_words, verb_of, verb_text, verbs}
 use Rattle.script_reader.specs.declared.cause.Cause.{Cause}
 use Rattle.script_reader.specs.declared.cause.Cause.TheVariants.{Word}
 use Rattle.script_reader.specs.declared.line.Line.{Line}
@@ -87,7 +87,7 @@ line_word-again PhaseWord = refl
 pub no_line_word : (word : List ℕ) → ((w : LineWord) → word ≢ line_word_text w) → line_word_of word ≡ None
 no_line_word word h = sym (looked_up line_word_text line_words line_word-again None word h)
 
-verb-again : (v : Verb) → verb_of (verb_text v) ≡ Some v
+pub verb-again : (v : Verb) → verb_of (verb_text v) ≡ Some v
 verb-again NewVerb = refl
 verb-again LockVerb = refl
 verb-again UnlockVerb = refl
@@ -114,6 +114,15 @@ verb-again LlkobVerb = refl
 
 pub no_verb : (word : List ℕ) → ((v : Verb) → word ≢ verb_text v) → verb_of word ≡ None
 no_verb word h = sym (looked_up verb_text verbs verb-again None word h)
+
+pub verb_found : (word : List ℕ) (v : Verb) → word ≡ verb_text v → verb_of word ≡ Some v
+verb_found word v is = ap verb_of is ∙ verb-again v
+
+-- tokens behind a process that begin with no word are no command
+pub no_verb_word : (s : Content) (process : ProcessWord) (tokens : List Token) → BeginsWithNoWord tokens → judged_process s (Some process) tokens ≡ Err Word
+no_verb_word s process [] h = refl
+no_verb_word s process (WordToken word ∷ rest) h = absurd h
+no_verb_word s process (TextToken text ∷ rest) h = refl
 
 -- a form that was found, seen as the definitions have it
 pub form_is : (found : Option Line) (form : Option Saying) → MatchOption found (form ≡ None) (λ line. form ≡ Some (seen line)) → form ≡ seen_line found

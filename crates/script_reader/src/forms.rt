@@ -69,10 +69,12 @@ fn fate_form(tokens: &[TokenRef<'_>]) -> Option<LineFate>
         };
     }
     let late = late(only_word(rest)?);
-    match fixed {
-        b"twice" => Some(LineFate::Twice(late)),
-        b"late" => Some(LineFate::Late(late)),
-        _ => None,
+    if fixed == b"twice".as_slice() {
+        Some(LineFate::Twice(late))
+    } else if fixed == b"late".as_slice() {
+        Some(LineFate::Late(late))
+    } else {
+        None
     }
 }
 

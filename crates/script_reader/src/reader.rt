@@ -5,10 +5,10 @@ ghost use Rattle.script_reader.specs.Grammar.{AreGood, IsScript, nothing, raw_li
 ghost use Rattle.script_reader.specs.Judging.{judged, judged_form, judged_place, judged_process, judged_tokens};
 ghost use Rattle.dom_text.specs.Answers.{Gives};
 ghost use Rattle.dom_text.specs.Lent.{owned};
-ghost use Rattle.script_reader.specs.Walk.Formed.{HasForm};
+ghost use Rattle.script_reader.specs.Walk.Formed.{HasForm, IsProcessNumber};
 ghost use Rattle.script_reader.specs.Walk.Results.{RefusesLines, line_answer};
 ghost use Rattle.script_reader.specs.Faults.{IsRefusal};
-ghost use Rattle.script_reader.specs.Forms.{phase_form as phase_form_of};
+ghost use Rattle.script_reader.specs.Forms.{phase_form as phase_form_of, command_form as command_form_of};
 ghost use Rattle.script_reader.specs.Walk.Seen.{seen, seen_line};
 ghost use Rattle.script_reader.specs.Words.{process_word as process_word_of};
 
@@ -18,7 +18,7 @@ use crate::draft::Draft;
 use crate::forms::{fault_form, first_word, node_form, object_form};
 use crate::line::Line;
 use crate::script::Script;
-use crate::words::{LineWord, process_word, read_line_word, read_verb};
+use crate::words::{LineWord, Verb, process_word, read_line_word, read_verb};
 use dom_text::{TextFault, TokenRef, cut, lend_tokens};
 use std::alloc::Global;
 use uid_names::SCRIPT_BYTES;
@@ -183,6 +183,21 @@ fn read_command(
     let Some(verb) = read_verb(verb) else {
         return Err(LineFault::Bad(Cause::Word));
     };
+    read_form(draft, alloc, node, number, verb, rest)
+}
+
+/// Reads the arguments of a command of this process, which these tokens are.
+fn read_form(
+    draft: &mut Draft,
+    alloc: Global,
+    node: &[u8],
+    number: Option<u32>,
+    verb: Verb,
+    rest: &[TokenRef<'_>],
+) -> Result<(), LineFault>
+    requires { ForSome number IsProcessNumber }
+    ensures { Gives (line_answer draft.new result) (judged_form draft.old (command_form_of (record { node = node.now; number = number }) verb (owned rest.now))) }
+{
     let Some(arguments) = read_arguments(verb.shape(), rest) else {
         return Err(LineFault::Bad(Cause::Form));
     };

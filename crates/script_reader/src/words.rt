@@ -2,7 +2,8 @@
 ghost use Rattle.std.specs.Prelude.{◌≡◌, ◌≢◌, ◌≤◌, length, Some, None, MatchOption, IfSome, All, IsTrue, ◌↔◌};
 ghost use Rattle.std.specs.Char.{is_ascii_digit};
 ghost use Rattle.uid_names.specs.NameTexts.{is_name_byte as may_stand_in_name};
-ghost use Rattle.script_reader.specs.Words.{are_digits as are_digits_in, is_name as is_name_text, line_word_text, process_word as process_word_of, verb_text};
+ghost use Rattle.script_reader.specs.Words.{are_digits as are_digits_in, is_name as is_name_text, line_word_text, process_word as process_word_of, verb_text, verbs};
+ghost use Rattle.uid_names.specs.Texts.{begun_so, written_so};
 ghost use Rattle.script_reader.specs.Shapes.{shape_of};
 ghost use Rattle.script_reader.specs.Walk.Formed.{IsProcessNumber};
 ghost use Rattle.script_reader.specs.declared.words.LineWord.{LineWord};
@@ -81,6 +82,37 @@ pub(crate) enum Kind {
 }
 
 impl Verb {
+    /// How it is written.
+    fn text(self) -> &'static [u8]
+        ensures { result.now ≡ verb_text self }
+    {
+        match self {
+            Verb::New => b"new",
+            Verb::Lock => b"lock",
+            Verb::Unlock => b"unlock",
+            Verb::Delete => b"delete",
+            Verb::Load => b"load",
+            Verb::Store => b"store",
+            Verb::Length => b"length",
+            Verb::Map => b"map",
+            Verb::Unmap => b"unmap",
+            Verb::Loadat => b"loadat",
+            Verb::Storeat => b"storeat",
+            Verb::Bind => b"bind",
+            Verb::Crf => b"crf",
+            Verb::Crd => b"crd",
+            Verb::Crl => b"crl",
+            Verb::Dlf => b"dlf",
+            Verb::Catf => b"catf",
+            Verb::Lnf => b"lnf",
+            Verb::Apf => b"apf",
+            Verb::Cpf => b"cpf",
+            Verb::Ld => b"ld",
+            Verb::Wd => b"wd",
+            Verb::Llkob => b"llkob",
+        }
+    }
+
     /// The kinds of the command's arguments, in order. No command has more than three.
     pub(crate) fn shape(self) -> &'static [Kind]
         ensures value { result.now ≡ shape_of self }
@@ -118,12 +150,16 @@ impl Verb {
 pub(crate) fn read_line_word(word: &[u8]) -> Option<LineWord>
     ensures word { MatchOption result ((w : LineWord) → word.now ≢ line_word_text w) (λ w. word.now ≡ line_word_text w) }
 {
-    match word {
-        b"node" => Some(LineWord::Node),
-        b"object" => Some(LineWord::Object),
-        b"fault" => Some(LineWord::Fault),
-        b"phase" => Some(LineWord::Phase),
-        _ => None,
+    if word == b"node".as_slice() {
+        Some(LineWord::Node)
+    } else if word == b"object".as_slice() {
+        Some(LineWord::Object)
+    } else if word == b"fault".as_slice() {
+        Some(LineWord::Fault)
+    } else if word == b"phase".as_slice() {
+        Some(LineWord::Phase)
+    } else {
+        None
     }
 }
 
@@ -131,32 +167,49 @@ pub(crate) fn read_line_word(word: &[u8]) -> Option<LineWord>
 pub(crate) fn read_verb(word: &[u8]) -> Option<Verb>
     ensures word { MatchOption result ((v : Verb) → word.now ≢ verb_text v) (λ v. word.now ≡ verb_text v) }
 {
-    match word {
-        b"new" => Some(Verb::New),
-        b"lock" => Some(Verb::Lock),
-        b"unlock" => Some(Verb::Unlock),
-        b"delete" => Some(Verb::Delete),
-        b"load" => Some(Verb::Load),
-        b"store" => Some(Verb::Store),
-        b"length" => Some(Verb::Length),
-        b"map" => Some(Verb::Map),
-        b"unmap" => Some(Verb::Unmap),
-        b"loadat" => Some(Verb::Loadat),
-        b"storeat" => Some(Verb::Storeat),
-        b"bind" => Some(Verb::Bind),
-        b"crf" => Some(Verb::Crf),
-        b"crd" => Some(Verb::Crd),
-        b"crl" => Some(Verb::Crl),
-        b"dlf" => Some(Verb::Dlf),
-        b"catf" => Some(Verb::Catf),
-        b"lnf" => Some(Verb::Lnf),
-        b"apf" => Some(Verb::Apf),
-        b"cpf" => Some(Verb::Cpf),
-        b"ld" => Some(Verb::Ld),
-        b"wd" => Some(Verb::Wd),
-        b"llkob" => Some(Verb::Llkob),
-        _ => None,
+    let Some(first) = word.first() else {
+        return None;
+    };
+    verb_of(of_first(*first), word)
+}
+
+/// The commands whose words begin with this byte.
+fn of_first(first: u8) -> &'static [Verb]
+    ensures { result.now ≡ begun_so verb_text verbs first }
+{
+    match first {
+        b'n' => &[Verb::New],
+        b'l' => &[
+            Verb::Lock,
+            Verb::Load,
+            Verb::Length,
+            Verb::Loadat,
+            Verb::Lnf,
+            Verb::Ld,
+            Verb::Llkob,
+        ],
+        b'u' => &[Verb::Unlock, Verb::Unmap],
+        b'd' => &[Verb::Delete, Verb::Dlf],
+        b's' => &[Verb::Store, Verb::Storeat],
+        b'm' => &[Verb::Map],
+        b'b' => &[Verb::Bind],
+        b'c' => &[Verb::Crf, Verb::Crd, Verb::Crl, Verb::Catf, Verb::Cpf],
+        b'a' => &[Verb::Apf],
+        b'w' => &[Verb::Wd],
+        _ => &[],
     }
+}
+
+/// The first of these commands that is written so.
+fn verb_of(verbs: &[Verb], word: &[u8]) -> Option<Verb>
+    ensures { result ≡ written_so verb_text verbs.now word.now }
+{
+    for verb in verbs {
+        if verb.text() == word {
+            return Some(*verb);
+        }
+    }
+    None
 }
 
 /// The node's name of a word that names a process, and the number that its digits spell.

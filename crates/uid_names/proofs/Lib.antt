@@ -10,3 +10,4 @@ pub mod Tables
 pub mod ListLemmas
 pub mod TextTables
 pub mod Codes
+pub mod WrittenTables

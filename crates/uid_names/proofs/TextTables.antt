@@ -3,7 +3,7 @@ use Rattle.std.proofs.Common.{◌≡◌, ◌≢◌, ℕ, Bool, true, false, List
 use Rattle.std.proofs.lemmas.Slice.Eq.{bytes_eq-Decides}
 use Rattle.std.specs.Prelude.{bytes_eq}
 use Rattle.uid_names.specs.Texts.{written_so}
-use Rattle.uid_names.specs.FrameKinds.{kind_number, kind_name, kind_of_number, kind_of_name, all_kinds}
+use Rattle.uid_names.specs.FrameKinds.{kind_number, kind_name, kind_of_number, kind_of_name}
 use Rattle.uid_names.specs.declared.frame_kind.FrameKind.{FrameKind}
 use Rattle.uid_names.specs.declared.frame_kind.FrameKind.TheVariants as kinds
 
@@ -69,7 +69,3 @@ kind_of_number-number kinds.Done = refl
 kind_of_number-number kinds.Made = refl
 kind_of_number-number kinds.NoSpace = refl
 kind_of_number-number kinds.Listed = refl
-
--- a look-up by name that is right is the table's
-pub kind-looked_up : (r : Option FrameKind) (word : List ℕ) → MatchOption r ((k : FrameKind) → word ≢ kind_name k) (λ k. word ≡ kind_name k) → r ≡ kind_of_name word
-kind-looked_up r word h = looked_up kind_name all_kinds kind_of_name-name r word h

@@ -1,6 +1,7 @@
 //! The kinds of frames that nodes send each other.
 ghost use Rattle.std.specs.Prelude.{◌≡◌, ◌≢◌, ◌<◌, ◌↔◌, IsTrue, MatchOption};
-ghost use Rattle.uid_names.specs.FrameKinds.{kind_number, kind_name, kind_of_number, kind_of_name};
+ghost use Rattle.uid_names.specs.FrameKinds.{kind_number, kind_name, all_kinds, kind_of_number, kind_of_name};
+ghost use Rattle.uid_names.specs.Texts.{begun_so, written_so};
 ghost use Rattle.uid_names.specs.declared.frame_kind.FrameKind.{FrameKind};
 
 /// A kind of frame: eight requests to a home, and the eleven replies.
@@ -116,7 +117,10 @@ impl FrameKind {
         ensures value { result ≡ kind_of_name name.now }
         ensures name { MatchOption result ((k : FrameKind) → name.now ≢ kind_name k) (λ k. name.now ≡ kind_name k) }
     {
-        named(name)
+        let Some(first) = name.first() else {
+            return None;
+        };
+        named(of_first(*first), name)
     }
 
     /// Whether it is a request to a home; a reply of a home else.
@@ -127,30 +131,34 @@ impl FrameKind {
     }
 }
 
-/// The kind of this name, by its text.
-fn named(name: &[u8]) -> Option<FrameKind>
-    ensures { MatchOption result ((k : FrameKind) → name.now ≢ kind_name k) (λ k. name.now ≡ kind_name k) }
+/// The kinds whose names begin with this byte.
+fn of_first(first: u8) -> &'static [FrameKind]
+    ensures { result.now ≡ begun_so kind_name all_kinds first }
 {
-    match name {
-        b"page-in" => Some(FrameKind::PageIn),
-        b"page-out" => Some(FrameKind::PageOut),
-        b"attr-out" => Some(FrameKind::AttrOut),
-        b"lock" => Some(FrameKind::Lock),
-        b"unlock" => Some(FrameKind::Unlock),
-        b"remove" => Some(FrameKind::Remove),
-        b"make" => Some(FrameKind::Make),
-        b"list" => Some(FrameKind::List),
-        b"page" => Some(FrameKind::Page),
-        b"stored" => Some(FrameKind::Stored),
-        b"stale" => Some(FrameKind::Stale),
-        b"no-grant" => Some(FrameKind::NoGrant),
-        b"no-object" => Some(FrameKind::NoObject),
-        b"granted" => Some(FrameKind::Granted),
-        b"conflict" => Some(FrameKind::Conflict),
-        b"done" => Some(FrameKind::Done),
-        b"made" => Some(FrameKind::Made),
-        b"no-space" => Some(FrameKind::NoSpace),
-        b"listed" => Some(FrameKind::Listed),
-        _ => None,
+    match first {
+        b'p' => &[FrameKind::PageIn, FrameKind::PageOut, FrameKind::Page],
+        b'a' => &[FrameKind::AttrOut],
+        b'l' => &[FrameKind::Lock, FrameKind::List, FrameKind::Listed],
+        b'u' => &[FrameKind::Unlock],
+        b'r' => &[FrameKind::Remove],
+        b'm' => &[FrameKind::Make, FrameKind::Made],
+        b's' => &[FrameKind::Stored, FrameKind::Stale],
+        b'n' => &[FrameKind::NoGrant, FrameKind::NoObject, FrameKind::NoSpace],
+        b'g' => &[FrameKind::Granted],
+        b'c' => &[FrameKind::Conflict],
+        b'd' => &[FrameKind::Done],
+        _ => &[],
     }
+}
+
+/// The first of these kinds that has this name.
+fn named(kinds: &[FrameKind], name: &[u8]) -> Option<FrameKind>
+    ensures { result ≡ written_so kind_name kinds.now name.now }
+{
+    for kind in kinds {
+        if kind.name().as_bytes() == name {
+            return Some(*kind);
+        }
+    }
+    None
 }

@@ -37,17 +37,49 @@ fn is_marked(plan: &FaultPlan, event: &Event) -> bool
     }
 }
 
+/// How many events ended an operation by a link fault.
+fn link_faults(events: &EventList) -> u64
+    ensures { result ≡ faults_of events.now }
+{
+    events
+        .items()
+        .iter()
+        .filter(|event| is_fault(event))
+        .count() as u64
+}
+
+/// How many were notices.
+fn notices(events: &EventList) -> u64
+    ensures { result ≡ notices_of events.now }
+{
+    events
+        .items()
+        .iter()
+        .filter(|event| is_notice(event))
+        .count() as u64
+}
+
+/// How many sent a frame that is lost or late.
+fn marked(events: &EventList, plan: &FaultPlan) -> u64
+    ensures { result ≡ marked_of plan.now events.now }
+{
+    events
+        .items()
+        .iter()
+        .filter(|event| is_marked(plan, event))
+        .count() as u64
+}
+
 /// The three numbers, each counted by itself.
 fn counted(events: &EventList, plan: &FaultPlan) -> Account
     ensures link_faults { result.link_faults ≡ faults_of events.now }
     ensures notices { result.notices ≡ notices_of events.now }
     ensures marked { result.marked ≡ marked_of plan.now events.now }
 {
-    let events = events.items();
     Account {
-        link_faults: events.iter().filter(|event| is_fault(event)).count() as u64,
-        notices: events.iter().filter(|event| is_notice(event)).count() as u64,
-        marked: events.iter().filter(|event| is_marked(plan, event)).count() as u64,
+        link_faults: link_faults(events),
+        notices: notices(events),
+        marked: marked(events, plan),
     }
 }
 

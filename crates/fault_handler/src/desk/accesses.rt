@@ -4,7 +4,10 @@ ghost use Rattle.std.specs.Option.{ForSome, option_map};
 ghost use Rattle.dom_history.specs.Locks.{is_held};
 ghost use Rattle.dom_history.specs.Ranges.{IsOp};
 ghost use Rattle.page_cache.specs.Caches.{IsResident, page_at, free_count};
+ghost use Rattle.uid_names.specs.Segments.{segments};
 ghost use Rattle.address_map.specs.Mappings.{mapping_of};
+ghost use Rattle.address_map.specs.Runs.{lowest_run};
+ghost use Rattle.address_map.specs.Maps.{is_full, map_answer, with_mapping};
 ghost use Rattle.ring_messages.specs.Bodies.{body_of_ask};
 ghost use Rattle.fault_handler.specs.Tasks.{page_of};
 ghost use Rattle.fault_handler.specs.Unseen.{ComesTo, GivesTo, IsLocal, MayMiss};
@@ -13,6 +16,7 @@ ghost use Rattle.fault_handler.specs.Invariant.{IsAllowed, is_dirty};
 ghost use Rattle.fault_handler.specs.Outcomes.{as_access, seen_access, Gives};
 ghost use Rattle.fault_handler.specs.Victims.{Victim, named_page};
 ghost use Rattle.fault_handler.specs.Accesses.{Accessed, DeskOp, Comes, desk_op, page_by, load_at, store_at, length_by, map_by, unmap_by, access_of, target_of, page_out, fetched, room_made};
+ghost use Rattle.fault_handler.specs.Changes.{with_maps};
 ghost use Rattle.fault_handler.specs.Conditions.{IsOf, IsIdle, MayWant};
 ghost use Rattle.fault_handler.specs.Ready.{IsReady};
 ghost use Rattle.fault_handler.specs.Next.{FitsTurn, IsAsked, IsNext, IsAtOnce};
@@ -26,7 +30,7 @@ use address_map::{MapRefusal, NotMapped};
 use dom_history::{Dropped, Op, Reply, Spot};
 use ring_messages::{Body, PageBytes};
 use std::alloc::Global;
-use uid_names::{ByteList, NoMemory, PAGE_BYTES, ProcId, Uid};
+use uid_names::{ByteList, MAX_ROOM, NoMemory, PAGE_BYTES, ProcId, Uid};
 
 impl Desk {
     /// Begins a load, a store, or a call on a length or a mapping, or goes on with one that waited. Only
@@ -125,10 +129,11 @@ impl Desk {
         ensures outcome { IfOk result (IsLocal proc.number self.old self.new (load_at self.old proc.number count (Some (uid, offset)))) }
         ensures unchanged { OnErr result (self.new ≡ self.old) }
     {
-        if !self.entries[index_of(proc)].state(uid).is_held() {
+        self.kept(proc);
+        if !self.lock_state(proc, uid).is_held() {
             return Ok(Local::Refused(Reply::NoLock));
         }
-        if u64::from(self.length_of(uid)) < u64::from(offset) + u64::from(count) {
+        if self.ends_past(uid, offset, count) {
             return Ok(Local::Refused(Reply::PastEnd));
         }
         let page = offset / PAGE_BYTES as u32;
@@ -157,22 +162,23 @@ impl Desk {
         ensures outcome { IfOk result (IsLocal proc.number self.old self.new (store_at self.old proc.number bytes.now (Some (uid, offset)))) }
         ensures unchanged { OnErr result (self.new ≡ self.old) }
     {
-        let state = self.entries[index_of(proc)].state(uid);
+        self.kept(proc);
+        let state = self.lock_state(proc, uid);
         if !state.is_held() {
             return Ok(Local::Refused(Reply::NoLock));
         }
         if !state.may_write() {
             return Ok(Local::Refused(Reply::WrongMode));
         }
-        let end = u64::from(offset) + bytes.bytes().len() as u64;
-        if PAGE_BYTES as u64 * u64::from(self.room_of(uid)) < end {
+        if self.ends_past_room(uid, offset, bytes) {
             return Ok(Local::Refused(Reply::PastRoom));
         }
         // A store in a resident page takes no memory.
         if self.store_page(proc, uid, offset, bytes.bytes()) {
             return Ok(Local::Done(Reply::Fine));
         }
-        let work = Work::Store(bytes.copy(alloc)?);
+        let copy = bytes.copy(alloc)?;
+        let work = Work::Store(copy);
         Ok(Local::Misses(Task { uid, offset, work }))
     }
 
@@ -336,17 +342,28 @@ impl Desk {
         ensures outcome { IsLocal proc.number self.old self.new (map_by self.old proc.number uid (is_held (state_of self.old proc.number uid))) result }
         ensures replied { MayMiss (DeskOp.Maps uid) result }
     {
-        let at = index_of(proc);
-        if !self.entries[at].state(uid).is_held() {
+        self.kept(proc);
+        if !self.lock_state(proc, uid).is_held() {
             return Local::Refused(Reply::NoLock);
         }
         let room = self.room_of(uid);
-        let map = &mut self.maps[at];
-        match map.map(uid, room) {
+        match self.map_room(proc, uid, room) {
             Ok((address, fresh)) => Local::Done(Reply::At { address, fresh }),
             Err(MapRefusal::TooManyMaps) => Local::Refused(Reply::TooManyMaps),
             Err(MapRefusal::NoSegment) => Local::Refused(Reply::NoSegment),
         }
+    }
+
+    /// Maps an object of this room, in pages, for a process.
+    fn map_room(&mut self, proc: ProcId, uid: Uid, room: u32) -> Result<(u32, bool), MapRefusal>
+        requires least { 1 ≤ room }
+        requires greatest { room ≤ MAX_ROOM }
+        ensures mapped { self.new ≡ with_maps self.old proc.number (with_mapping uid (segments room) (maps_of self.old proc.number)) }
+        ensures answer { result
+            ≡ map_answer (mapping_of uid (maps_of self.old proc.number)) (is_full (maps_of self.old proc.number)) (lowest_run (segments room) (maps_of self.old proc.number)) }
+    {
+        let map = &mut self.maps[index_of(proc)];
+        map.map(uid, room)
     }
 
     fn unmap(&mut self, proc: ProcId, uid: Uid) -> Local

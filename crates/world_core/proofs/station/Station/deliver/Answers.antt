@@ -48,3 +48,17 @@ returns-clause-ins g c =
     (λ _. ap (λ v. v.items) c.list_oldest.ensures.others.ins ∙ ap (λ k. slice_set x.ins.items at (record l { link = k })) c.in_ok-send.ensures.sent
     ∙ delivered-there at c.args.fate c.args.frame x.ins.items l there)
     c.list_oldest.ensures.listed
+
+pub returns-then-own-clause-node : goal.returns-then-own-clause-node
+returns-then-own-clause-node g c = refl
+
+pub returns-then-own-clause-notices : goal.returns-then-own-clause-notices
+returns-then-own-clause-notices g c = refl
+
+pub returns-then-own-clause-ins : goal.returns-then-own-clause-ins
+returns-then-own-clause-ins g c =
+    let x = c.args.self.now in
+    let at = c.args.at in
+    let l = c.index_mut.result.now in
+    let there = slice_get-get_or x.ins.items at l c.requires.within ∙ ap Some (sym c.index_mut.ensures.value) in
+    ap (λ k. slice_set x.ins.items at (record l { link = k })) c.in_ok-send.ensures.sent ∙ delivered-there at c.args.fate c.args.frame x.ins.items l there
