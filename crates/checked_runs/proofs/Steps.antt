@@ -26,7 +26,7 @@ use Rattle.world_runs.proofs.Among.{cons-heads}
 use Rattle.world_runs.proofs.Inserting.{next-from}
 use Rattle.world_runs.proofs.LostFrames.{done-is}
 use Rattle.recent_runs.proofs.Running.{named-from, named-to, last-named, last-recent}
-use Rattle.every_run.proofs.Parts.{run-world}
+use Rattle.run_laws.proofs.Parts.{run-world}
 use Rattle.checked_runs.specs.RecentRuns.{IsRecentRun}
 use Rattle.checked_runs.specs.Deciding.{step_if, decided_step, line_of, decided_by, decided_if, decided, IsDecided}
 

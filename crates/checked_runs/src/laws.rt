@@ -17,7 +17,7 @@ ghost use Rattle.node_runs.specs.Steps.{Dropped, StepsTo, named_step};
 ghost use Rattle.node_runs.specs.Runs.{World, IsRun, world_of, is_above};
 ghost use Rattle.node_runs.specs.Deliveries.{IsPlanned};
 ghost use Rattle.recent_runs.specs.Recent.{IsRecent};
-ghost use Rattle.every_run.specs.EveryRun.{IsRightRun};
+ghost use Rattle.run_laws.specs.EveryRun.{IsRightRun};
 ghost use Rattle.script_runs.specs.Histories.{IsAsOneStore};
 ghost use Rattle.script_runs.specs.Reports.{names_of};
 ghost use Rattle.script_runs.specs.Runs.{IsEndedRunOf};
@@ -31,9 +31,9 @@ ghost use Rattle.checked_runs.specs.Accepted.{IsAcceptedOf, IsAccepted, IsJourna
 ghost use Rattle.checked_runs.specs.Causes.{Cause, IsNo};
 ghost use Rattle.checked_runs.specs.OverFrames.{is_over, bare};
 
-use every_run::laws::{a_run_of_few_events_is_timely, every_run_is_right};
+use run_laws::every::{a_run_of_few_events_is_timely, every_run_is_right};
 use journal_text::laws::journals_have_one_reading;
-use run_accounts::laws::each_frame_of_a_run_says_the_next_number;
+use run_laws::accounts::each_frame_of_a_run_says_the_next_number;
 use run_journals::laws::the_journal_of_a_script_tells_its_run;
 use script_runs::laws::{
     an_ended_run_of_few_events_is_one_of_its_script, ended_runs_of_scripts_are_as_one_store,

@@ -11,7 +11,7 @@ use Rattle.fault_handler.specs.Desks.{IsNode}
 use Rattle.node_runs.specs.Deliveries.{is_gone, taken_on}
 use Rattle.world_runs.specs.NamedNodes.{NamesNodes}
 use Rattle.world_runs.specs.Gone.{was_told}
-use Rattle.run_accounts.specs.NextNumbers.{SayNextNumbers}
+use Rattle.run_laws.specs.NextNumbers.{SayNextNumbers}
 use Rattle.checked_runs.specs.Places.{Counts, sent_in, is_news, keeps_plan, AllKeepPlan}
 use Rattle.checked_runs.specs.Matching.{Taken, at_line, takes_with_lines}
 use Rattle.journal_places.specs.Links.{at_link}

@@ -27,8 +27,8 @@ use Rattle.world_runs.specs.Waiting.{entry_if, entry_by, entries_taken}
 use Rattle.local_runs.specs.LocalRuns.{Own, events_in, IsLocalRun}
 use Rattle.local_runs.proofs.Alone.{last-of}
 use Rattle.wire_links.specs.declared.carried.Carried.{Carried}
-use Rattle.wire_joined.specs.Posts.{Serving, IsIn, Came, CameAsFrame, CameAsWord, CameAsMark}
-use Rattle.wire_joined.proofs.Members.{in-append, in-last}
+use Rattle.local_runs.specs.Posts.{Serving, IsIn, Came, CameAsFrame, CameAsWord, CameAsMark}
+use Rattle.local_runs.proofs.Members.{in-append, in-last}
 use Rattle.node_posts.proofs.Noticing.{IsGrown, told-stays}
 
 taken-stays : (k : ℕ) (xs ys : List Message) (i : Incoming) → IsGrown xs ys → taken (numbered k xs) ≡ Some i → taken (numbered k ys) ≡ Some i

@@ -31,7 +31,7 @@ use Rattle.wire_links.specs.declared.wire.WireIn.{WireIn}
 use Rattle.wire_links.specs.declared.wire.WireOut.{WireOut}
 use Rattle.wire_links.specs.Carrying.{Wired}
 use Rattle.wire_links.specs.Wires.{taken}
-use Rattle.wire_joined.specs.Posts.{Serving, IsServed}
+use Rattle.local_runs.specs.Posts.{Serving, IsServed}
 use Rattle.node_posts.specs.declared.post.Post.{Post}
 use Rattle.node_posts.specs.Ends.{other_at, place_of}
 use Rattle.node_posts.specs.Sendable.{CanTake, CanSendFrame}

@@ -42,7 +42,7 @@ use Rattle.wire_links.specs.declared.wire.WireIn.{WireIn}
 use Rattle.wire_links.specs.declared.wire.WireOut.{WireOut}
 use Rattle.wire_links.specs.Carrying.{Posting, frames_of, wire_after}
 use Rattle.wire_links.specs.Wires.{taken, pushed, SameIn, SameOut}
-use Rattle.wire_joined.specs.Posts.{Serving, IsServed}
+use Rattle.local_runs.specs.Posts.{Serving, IsServed}
 use Rattle.node_posts.specs.declared.post.Post.{Post}
 use Rattle.node_posts.specs.Ends.{other_at}
 use Rattle.node_posts.specs.Sending.{IsUnpushed, AreUnpushed, posted, own_after, told_after}

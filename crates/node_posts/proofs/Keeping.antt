@@ -32,7 +32,7 @@ use Rattle.wire_links.specs.declared.wire.WireOut.{WireOut}
 use Rattle.wire_links.specs.Carrying.{Posting}
 use Rattle.wire_links.specs.Wires.{taken, SameIn, SameOut}
 use Rattle.wire_links.proofs.Draining.{none_waits}
-use Rattle.wire_joined.specs.Posts.{Serving, IsPassed, IsServed}
+use Rattle.local_runs.specs.Posts.{Serving, IsPassed, IsServed}
 use Rattle.node_posts.specs.declared.post.Post.{Post}
 use Rattle.node_posts.specs.Ends.{other_at, own_event}
 use Rattle.node_posts.specs.Reading.{IsEventFor, come_if, AreTaken}

@@ -20,8 +20,8 @@ use Rattle.world_runs.proofs.Telling.{frame-is}
 use Rattle.ring_links.specs.declared.notice.Notice as notice
 use Rattle.ring_links.specs.Notices.{notice_for, notice_incoming}
 use Rattle.local_runs.specs.LocalRuns.{Own, events_in}
-use Rattle.wire_joined.specs.Posts.{Serving, Came, count_if, times_named}
-use Rattle.wire_joined.proofs.Joining.{told-same}
+use Rattle.local_runs.specs.Posts.{Serving, Came, count_if, times_named}
+use Rattle.local_runs.proofs.Joining.{told-same}
 use Rattle.node_posts.specs.Posts.{IsNoticeHere, frame_name}
 
 -- frames on a link, of which there may be one more

@@ -38,9 +38,9 @@ use Rattle.wire_links.specs.declared.carried.Parcel.{Parcel}
 use Rattle.wire_links.specs.declared.carried.Parcel.TheVariants as parcel
 use Rattle.wire_links.specs.declared.carried.Carried.{Carried}
 use Rattle.wire_links.specs.declared.carried.Carried.TheVariants as carried
-use Rattle.wire_joined.specs.Posts.{Serving, IsIn, words_in, times_in, times_named, count_if, Came, IsHeard, IsPassedBy, IsPassed, IsServed}
-use Rattle.wire_joined.proofs.Counting.{words-prefix}
-use Rattle.wire_joined.proofs.Members.{in-last, numbered-map}
+use Rattle.local_runs.specs.Posts.{Serving, IsIn, words_in, times_in, times_named, count_if, Came, IsHeard, IsPassedBy, IsPassed, IsServed}
+use Rattle.local_runs.proofs.Counting.{words-prefix}
+use Rattle.local_runs.proofs.Members.{in-last, numbered-map}
 use Rattle.node_posts.specs.Ends.{other_at, own_event}
 use Rattle.node_posts.specs.Reading.{IsEntryEvent, IsEventFor, IsEntryOdd, IsOdd, come_if}
 use Rattle.node_posts.specs.Posts.{IsNoticeHere, frame_name, IsOwnFrame, IsOwnLink, AreNotices}

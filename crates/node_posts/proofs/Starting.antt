@@ -18,8 +18,8 @@ use Rattle.ring_links.specs.declared.link.Later.{Later}
 use Rattle.ring_links.specs.Carried as links
 use Rattle.node_core.specs.declared.setup.Incoming as code
 use Rattle.node_core.specs.Nodes.{Noted, state_of}
-use Rattle.wire_joined.specs.Posts.{idle}
-use Rattle.wire_joined.proofs.Joining.{idle-served}
+use Rattle.local_runs.specs.Posts.{idle}
+use Rattle.local_runs.proofs.Joining.{idle-served}
 use Rattle.node_posts.specs.declared.post.Post.{Post}
 use Rattle.node_posts.specs.Owns.{IsOwn}
 use Rattle.node_posts.specs.Posts.{IsOwnLink, AreNotices, IsPost, IsKept, IsLastTick}

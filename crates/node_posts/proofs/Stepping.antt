@@ -27,7 +27,7 @@ use Rattle.node_core.specs.Nodes.{Noted, Stands, Happened, line_of, state_of}
 use Rattle.node_core.specs.Receivings.{emitted_by}
 use Rattle.local_runs.specs.LocalRuns.{Own, events_in, own_event, own_world}
 use Rattle.local_runs.proofs.GoingOn.{node-of, goes-on}
-use Rattle.recent_local.proofs.Local as recent
+use Rattle.local_runs.proofs.Local as recent
 use Rattle.node_posts.specs.Owns.{IsOwn}
 use Rattle.node_posts.specs.Turns.{IsStep}
 

@@ -27,7 +27,7 @@ use Rattle.node_core.specs.Receivings.{mark_in, emitted_by}
 use Rattle.wire_links.specs.declared.wire.WireOut.{WireOut}
 use Rattle.wire_links.specs.Carrying.{Wired, Posting, frames_of, index_if, wire_after}
 use Rattle.wire_links.specs.Wires.{wire_of, next_fate}
-use Rattle.wire_joined.specs.Posts.{Serving, Came, count_if, times_named}
+use Rattle.local_runs.specs.Posts.{Serving, Came, count_if, times_named}
 use Rattle.node_posts.specs.Ends.{other_at, place_of}
 use Rattle.node_posts.specs.Sending.{told_on, told_if, told_by, told_after}
 use Rattle.node_posts.specs.Posts.{IsOut, AreOuts, IsNoticeHere, frame_name, AreNotices}

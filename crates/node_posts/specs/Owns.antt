@@ -7,7 +7,7 @@ use Rattle.node_runs.specs.Setups.{Setup, IsSetup, given}
 use Rattle.node_runs.specs.Runs.{World}
 use Rattle.node_core.specs.Nodes.{Noted, Stands}
 use Rattle.local_runs.specs.LocalRuns.{Own, events_in, IsLocalRun, AreIncomings}
-use Rattle.recent_local.specs.NamedRuns.{AreNamedAlone}
+use Rattle.local_runs.specs.NamedRuns.{AreNamedAlone}
 
 module _ {P : Type 0} (wants : P → Want) (becomes : P → Option Reply → P) where
   -- the node stands for the state to which these events alone led, in which room was made as its cache names it, and its journal has them

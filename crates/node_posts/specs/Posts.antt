@@ -23,13 +23,13 @@ use Rattle.node_core.specs.declared.setup.Incoming.TheVariants as received
 use Rattle.node_core.specs.Receivings.{seen}
 use Rattle.node_core.specs.Nodes.{state_of}
 use Rattle.local_runs.specs.LocalRuns.{events_in}
-use Rattle.recent_local.specs.NamedRuns.{AreNamedAlone}
+use Rattle.local_runs.specs.NamedRuns.{AreNamedAlone}
 use Rattle.wire_links.specs.declared.carried.Carried.{Carried}
 use Rattle.wire_links.specs.declared.wire.WireIn.{WireIn}
 use Rattle.wire_links.specs.declared.wire.WireOut.{WireOut}
 use Rattle.wire_links.specs.Carrying.{Posting, wire_after}
 use Rattle.wire_links.specs.Wires.{wire_of, pushed, taken, IsOfLink, SameIn, SameOut}
-use Rattle.wire_joined.specs.Posts.{Serving, IsServed, times_named}
+use Rattle.local_runs.specs.Posts.{Serving, IsServed, times_named}
 use Rattle.node_posts.specs.declared.post.Post.{Post}
 use Rattle.node_posts.specs.Ends.{other_at}
 use Rattle.node_posts.specs.Owns.{IsOwn}

@@ -13,7 +13,7 @@ use Rattle.node_runs.specs.Setups.{Setup}
 use Rattle.wire_links.specs.declared.carried.Carried.{Carried}
 use Rattle.wire_links.specs.Carrying.{wire_after}
 use Rattle.wire_links.specs.Wires.{pushed, taken}
-use Rattle.wire_joined.specs.Posts.{Serving, IsServed, Numbered, idle, post_of, IsPrefix as IsPrefixOf, AreServed}
+use Rattle.local_runs.specs.Posts.{Serving, IsServed, Numbered, idle, post_of, IsPrefix as IsPrefixOf, AreServed}
 use Rattle.node_posts.specs.declared.post.Post.{Post}
 use Rattle.node_posts.specs.Ends.{other_at, place_of}
 use Rattle.node_posts.specs.Posts.{IsKnown}

@@ -18,7 +18,7 @@ use Rattle.node_runs.specs.NodeStates.{proc_of}
 use Rattle.node_runs.specs.Runs.{World}
 use Rattle.node_runs.proofs.SettingUp.{setup-procs}
 use Rattle.node_core.specs.Nodes.{Noted, program_of}
-use Rattle.wire_joined.specs.Posts.{Serving, world_at}
+use Rattle.local_runs.specs.Posts.{Serving, world_at}
 use Rattle.node_posts.specs.declared.post.Post.{Post}
 use Rattle.node_posts.specs.Posts.{IsPost}
 use Rattle.ended_nodes.specs.Ended.{named, program_at, AreNumbered}

@@ -10,7 +10,7 @@ use Rattle.node_runs.specs.NodeStates.{NodeState, is_ended}
 use Rattle.node_runs.specs.NodesKeep.{IsTimely}
 use Rattle.node_runs.specs.Runs.{World}
 use Rattle.local_runs.specs.LocalRuns.{Own}
-use Rattle.local_merge.specs.Merges.{AreOneRun}
+use Rattle.local_runs.specs.Merges.{AreOneRun}
 use Rattle.node_threads.specs.Ran.{AreEndedRuns, EndsTogether}
 
 pub ends-together : (s : Setup) (plan : List FateRow) (logs : List NodeLog) (owns : ℕ → List Own) (worlds : ℕ → World) → IsSetup s → IsPlan plan → AreEndedRuns s plan logs owns worlds

@@ -26,11 +26,11 @@ use Rattle.wire_links.specs.declared.wire.WireIn.{WireIn}
 use Rattle.wire_links.specs.declared.wire.WireOut.{WireOut}
 use Rattle.wire_links.specs.Wires.{AreEnds, SameIn, SameOut}
 use Rattle.local_runs.specs.LocalRuns.{Own, events_in, AreLocalRuns, AreDelivered, IsMergeOf, LeadTogether}
-use Rattle.recent_local.specs.NamedRuns.{AreNamedAlone}
-use Rattle.local_merge.specs.Logs.{AreLogsOf}
-use Rattle.local_merge.specs.Merges.{AreApart}
-use Rattle.wire_joined.specs.Posts.{Serving, idle, Numbered, post_of, own_of, world_at, AreServed}
-use Rattle.wire_joined.specs.Merges.{OfServedPosts}
+use Rattle.local_runs.specs.NamedRuns.{AreNamedAlone}
+use Rattle.local_runs.specs.Logs.{AreLogsOf}
+use Rattle.local_runs.specs.Merges.{AreApart}
+use Rattle.local_runs.specs.Posts.{Serving, idle, Numbered, post_of, own_of, world_at, AreServed}
+use Rattle.local_runs.specs.JoinedMerges.{OfServedPosts}
 use Rattle.node_posts.specs.declared.post.Post.{Post}
 use Rattle.node_posts.specs.Ends.{place_of}
 use Rattle.node_posts.specs.Ended.{holds_mark}

@@ -19,9 +19,9 @@ use Rattle.node_runs.specs.Deliveries.{IsPlanned}
 use Rattle.recent_runs.specs.Recent.{IsRecent}
 use Rattle.ring_links.specs.Merged.{AreMerged}
 use Rattle.local_runs.specs.LocalRuns.{Own, AreLocalRuns, AreDelivered, IsTogether}
-use Rattle.recent_local.specs.NamedRuns.{AreAllNamedAlone}
-use Rattle.local_merge.specs.Logs.{AreLogsOf}
-use Rattle.local_merge.specs.Merges.{AreApart}
+use Rattle.local_runs.specs.NamedRuns.{AreAllNamedAlone}
+use Rattle.local_runs.specs.Logs.{AreLogsOf}
+use Rattle.local_runs.specs.Merges.{AreApart}
 use Rattle.world_runs.specs.EndedRuns.{IsEndedRun}
 use Rattle.ended_nodes.specs.Ended.{named}
 

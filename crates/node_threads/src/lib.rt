@@ -16,4 +16,5 @@ mod told;
 pub use flag::StopFlag;
 pub use gate::{Gate, OpenGate};
 pub use group::serve_group;
+pub use node_posts::{Post, make_posts};
 pub use run::run_all;

@@ -26,7 +26,7 @@ use Rattle.fault_handler.specs.Victims.{Victim}
 use Rattle.fault_handler.specs.Accesses.{DeskOp, Accessed, performed, page_by, missed_by, frame_by, page_access, room_made, task_at, target_of, load_by, load_at, store_by, store_at, access_of}
 use Rattle.fault_handler.specs.PageReplies.{PageAnswer, page_by_stamp, page_came_of, room_taken}
 use Rattle.node_runs.specs.Rooms.{MayMove}
-use Rattle.run_states.proofs.OpenTasks.{open_task_of}
+use Rattle.run_laws.proofs.OpenTasks.{open_task_of}
 use Rattle.recent_runs.specs.Uses.{PageName, page_around, used_by_load, used_by_store, used_by}
 use Rattle.recent_runs.proofs.Orders.{apart}
 use Rattle.recent_runs.proofs.PageNames.{names, Kept, kept-same, kept-fewer, kept-used, sent-names, settled-names, without-names, used-names, stored-names, once-more}

@@ -43,9 +43,9 @@ use Rattle.node_runs.specs.Operations.{begun, gone_on, Said, said_of, answered, 
 use Rattle.node_runs.specs.Incomings.{Incoming}
 use Rattle.node_runs.specs.Outcomes.{Stage}
 use Rattle.node_runs.specs.Agreements.{IsCalling}
-use Rattle.run_states.specs.LastCalls.{IsOpenNumber}
-use Rattle.run_states.specs.DeskSteps.{OpMove, IsStageOf, IsHomeTurn}
-use Rattle.run_states.proofs.DeskSteps.{heard-turn}
+use Rattle.run_laws.specs.LastCalls.{IsOpenNumber}
+use Rattle.run_laws.specs.DeskSteps.{OpMove, IsStageOf, IsHomeTurn}
+use Rattle.run_laws.proofs.DeskSteps.{heard-turn}
 use Rattle.recent_runs.specs.Uses.{PageName}
 use Rattle.recent_runs.proofs.PageNames.{names, settled-names}
 

@@ -3,7 +3,7 @@ use Rattle.std.proofs.Common.{◌≡◌, ℕ, true, List, [], ◌∷◌, Option,
 use Rattle.std.specs.Prelude.{◌==◌, map}
 use Rattle.std.proofs.lemmas.Bool.Decides.{nat_tests}
 use Rattle.std.proofs.lemmas.Option.{same_Some}
-use Rattle.run_states.proofs.HearingRuns.{timely-before}
+use Rattle.run_laws.proofs.HearingRuns.{timely-before}
 use Rattle.uid_names.proofs.ListLemmas.{by_cases}
 use Rattle.uid_names.proofs.Passed.{equal}
 use Rattle.dom_history.specs.Events.{Happening}
@@ -19,8 +19,8 @@ use Rattle.node_runs.proofs.Worlds.{IsNext, next-is}
 use Rattle.node_runs.proofs.Running.{run-keeps}
 use Rattle.node_runs.proofs.Receiving.{incoming-is}
 use Rattle.node_runs.proofs.SettingUp.{setup-gives}
-use Rattle.run_states.specs.OpenTasks.{AreTasksPlaced}
-use Rattle.run_states.proofs.TaskPlaces.{runs-placed}
+use Rattle.run_laws.specs.OpenTasks.{AreTasksPlaced}
+use Rattle.run_laws.proofs.TaskPlaces.{runs-placed}
 use Rattle.recent_runs.specs.Uses.{used_in, used_between, used_here, with_use, uses}
 use Rattle.recent_runs.specs.CacheOrders.{StandByUse}
 use Rattle.recent_runs.proofs.Stepping.{StepKept, step-kept}

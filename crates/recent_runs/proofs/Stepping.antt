@@ -51,15 +51,15 @@ use Rattle.node_runs.proofs.MakingRoom.{always-may}
 use Rattle.node_runs.proofs.Doing.{step_of-did}
 use Rattle.node_runs.proofs.Nodes.{node-with}
 use Rattle.node_runs.proofs.SettingUp.{given-procs}
-use Rattle.run_states.specs.LastCalls.{IsOpenNumber}
-use Rattle.run_states.specs.DeskSteps.{OpMove, IsStageOf}
-use Rattle.run_states.specs.OpenTasks.{IsAtSpot, IsPlacedAt, AreTasksPlaced}
-use Rattle.run_states.proofs.OpenTasks.{open_task_of, answer-task}
+use Rattle.run_laws.specs.LastCalls.{IsOpenNumber}
+use Rattle.run_laws.specs.DeskSteps.{OpMove, IsStageOf}
+use Rattle.run_laws.specs.OpenTasks.{IsAtSpot, IsPlacedAt, AreTasksPlaced}
+use Rattle.run_laws.proofs.OpenTasks.{open_task_of, answer-task}
 use Rattle.recent_runs.specs.Uses.{used_by, used_in}
 use Rattle.recent_runs.proofs.PageNames.{Kept}
 use Rattle.recent_runs.proofs.Keeping.{UsesNone, moves-kept}
 use Rattle.recent_runs.proofs.Performing.{DoneKept, OpKept, op_use, load-use, store-use, answer-kept, load-kept, store-kept}
-use Rattle.run_states.proofs.DeskSteps.{heard-turn, gave_up-turn}
+use Rattle.run_laws.proofs.DeskSteps.{heard-turn, gave_up-turn}
 
 -- an operation that is neither a load nor a store uses nothing
 unused : (d : DeskState) (p : ℕ) (op : Op) → ((reply : Reply) → used_by d p op reply ≡ None) → (turn : Turn) → op_use d p op turn ≡ None

@@ -31,8 +31,8 @@ use Rattle.node_runs.proofs.SettingUp.{given-procs}
 use Rattle.node_runs.proofs.Stepping.{IsStep}
 use Rattle.node_runs.proofs.Doing.{step_of-did}
 use Rattle.node_runs.proofs.Nodes.{node-with}
-use Rattle.run_states.specs.LastCalls.{IsOpenNumber}
-use Rattle.run_states.proofs.DeskSteps.{gave_up-turn}
+use Rattle.run_laws.specs.LastCalls.{IsOpenNumber}
+use Rattle.run_laws.proofs.DeskSteps.{gave_up-turn}
 use Rattle.recent_runs.specs.Uses.{PageName}
 use Rattle.recent_runs.proofs.Rooming.{IsRoomy, settled-roomy, begun-roomy, gone_on-roomy, answered-roomy}
 

@@ -58,14 +58,14 @@ use Rattle.node_runs.proofs.MakingRoom.{always-may}
 use Rattle.node_runs.proofs.Nodes.{node-with}
 use Rattle.node_runs.proofs.SettingUp.{given-procs, setup-gives}
 use Rattle.node_runs.proofs.Worlds.{nodes-counted}
-use Rattle.run_states.specs.LastCalls.{IsOpenNumber}
-use Rattle.run_states.proofs.HearingRuns.{IsKeptNext, event, event-did, event-incoming}
-use Rattle.run_states.specs.DeskSteps.{IsHomeTurn, IsOfHome, NodeMove, OpMove, apart as desk_apart, moves, still, moved}
-use Rattle.run_states.proofs.DeskSteps.{heard-turn, gave_up-turn}
-use Rattle.run_states.proofs.EventMoves.{desk-moves}
-use Rattle.run_states.proofs.OpenTasks.{answer-task, open_task_of}
-use Rattle.run_states.specs.StandingLocks.{AreStanding, IsKeeping}
-use Rattle.run_states.proofs.KnownPages.{moves-pages}
+use Rattle.run_laws.specs.LastCalls.{IsOpenNumber}
+use Rattle.run_laws.proofs.HearingRuns.{IsKeptNext, event, event-did, event-incoming}
+use Rattle.run_laws.specs.DeskSteps.{IsHomeTurn, IsOfHome, NodeMove, OpMove, apart as desk_apart, moves, still, moved}
+use Rattle.run_laws.proofs.DeskSteps.{heard-turn, gave_up-turn}
+use Rattle.run_laws.proofs.EventMoves.{desk-moves}
+use Rattle.run_laws.proofs.OpenTasks.{answer-task, open_task_of}
+use Rattle.run_laws.specs.StandingLocks.{AreStanding, IsKeeping}
+use Rattle.run_laws.proofs.KnownPages.{moves-pages}
 use Rattle.run_journals.proofs.Drops.{AreSuch, moves-drop}
 
 -- a page of an object that has a name

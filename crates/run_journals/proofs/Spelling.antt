@@ -34,8 +34,8 @@ use Rattle.node_runs.proofs.Worlds.{place_at, nodes-counted}
 use Rattle.world_runs.proofs.Alike.{added, frames-added, marked_by, marks-marked}
 use Rattle.world_runs.proofs.Receiving.{numbered-within}
 use Rattle.world_runs.proofs.TimelyRuns.{next-node, next-tick}
-use Rattle.run_states.proofs.HearingRuns.{IsKeptNext, every-kept-run, event, event-did, event-incoming}
-use Rattle.run_states.specs.StandingLocks.{AreStanding}
+use Rattle.run_laws.proofs.HearingRuns.{IsKeptNext, every-kept-run, event, event-did, event-incoming}
+use Rattle.run_laws.specs.StandingLocks.{AreStanding}
 use Rattle.run_journals.proofs.Drops.{AreSuch}
 use Rattle.run_journals.proofs.PageNames.{AreAllNamed, Named, event-drops, named-later}
 

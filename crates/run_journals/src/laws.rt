@@ -16,7 +16,7 @@ ghost use Rattle.run_journals.specs.Journals.{IsTimelyRun, SpellsOnly, journal_o
 
 use journal_text::laws::journals_have_one_reading;
 use node_runs::laws::{each_node_of_a_run_agrees_with_its_desk, places_rise};
-use run_states::homes::homes_stand_for_what_is_kept;
+use run_laws::homes::homes_stand_for_what_is_kept;
 use script_runs::laws::{a_seed_picks_one_run_of_a_script, scripts_set_nodes_up};
 use world_runs::laws::{events_name_nodes, ticks_are_few};
 

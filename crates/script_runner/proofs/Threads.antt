@@ -10,7 +10,7 @@ use Rattle.node_core.specs.Nodes.{Noted}
 use Rattle.node_core.specs.declared.fault.RunFault.{RunFault}
 use Rattle.node_core.specs.declared.fault.RunFault.TheVariants.{TickLimit, NoMemory}
 use Rattle.world_core.specs.Stands as worlds
-use Rattle.node_posts.specs.Starts as posts
+use Rattle.node_threads.specs.Starts as posts
 use Rattle.node_threads.specs.Ran.{HaveRun, ReachesTick}
 use Rattle.script_runs.specs.Setups.{setup_of}
 use Rattle.script_runner.specs.Faults.{IsFaultOf}

@@ -14,11 +14,10 @@ use crate::processes::processes_in;
 use aegis_shell::Shell;
 use aegis_shell::laws::shells_go_by_all_they_heard;
 use dom_history::{EventList, MergedLogs};
-use local_merge::laws::logs_of_local_runs_may_be_merged;
-use local_merge::merge;
+use local_runs::merged::logs_of_local_runs_may_be_merged;
+use local_runs::merge;
 use node_core::RunFault;
-use node_posts::make_posts;
-use node_threads::{Gate, run_all};
+use node_threads::{Gate, make_posts, run_all};
 use script_reader::Script;
 use script_runs::laws::{
     a_seed_picks_one_run_of_a_script, answers_are_functions_of_histories,

@@ -23,7 +23,7 @@ use Rattle.aegis_shell.specs.Asking.{ask, reach}
 use Rattle.node_runs.specs.Doings.{node_numbers}
 use Rattle.node_runs.specs.Setups.{given}
 use Rattle.node_runs.specs.Incomings.{has_program}
-use Rattle.run_states.specs.Paced.{is_driven}
+use Rattle.run_laws.specs.Paced.{is_driven}
 use Rattle.script_runs.specs.Processes.{procs_with, processes_of}
 use Rattle.script_runs.specs.Setups.{numbers_at, programs_of, setup_of}
 use Rattle.script_runs.proofs.ProcsWith.{procs_from}

@@ -19,7 +19,7 @@ use Rattle.dom_history.specs.Runs.{AreAnswered, IsEntry}
 use Rattle.dom_history.proofs.Items.{deeds-no_acts}
 use Rattle.node_runs.specs.RunHistories.{is_fault}
 use Rattle.node_runs.specs.CallsKeep.{EachOf}
-use Rattle.run_faults.specs.LinkFaults.{fault_entries}
+use Rattle.run_laws.specs.LinkFaults.{fault_entries}
 use Rattle.script_reader.specs.Scripts.{Content}
 use Rattle.script_runs.specs.Histories.{IsFaultless, IsOfOneStore, IsWhole, script_history}
 

@@ -22,7 +22,7 @@ use Rattle.aegis_shell.specs.declared.stage.Stage.{Stage}
 use Rattle.aegis_shell.specs.declared.stage.Stage.TheVariants.{Between, First, Second, Talks as Talking, Lists as Listing}
 use Rattle.aegis_shell.specs.States.{State, beginning, left, ops_at, object_at_job, op_in, Going, Goes, Comes, begins, goes_on, on_going, want_by, want_in, want_left, settle, settled_at, finished, heard_at, hear, step}
 use Rattle.aegis_shell.specs.Shells.{Shelled, shell_of, state_after, shell_after, want_when, shell_wants}
-use Rattle.run_states.specs.Paced.{ArePaced}
+use Rattle.run_laws.specs.Paced.{ArePaced}
 use Rattle.script_runs.specs.Setups.{setup_of}
 use Rattle.script_runs.proofs.Driven.{wants-nothing}
 

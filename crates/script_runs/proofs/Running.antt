@@ -15,9 +15,9 @@ use Rattle.node_runs.specs.NodeStates.{NodeState, proc_of}
 use Rattle.node_runs.specs.Runs.{World, world_of}
 use Rattle.node_runs.specs.RunHistories.{history_in, history_if}
 use Rattle.world_runs.specs.ByPlace.{IsLike}
-use Rattle.run_states.specs.DecidedReplies.{proc_at}
-use Rattle.run_states.specs.Entries as calls
-use Rattle.every_run.specs.HeardOf.{heard_in, own_entries}
+use Rattle.run_laws.specs.DecidedReplies.{proc_at}
+use Rattle.run_laws.specs.Entries as calls
+use Rattle.run_laws.specs.HeardOf.{heard_in, own_entries}
 use Rattle.script_runs.specs.Processes.{processes_of}
 use Rattle.script_runs.specs.Setups.{setup_of}
 use Rattle.script_runs.specs.Reports.{ProcAnswers, rows_of}

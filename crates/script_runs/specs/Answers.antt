@@ -7,7 +7,7 @@ use Rattle.dom_history.specs.Histories.{History}
 use Rattle.script_reader.specs.Scripts.{Content}
 use Rattle.aegis_shell.specs.Asking.{ask, answers}
 use Rattle.aegis_shell.specs.Work.{jobs_of}
-use Rattle.every_run.specs.HeardOf.{own_entries, heard_of}
+use Rattle.run_laws.specs.HeardOf.{own_entries, heard_of}
 
 -- what a process heard behind these entries of its own
 abbrev pub heard_behind : Content → ProcName → List Entry → Heard

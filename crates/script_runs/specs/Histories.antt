@@ -13,11 +13,11 @@ use Rattle.aegis_shell.specs.Asking.{ask}
 use Rattle.node_runs.specs.Runs.{World, HasEnded}
 use Rattle.node_runs.specs.RunHistories.{history_of}
 use Rattle.node_runs.specs.Deliveries.{is_gone}
-use Rattle.run_states.specs.Entries.{replies_in}
-use Rattle.run_faults.specs.LinkFaults.{fault_entries, marked}
-use Rattle.run_faults.specs.EightNotices.{HasEightNotices}
-use Rattle.every_run.specs.EveryRun.{HomesHaveAll as HomesHaveAllOf}
-pub use Rattle.every_run.specs.HeardOf.{heard_in, own_entries}
+use Rattle.run_laws.specs.Entries.{replies_in}
+use Rattle.run_laws.specs.LinkFaults.{fault_entries, marked}
+use Rattle.run_laws.specs.EightNotices.{HasEightNotices}
+use Rattle.run_laws.specs.EveryRun.{HomesHaveAll as HomesHaveAllOf}
+pub use Rattle.run_laws.specs.HeardOf.{heard_in, own_entries}
 use Rattle.script_runs.specs.Setups.{setup_of}
 use Rattle.script_runs.specs.Answers.{AreAllAnswered}
 use Rattle.script_runs.specs.Reports.{rows_of, history_rows}

@@ -14,7 +14,7 @@ ghost use Rattle.node_runs.specs.Runs.{World};
 ghost use Rattle.world_runs.specs.ByPlace.{by_place};
 ghost use Rattle.world_runs.specs.Draws.{EndsIn};
 ghost use Rattle.world_runs.specs.NamedNodes.{NamesNodes};
-ghost use Rattle.run_states.specs.Paced.{ArePaced};
+ghost use Rattle.run_laws.specs.Paced.{ArePaced};
 ghost use Rattle.world_runs.specs.EndedRuns.{IsEndedRun};
 ghost use Rattle.script_runs.specs.Setups.{setup_of};
 ghost use Rattle.script_runs.specs.Runs.{IsEndedRunOf, EndsAlikeOf, IsPickedRunOf, OfPickedRuns, PicksRun, ComesToTick};
@@ -25,11 +25,11 @@ ghost use Rattle.script_runs.specs.Histories.{script_history, AreAnswersOfHistor
 use aegis_shell::laws::{
     asks_are_in_range, each_command_has_one_answer, shells_go_by_all_they_heard,
 };
-use every_run::laws::{
+use run_laws::every::{
     a_picked_run_has_ended, a_run_of_few_events_is_timely, an_ended_run_ends_its_programs,
     entries_say_what_was_heard, every_run_is_right, histories_say_what_was_heard,
 };
-use run_faults::laws::{
+use run_laws::faults::{
     each_entry_of_a_link_fault_has_eight_notices, each_link_fault_has_one_entry,
     notices_bound_link_faults,
 };

@@ -17,7 +17,7 @@ use Rattle.node_runs.specs.Setups.{IsSetup, IsFrames, ArePrograms, given}
 use Rattle.node_core.specs.Programs.{program_in, program_by, numbers_in}
 use Rattle.node_core.specs.Nodes.{Noted, Stands, IsGivenBy}
 use Rattle.world_core.specs.Stands.{AreNodes}
-use Rattle.node_posts.specs.Starts as posts
+use Rattle.node_threads.specs.Starts as posts
 use Rattle.timed_work.proofs.Making.{found_in}
 use Rattle.timed_work.specs.Rounds.{Round, round_wants, round_after, want_in, IsReady}
 use Rattle.timed_work.specs.Teams.{IsTeam, AreMade, made_round, asks_of, setup_with, node_setup}

@@ -5,7 +5,7 @@ use Rattle.node_runs.specs.Setups.{Setup}
 use Rattle.node_runs.specs.Runs.{World, HasEnded}
 use Rattle.node_runs.specs.Deliveries.{IsPlanned}
 use Rattle.world_runs.specs.ByPlace.{by_place, LeadsAlike}
-use Rattle.every_run.specs.EveryRun.{IsRightRun}
+use Rattle.run_laws.specs.EveryRun.{IsRightRun}
 use Rattle.world_runs.specs.EndedRuns.{EndsAlike}
 use Rattle.recent_runs.specs.Recent.{IsRecent}
 

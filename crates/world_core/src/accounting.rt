@@ -1,11 +1,11 @@
 //! An account of the link faults of a run.
 ghost use Rattle.std.specs.Prelude.{◌≡◌};
-ghost use Rattle.run_accounts.specs.Accounts.{is_fault_end, link_faults as faults_of, notices as notices_of, is_notice as is_notice_what, is_marked as is_marked_event, marked as marked_of};
-ghost use Rattle.run_accounts.specs.AccountsOfRuns.{AccountsFor};
+ghost use Rattle.run_laws.specs.Accounts.{is_fault_end, link_faults as faults_of, notices as notices_of, is_notice as is_notice_what, is_marked as is_marked_event, marked as marked_of};
+ghost use Rattle.run_laws.specs.AccountsOfRuns.{AccountsFor};
 
 use crate::account_row::Account;
 use dom_history::{EndWord, Event, EventList, Fate, FaultPlan, What};
-use run_accounts::laws::an_account_is_of_its_run;
+use run_laws::accounts::an_account_is_of_its_run;
 
 /// Whether an event ended an operation by a link fault.
 fn is_fault(event: &Event) -> bool

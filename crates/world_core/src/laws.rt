@@ -14,7 +14,7 @@ ghost use Rattle.world_core.specs.EnabledEvents.{ListsEnabled, ReceivesSent, Cou
 ghost use Rattle.world_core.specs.SoFar.{IsRightSoFar};
 
 use dom_history::Program;
-use every_run::laws::turns_come_to_right_runs;
+use run_laws::every::turns_come_to_right_runs;
 use page_store::Pages;
 use recent_runs::laws::turns_are_recent;
 use world_runs::laws::turns_are_a_run_by_place;

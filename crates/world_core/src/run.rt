@@ -17,7 +17,7 @@ use ended_nodes::take_apart;
 use node_core::RunFault;
 use page_store::Pages;
 use ring_links::by_place;
-use run_ends::laws::no_turn_is_stuck;
+use run_laws::ends::no_turn_is_stuck;
 use std::alloc::Global;
 use uid_names::{NoMemory, ProcId};
 

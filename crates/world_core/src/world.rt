@@ -9,7 +9,7 @@ use crate::station::Station;
 use dom_history::{FaultPlan, Program};
 use node_core::Node;
 use page_store::Pages;
-use run_ends::laws::no_turn_is_stuck;
+use run_laws::ends::no_turn_is_stuck;
 use std::alloc::Global;
 use uid_names::NoMemory;
 

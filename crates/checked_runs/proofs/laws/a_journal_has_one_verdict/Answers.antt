@@ -6,7 +6,7 @@ use Rattle.script_reader.specs.Scripts.{Content}
 use Rattle.aegis_shell.proofs.Parts.{node_names}
 use Rattle.journal_text.specs.Lines.{place_text, what_text, effects_text, line, journal}
 use Rattle.journal_text.specs.Written.{IsJournal, IsBadLine}
-use Rattle.every_run.proofs.Parts.{run-world}
+use Rattle.run_laws.proofs.Parts.{run-world}
 use Rattle.script_runs.specs.Reports.{names_of}
 use Rattle.script_runs.specs.Setups.{setup_of}
 use Rattle.run_journals.specs.Begins.{CanRun}

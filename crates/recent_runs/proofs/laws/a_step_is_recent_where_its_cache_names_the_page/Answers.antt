@@ -1,5 +1,5 @@
 use Rattle.node_runs.proofs.Reaching.{Reached-keeps}
-use Rattle.run_states.proofs.TaskPlaces.{reached-placed}
+use Rattle.run_laws.proofs.TaskPlaces.{reached-placed}
 use Rattle.recent_runs.proofs.Stepping.{step-kept}
 use Rattle.recent_runs.proofs.Deciding.{step-decides}
 use Rattle.recent_runs.proofs.laws.a_step_is_recent_where_its_cache_names_the_page.Goals as goal

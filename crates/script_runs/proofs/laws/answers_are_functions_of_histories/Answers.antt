@@ -3,7 +3,7 @@ use Rattle.uid_names.specs.Openings.{IsStart}
 use Rattle.dom_history.specs.Events.{Happening}
 use Rattle.script_reader.specs.Scripts.{Content, IsContent}
 use Rattle.node_runs.specs.Runs.{World}
-use Rattle.every_run.specs.HeardOf.{heard_in}
+use Rattle.run_laws.specs.HeardOf.{heard_in}
 use Rattle.script_runs.specs.Setups.{setup_of}
 use Rattle.script_runs.specs.Runs.{IsEndedRunOf}
 use Rattle.script_runs.specs.Answers.{heard_as}

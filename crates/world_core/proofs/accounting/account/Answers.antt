@@ -1,4 +1,4 @@
-use Rattle.run_accounts.proofs.Accounted.{accounts-same}
+use Rattle.run_laws.proofs.Accounted.{accounts-same}
 use Rattle.world_core.proofs.accounting.account.Goals as goal
 
 pub returns-clause-of_a_run : goal.returns-clause-of_a_run

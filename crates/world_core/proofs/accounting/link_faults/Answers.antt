@@ -2,7 +2,7 @@ use Rattle.std.proofs.Common.{◌≡◌, ◌∙◌, sym, rules}
 use Rattle.std.specs.Prelude.{count_by}
 use Rattle.std.proofs.lemmas.List.Sums.{length-filter}
 use Rattle.dom_history.specs.Events.{Happening}
-use Rattle.run_accounts.specs.Accounts.{is_fault_end}
+use Rattle.run_laws.specs.Accounts.{is_fault_end}
 use Rattle.world_core.proofs.accounting.link_faults.Goals as goal
 
 pub returns : goal.returns

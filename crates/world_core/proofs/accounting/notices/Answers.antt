@@ -1,8 +1,8 @@
 use Rattle.std.proofs.Common.{◌≡◌, ◌∙◌, rules}
 use Rattle.std.specs.Prelude.{count_by}
 use Rattle.dom_history.specs.Events.{Happening}
-use Rattle.run_accounts.specs.Accounts.{is_notice}
-use Rattle.run_accounts.proofs.Counted.{notices-counted}
+use Rattle.run_laws.specs.Accounts.{is_notice}
+use Rattle.run_laws.proofs.Counted.{notices-counted}
 use Rattle.world_core.proofs.accounting.notices.Goals as goal
 
 pub returns : goal.returns

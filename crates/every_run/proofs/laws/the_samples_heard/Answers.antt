@@ -1,5 +1,0 @@
-use Rattle.std.proofs.Common.{refl}
-use Rattle.every_run.proofs.laws.the_samples_heard.Goals as goal
-
-pub returns : goal.returns
-returns c = record { asks = refl; phases = refl; fewer = refl; nothing = refl; first_run = refl }

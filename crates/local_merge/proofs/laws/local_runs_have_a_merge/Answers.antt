@@ -1,5 +1,0 @@
-use Rattle.local_merge.proofs.OneOrder.{a-merge}
-use Rattle.local_merge.proofs.laws.local_runs_have_a_merge.Goals as goal
-
-pub returns : goal.returns
-returns c s owns ws are = a-merge s owns ws are

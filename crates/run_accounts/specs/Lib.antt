@@ -1,3 +1,0 @@
-pub mod Accounts
-pub mod NextNumbers
-pub mod AccountsOfRuns

@@ -1,5 +1,0 @@
-use Rattle.run_contents.proofs.Keeping.{contents-are}
-use Rattle.run_contents.proofs.laws.what_is_clean_is_as_it_was_seen.Goals as goal
-
-pub returns : goal.returns
-returns c = contents-are

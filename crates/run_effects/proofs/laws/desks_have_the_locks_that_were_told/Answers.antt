@@ -1,5 +1,0 @@
-use Rattle.run_effects.proofs.States.{states-told}
-use Rattle.run_effects.proofs.laws.desks_have_the_locks_that_were_told.Goals as goal
-
-pub returns : goal.returns
-returns c = states-told

@@ -1,5 +1,0 @@
-pub mod NotedEffects
-pub mod NotedDeeds
-pub mod NotedRooms
-pub mod States
-pub mod Targets

@@ -1,5 +1,0 @@
-use Rattle.run_ends.proofs.AnsweredCalls.{open-answered}
-use Rattle.run_ends.proofs.laws.a_home_answers_each_open_call.Goals as goal
-
-pub returns : goal.returns
-returns c = open-answered

@@ -1,4 +1,0 @@
-pub mod OpenOps
-pub mod OpenAsks
-pub mod FramesOfCalls
-pub mod OpenFrames

@@ -1,4 +1,0 @@
-//! Laws of how planned runs end: where no event is enabled, all nodes have ended.
-#![tactic(auto)]
-
-pub mod laws;

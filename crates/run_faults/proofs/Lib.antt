@@ -1,6 +1,0 @@
-pub mod Ends
-pub mod NotedFaults
-pub mod FaultEntries
-pub mod FaultEnds
-pub mod FramesTold
-pub mod Eight

@@ -1,5 +1,0 @@
-use Rattle.std.proofs.Common.{refl}
-use Rattle.run_faults.proofs.laws.a_lock_in_doubt_has_one_link_fault.Goals as goal
-
-pub returns : goal.returns
-returns c = record { entries = refl; events = refl; told = refl; frames = refl }

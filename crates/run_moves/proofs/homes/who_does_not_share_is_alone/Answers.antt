@@ -1,5 +1,0 @@
-use Rattle.run_moves.proofs.HomesHave.{alone-unshared}
-use Rattle.run_moves.proofs.homes.who_does_not_share_is_alone.Goals as goal
-
-pub returns : goal.returns
-returns c = alone-unshared

@@ -1,9 +1,0 @@
-pub mod DeskReplies
-pub mod HomeReplies
-pub mod KnownRuns
-pub mod MovedHistories
-pub mod Left
-pub mod Sharing
-pub mod Releases
-pub mod HomesAtUnlocks
-pub mod TwoStorers

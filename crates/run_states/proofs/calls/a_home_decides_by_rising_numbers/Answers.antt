@@ -1,5 +1,0 @@
-use Rattle.run_states.proofs.DecisionOrder.{decisions-rise}
-use Rattle.run_states.proofs.calls.a_home_decides_by_rising_numbers.Goals as goal
-
-pub returns : goal.returns
-returns c = decisions-rise

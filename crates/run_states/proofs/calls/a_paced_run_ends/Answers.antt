@@ -1,5 +1,0 @@
-use Rattle.run_states.proofs.PacedSample.{sample-paced, sample-runs, sample-ends}
-use Rattle.run_states.proofs.calls.a_paced_run_ends.Goals as goal
-
-pub returns : goal.returns
-returns c = record { paced = sample-paced; run = sample-runs; ends = sample-ends }

@@ -1,5 +1,0 @@
-use Rattle.run_states.proofs.Acting.{acts-behind}
-use Rattle.run_states.proofs.calls.acts_stand_behind_the_begin.Goals as goal
-
-pub returns : goal.returns
-returns c = acts-behind

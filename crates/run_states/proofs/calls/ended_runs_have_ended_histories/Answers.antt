@@ -1,5 +1,0 @@
-use Rattle.run_states.proofs.Ending.{events-ended}
-use Rattle.run_states.proofs.calls.ended_runs_have_ended_histories.Goals as goal
-
-pub returns : goal.returns
-returns c = events-ended

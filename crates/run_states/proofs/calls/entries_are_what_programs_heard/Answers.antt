@@ -1,5 +1,0 @@
-use Rattle.run_states.proofs.HistoryEntries.{asked-heard, replies-heard}
-use Rattle.run_states.proofs.calls.entries_are_what_programs_heard.Goals as goal
-
-pub returns : goal.returns
-returns c = record { replies = replies-heard; asked = asked-heard }

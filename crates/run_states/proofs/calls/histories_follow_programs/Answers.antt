@@ -1,5 +1,0 @@
-use Rattle.run_states.proofs.Following.{events-follow}
-use Rattle.run_states.proofs.calls.histories_follow_programs.Goals as goal
-
-pub returns : goal.returns
-returns c = events-follow

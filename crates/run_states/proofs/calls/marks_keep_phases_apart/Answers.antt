@@ -1,5 +1,0 @@
-use Rattle.run_states.proofs.InPhases.{in_phases-are}
-use Rattle.run_states.proofs.calls.marks_keep_phases_apart.Goals as goal
-
-pub returns : goal.returns
-returns c = in_phases-are

@@ -1,5 +1,0 @@
-use Rattle.run_states.proofs.Released.{node-released}
-use Rattle.run_states.proofs.desks.a_lock_is_given_up_by_an_open_call.Goals as goal
-
-pub returns : goal.returns
-returns c = node-released

@@ -1,5 +1,0 @@
-use Rattle.run_states.proofs.OpenTasks.{carried-transits}
-use Rattle.run_states.proofs.desks.a_process_moves_what_its_call_asks.Goals as goal
-
-pub returns : goal.returns
-returns c = carried-transits

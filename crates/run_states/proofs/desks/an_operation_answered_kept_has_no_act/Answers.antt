@@ -1,5 +1,0 @@
-use Rattle.run_states.proofs.KeptLocks.{kept-without}
-use Rattle.run_states.proofs.desks.an_operation_answered_kept_has_no_act.Goals as goal
-
-pub returns : goal.returns
-returns c = kept-without

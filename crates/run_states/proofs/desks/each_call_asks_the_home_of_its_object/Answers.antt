@@ -1,5 +1,0 @@
-use Rattle.run_states.proofs.AskedHomes.{calls-at-homes}
-use Rattle.run_states.proofs.desks.each_call_asks_the_home_of_its_object.Goals as goal
-
-pub returns : goal.returns
-returns c = calls-at-homes

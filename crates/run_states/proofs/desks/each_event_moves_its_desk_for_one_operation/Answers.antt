@@ -1,5 +1,0 @@
-use Rattle.run_states.proofs.DeskSteps.{step-desk}
-use Rattle.run_states.proofs.desks.each_event_moves_its_desk_for_one_operation.Goals as goal
-
-pub returns : goal.returns
-returns c = step-desk

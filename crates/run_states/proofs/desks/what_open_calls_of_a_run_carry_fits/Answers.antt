@@ -1,5 +1,0 @@
-use Rattle.run_states.proofs.OpenCalls.{runs-carry}
-use Rattle.run_states.proofs.desks.what_open_calls_of_a_run_carry_fits.Goals as goal
-
-pub returns : goal.returns
-returns c = runs-carry

@@ -1,5 +1,0 @@
-use Rattle.run_states.proofs.Standing.{standing-are}
-use Rattle.run_states.proofs.homes.homes_stand_for_what_is_kept.Goals as goal
-
-pub returns : goal.returns
-returns c = standing-are

@@ -1,5 +1,0 @@
-use Rattle.run_states.proofs.LiveRun.{live-are}
-use Rattle.run_states.proofs.homes.locks_that_are_kept_stand_at_their_homes.Goals as goal
-
-pub returns : goal.returns
-returns c = live-are
