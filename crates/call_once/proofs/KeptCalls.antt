@@ -9,7 +9,7 @@ use Rattle.uid_names.proofs.InOrder.{chosen, AllPairs-nil}
 use Rattle.uid_names.specs.InOrder.{AreInOrder}
 use Rattle.uid_names.specs.Names.{ProcName, IsProcName, same_proc, proc_lt}
 use Rattle.uid_names.specs.declared.limits.TheConstants.{PROCESSES}
-use Rattle.uid_names.proofs.Orders.{same_proc-itself}
+use Rattle.uid_names.proofs.Orders.{same_proc-itself, proc_lt-same}
 use Rattle.call_once.specs.declared.served.Kept.{Kept}
 use Rattle.call_once.specs.Calls.{Call, call_of, with_call, AreByProcess}
 use Rattle.call_once.specs.Slots.{proc_at, call_in, calls_in}
@@ -17,10 +17,6 @@ use Rattle.call_once.specs.Slots.{proc_at, call_in, calls_in}
 -- each place has a process of its own
 same_proc-apart : (i j : ℕ) → i ≢ j → same_proc (proc_at i) (proc_at j) ≡ false
 same_proc-apart i j apart = grind (arith, nat_tests)
-
--- and is not below itself
-proc_lt-same : (p : ProcName) → proc_lt p p ≡ false
-proc_lt-same p = grind (arith, nat_tests)
 
 -- processes stand in the order of their places
 proc_lt-proc_at : (i j : ℕ) → i < j → proc_lt (proc_at i) (proc_at j) ≡ true

@@ -1,1 +1,2 @@
 pub mod KeptCalls
+pub mod LookedNumbers

@@ -30,7 +30,7 @@ use Rattle.node_runs.specs.Doings.{Doing, hears, hears_at, hears_if, replies, se
 use Rattle.node_runs.specs.NodesKeep.{IsNodeOf}
 use Rattle.node_runs.specs.SentFrames.{IsFrame, IsIncoming}
 use Rattle.node_runs.specs.Steps.{Dropped, StepsTo, named_step, stepped_as_named}
-use Rattle.node_runs.proofs.CallSteps.{IsFrameProc, IsUnasking, Stays, CallStep, silent, asked, again, did-calls}
+use Rattle.node_runs.proofs.CallSteps.{IsUnasking, Stays, CallStep, silent, asked, again, did-calls, frame-proc}
 use Rattle.node_runs.proofs.Doing.{step_of-did}
 use Rattle.node_runs.proofs.SettingUp.{given-procs}
 use Rattle.node_runs.proofs.Sides.{did-side}
@@ -157,12 +157,6 @@ call-over g n st p number proc (again q o c is was none frame last now rest four
   | inr differs ↦ subst (IsOverAt number) (sym (rest p proc differs)) over
 ]
 
-incoming-proc : (incoming : Incoming) → IsIncoming incoming → IsFrameProc incoming
-incoming-proc Incoming.Nothing is = tt
-incoming-proc (Incoming.Frame m) is = (is.range.proc_low, is.range.proc_high)
-incoming-proc (Incoming.Gone number tick) is = tt
-incoming-proc (Incoming.Mark tick) is = tt
-
 pub over-stays : (g : Given) (n : NodeState) (what : What) (incoming : Incoming) (dropped : Dropped) (st : Stepped) (m : Message) → IsGiven g → IsNodeOf g n → IsIncoming incoming → IsFrame m
     → StepsTo g n what incoming dropped st → is_over n m ≡ true → is_over st.node m ≡ true
 over-stays g n what incoming dropped st m given node comes frame steps over = by (ask_of m.body) over
@@ -173,4 +167,4 @@ over-stays g n what incoming dropped st m given node comes frame steps over = by
         (λ k other is receiver asks. served-over n.side (caller_of m) (caller_of k) m.number k.number other over) (step_of-did g n what incoming dropped st steps)
     by None over =
         call-over g (ticked n incoming) st m.proc m.number (frame.range.proc_low, frame.range.proc_high)
-        (did-calls g (ticked n incoming) node.four (λ p has. given-procs g given.programs p has) what incoming st (incoming-proc incoming comes) (step_of-did g n what incoming dropped st steps)) over
+        (did-calls g (ticked n incoming) node.four (λ p has. given-procs g given.programs p has) what incoming st (frame-proc incoming comes) (step_of-did g n what incoming dropped st steps)) over

@@ -22,9 +22,6 @@ pub some_if : {A : Type 0} (T : A → Type 0) (o : Option A) → ((x : A) → o 
 some_if T None each = tt
 some_if T (Some x) each = each x refl
 
-pub if_some : {A : Type 0} (T : A → Type 0) (o : Option A) (x : A) → o ≡ Some x → IfSome o T → T x
-if_some T o x e holds = subst (λ r. IfSome r T) e holds
-
 pub no_items : {A : Type 0} (xs : List A) → length xs ≡ 0 → xs ≡ []
 no_items [] none = refl
 no_items (x ∷ xs) none = absurd (omega (arith, none))

@@ -1,6 +1,6 @@
 -- What a load, a store and a mapping come to by the tests and the resident pages of a desk alone.
 use Rattle.std.proofs.Common.{◌≡◌, ℕ, ◌+◌, ◌*◌, ◌/◌, ◌%◌, nat_lt, Bool, true, false, List, [], length, Option, Some, None, refl, sym, ap, subst, ◌∙◌}
-use Rattle.std.specs.Prelude.{is_some, take, drop, Result, Ok, Err, OnErr}
+use Rattle.std.specs.Prelude.{is_some, take, drop, Result}
 use Rattle.std.specs.Option.{option_map}
 use Rattle.std.proofs.lemmas.Option.{same_Some}
 use Rattle.uid_names.specs.Names.{ObjectName}
@@ -27,11 +27,6 @@ use Rattle.fault_handler.specs.Outcomes.{Turn, is_done, reply_as, as_access}
 use Rattle.fault_handler.specs.Accesses.{Accessed, replied, page_by, page_access, task_at, load_by, load_at, store_by, store_at, map_reply, mapped, map_by}
 use Rattle.fault_handler.specs.Invariant.{IsAllowed}
 use Rattle.fault_handler.specs.Unseen.{ComesTo, IsLocal}
-
--- what holds, holds on failure
-pub on-any-err : {T E P : Type 0} (r : Result T E) → P → OnErr r P
-on-any-err (Ok x) p = tt
-on-any-err (Err e) p = p
 
 -- what a test says of the state that was read
 pub held-as : {s t : LockState} {h b : Bool} → s ≡ t → h ≡ is_held s → h ≡ b → is_held t ≡ b

@@ -14,6 +14,7 @@ use Rattle.node_runs.specs.Deliveries.{copy_if, is_prefix, taken_on, takes_on}
 use Rattle.checked_runs.specs.Places.{Counts, delivered_on, is_this, is_next, is_news, has_place, keeps_plan, AllKeepPlan}
 use Rattle.checked_runs.specs.Matching.{Taken, at_line, takes_with_lines, AreMatched}
 use Rattle.world_runs.proofs.Among.{cons-heads, cons-tails}
+use Rattle.world_runs.proofs.Taking.{prefix-of}
 use Rattle.checked_runs.proofs.Planned.{take-kept}
 use Rattle.journal_places.proofs.MatchMoves.{index_of}
 use Rattle.checked_runs.proofs.Prefixes.{prefix-before}
@@ -32,17 +33,12 @@ indices-taken from to (e ∷ older) =
     ∙ ap (λ (xs : List ℕ). xs ++ map index_of (map (at_line (length older + 1)) (taken_on from to e.place.node e.what))) (indices-taken from to older)
     ∙ ap (λ (xs : List ℕ). takes_on from to older ++ xs) (indices-at (length older + 1) (taken_on from to e.place.node e.what))
 
--- a list is the first part of one that begins with it
-self-prefix : (xs ys : List ℕ) → is_prefix xs (xs ++ ys) ≡ true
-self-prefix [] ys = refl
-self-prefix (x ∷ xs) ys = let same : (x == x) ≡ true = grind (arith, nat_tests) in ap (λ b. b && is_prefix xs (xs ++ ys)) same ∙ self-prefix xs ys
-
 -- where all frames of a link were taken in their places
 pub first-where-matched : (from to : ℕ) (es : List Happening) (delivered waiting : List ℕ) → AreMatched delivered (takes_with_lines from to es) waiting [] → is_prefix (takes_on from to es) delivered ≡ true
 first-where-matched from to es delivered waiting m =
     let taken : takes_on from to es ≡ map index_of m.common = sym (indices-taken from to es) ∙ ap (map index_of) (m.taken_are ∙ append-nil m.common) in
     ap (λ (xs : List ℕ). is_prefix xs delivered) taken
-    ∙ (ap (is_prefix (map index_of m.common)) m.delivered_are ∙ self-prefix (map index_of m.common) waiting)
+    ∙ (ap (is_prefix (map index_of m.common)) m.delivered_are ∙ prefix-of (map index_of m.common) waiting)
 
 -- the event at which a frame of a link was taken, by its line
 pub record IsTakenBy (from to : ℕ) (es : List Happening) (common : List Taken) (index line : ℕ) : Type 0 where
@@ -299,7 +295,7 @@ module _ (plan : List FateRow) (sent : Counts) (es : List Happening) (fault : �
     first-there : is_prefix (takes_on from to t.takes.older) (delivered from to) ≡ true
     first-there =
         ap (λ (xs : List ℕ). is_prefix xs (delivered from to)) taken-before
-        ∙ (ap (is_prefix (map index_of t.common)) t.delivered_are ∙ self-prefix (map index_of t.common) t.behind)
+        ∙ (ap (is_prefix (map index_of t.common)) t.delivered_are ∙ prefix-of (map index_of t.common) t.behind)
 
     bad-there : keeps_plan plan sent t.takes.older t.takes.event ≡ false
     bad-there =

@@ -1,25 +1,13 @@
 -- Each link has a place of its own.
-use Rattle.std.proofs.Common.{◌≡◌, ◌≢◌, ℕ, zero, suc, ◌+◌, ◌-◌, ◌*◌, ◌/◌, ◌%◌, ◌<◌, true, false, Option, Some, None, List, [], ◌∷◌, length, refl, sym, ap, subst, ◌∙◌, arith}
+use Rattle.std.proofs.Common.{◌≡◌, ℕ, zero, suc, ◌+◌, ◌-◌, ◌*◌, ◌/◌, ◌%◌, ◌<◌, true, false, Option, Some, None, List, [], ◌∷◌, length, refl, sym, ap, subst, ◌∙◌, arith}
 use Rattle.std.specs.Prelude.{◌==◌, ◌&&◌, slice_get, slice_index_or, slice_set, All, IfSome}
 use Rattle.std.proofs.Math.Nat.{suc-mul}
 use Rattle.std.proofs.lemmas.Bool.Decides.{nat_tests}
 use Rattle.std.proofs.lemmas.Option.{slice_get_read}
 use Rattle.std.proofs.lemmas.Nat.{div-mul-add, mod-mul-add}
+use Rattle.uid_names.proofs.ListLemmas.{set-there, set-else}
 use Rattle.fault_handler.specs.Desks.{IsNode}
 use Rattle.journal_places.specs.Links.{link_place, at_link}
-
--- an item that is set, and the others
-pub set-there : {A : Type 0} (xs : List A) (i : ℕ) (y : A) → i < length xs → slice_get (slice_set xs i y) i ≡ Some y
-set-there [] i y low = absurd (omega (arith, low))
-set-there (x ∷ xs) zero y low = refl
-set-there (x ∷ xs) (suc i) y low = set-there xs i y (omega (arith, low))
-
-pub set-else : {A : Type 0} (xs : List A) (i n : ℕ) (y : A) → n ≢ i → slice_get (slice_set xs i y) n ≡ slice_get xs n
-set-else [] i n y differs = refl
-set-else (x ∷ xs) zero zero y differs = absurd (differs refl)
-set-else (x ∷ xs) zero (suc n) y differs = refl
-set-else (x ∷ xs) (suc i) zero y differs = refl
-set-else (x ∷ xs) (suc i) (suc n) y differs = set-else xs i n y (λ same. differs (ap suc same))
 
 -- what holds of all items holds of one
 pub all-get : {A : Type 0} (P : A → Type 0) (xs : List A) (k : ℕ) → All P xs → IfSome (slice_get xs k) P
@@ -30,9 +18,6 @@ all-get P (x ∷ xs) (suc k) all = all-get P xs k (λ i d low. all (suc i) d (om
 -- the item at a place that was read
 pub read-at : {A : Type 0} (xs : List A) (i k : ℕ) (x : A) → i < length xs → x ≡ slice_index_or xs i x → i ≡ k → slice_get xs k ≡ Some x
 read-at xs i k x low is same = ap (slice_get xs) (sym same) ∙ slice_get_read xs (length xs) i x refl low is
-
-pub take-some : {A : Type 0} (P : A → Type 0) (o : Option A) (x : A) → o ≡ Some x → IfSome o P → P x
-take-some {A = A} P o x there holds = subst (λ (r : Option A). IfSome r P) there holds
 
 pub some-more : {A : Type 0} (P Q : A → Type 0) (o : Option A) → ((x : A) → P x → Q x) → IfSome o P → IfSome o Q
 some-more P Q None more holds = tt

@@ -1,6 +1,5 @@
 -- The order of a link, as frames are sent and taken.
-use Rattle.std.proofs.Common.{◌≡◌, ◌≢◌, ℕ, ◌+◌, false, Option, Some, None, List, [], ◌∷◌, ◌++◌, map, drop, inl, inr, refl, sym, ap, subst, ◌∙◌}
-use Rattle.std.specs.Prelude.{is_some}
+use Rattle.std.proofs.Common.{◌≡◌, ◌≢◌, ℕ, ◌+◌, Option, Some, None, List, [], ◌∷◌, ◌++◌, map, drop, inl, inr, refl, sym, ap, subst, ◌∙◌}
 use Rattle.std.proofs.lemmas.Bool.{cases_eq}
 use Rattle.std.proofs.lemmas.List.{append-nil, append_assoc, map-append}
 use Rattle.dom_history.specs.declared.plan.Fate.{Fate}
@@ -9,6 +8,7 @@ use Rattle.world_runs.specs.Waiting as plain
 use Rattle.world_runs.specs.Waiting.{due}
 use Rattle.world_runs.specs.Links as links
 use Rattle.world_runs.proofs.Among.{cons-heads, cons-tails}
+use Rattle.world_runs.proofs.Taking.{next-deliveries}
 use Rattle.ring_links.specs.Carried.{Carrying, plain_name, plain_later, plain_link}
 use Rattle.ring_links.specs.declared.entry.Entry.{Entry}
 use Rattle.ring_links.specs.declared.entry.Waiting.{Waiting}
@@ -17,7 +17,7 @@ use Rattle.checked_runs.specs.Matching.{Taken, AreMatched, AreApart}
 use Rattle.journal_places.specs.declared.order.Early.{Early}
 use Rattle.journal_places.specs.Orders.{AreKeptLater, AreWaiting, IsHalfway, IsHalfwayAs, IsMatching, IsOrderAs, copy_index, next_index, taken_of}
 use Rattle.journal_places.proofs.MatchMoves.{index_of, indices-more, apart-more, take-early, take-other, take-same}
-use Rattle.journal_places.proofs.Orders.{IsSentLink, deliveries-more, link-sent}
+use Rattle.journal_places.proofs.Orders.{IsSentLink, link-sent}
 
 copy-name : (w : Waiting) (k next : ℕ) → plain_name w ≡ plain.Entry.Copy k → copy_index w ≡ Some next → k ≡ next
 copy-name (Copy index) k next name is = cc
@@ -145,11 +145,11 @@ module _ {A : Type 0} where
           common = m.matched.common;
           waiting = m.waiting ++ due fate n;
           queue = sent-link.queue ∙ ap (λ (es : List plain.Entry). es ++ map plain.Entry.Copy (due fate n)) m.queue ∙ sym (map-append plain.Entry.Copy m.waiting (due fate n));
-          delivered_are = deliveries-more fate n ∙ ap (λ (xs : List ℕ). xs ++ due fate n) m.matched.delivered_are ∙ append_assoc (map index_of m.matched.common) m.waiting (due fate n);
+          delivered_are = next-deliveries fate n ∙ ap (λ (xs : List ℕ). xs ++ due fate n) m.matched.delivered_are ∙ append_assoc (map index_of m.matched.common) m.waiting (due fate n);
           taken_are = m.matched.taken_are;
         }
     half-sent (Some line) a =
-        subst (λ (xs : List ℕ). AreApart xs taken line) (sym (deliveries-more fate old.frames))
+        subst (λ (xs : List ℕ). AreApart xs taken line) (sym (next-deliveries fate old.frames))
         (subst (λ (ts : List Taken). AreApart (deliveries fate old.frames ++ due fate old.frames) ts line) (append-nil taken)
         (apart-more (deliveries fate old.frames) (due fate old.frames) taken [] line a))
 
@@ -161,7 +161,3 @@ module _ {A : Type 0} where
   order-sent fate count taken fault old new early frames =
       subst (λ k. AreKeptLater fate k (map plain_later old.later) → IsOrderAs fault (deliveries fate k) taken old early → plain_link new ≡ links.frame_sent (fate (k + 1)) (plain_link old) → IsSentAs fate k taken fault new early) frames
       (λ later is sent. sent-as fate taken old new early later sent fault is)
-
-pub none-of : {B : Type 0} (o : Option B) → is_some o ≡ false → o ≡ None
-none-of None is = refl
-none-of (Some x) is = absurd (cc)

@@ -1,12 +1,13 @@
 -- A link on which one frame more was sent: what it delivers goes behind what waits.
-use Rattle.std.proofs.Common.{◌≡◌, ℕ, zero, suc, ◌+◌, List, [], ◌∷◌, ◌++◌, map, refl, sym, ap, subst, ◌∙◌, add-one, arith}
+use Rattle.std.proofs.Common.{◌≡◌, ℕ, zero, suc, ◌+◌, List, [], ◌∷◌, ◌++◌, map, refl, sym, ap, ◌∙◌, add-one, arith}
 use Rattle.std.proofs.lemmas.List.{append_cancel_left, map-append}
 use Rattle.dom_history.specs.declared.plan.Fate.{Fate}
-use Rattle.node_runs.specs.Deliveries.{copies, deliveries, in_place}
+use Rattle.node_runs.specs.Deliveries.{copies, deliveries}
 use Rattle.world_runs.specs.Links.{Link, frame_sent}
 use Rattle.world_runs.specs.Sendings.{Sending, frames_in}
 use Rattle.world_runs.specs.Waiting.{Entry, due, entries}
 use Rattle.world_runs.proofs.Linking.{IsLinkOf, frame-sent}
+use Rattle.world_runs.proofs.Taking.{next-deliveries}
 use Rattle.journal_places.specs.Orders.{AreKeptLater}
 
 -- so many frames, and no mark
@@ -19,9 +20,6 @@ unfolding frames_only
 count-only zero = refl
 count-only (suc n) = let e = count-only n in omega (arith, e)
 
-pub deliveries-more : (fate : ℕ → Fate) (n : ℕ) → deliveries fate (n + 1) ≡ deliveries fate n ++ due fate n
-deliveries-more fate n = subst (λ k. deliveries fate k ≡ deliveries fate n ++ (in_place k (fate k) ++ copies fate k k)) (sym (add-one n)) refl
-
 -- what a link delivered
 entries-only : (fate : ℕ → Fate) (n : ℕ) → entries fate (frames_only n) ≡ map Entry.Copy (deliveries fate n)
 unfolding frames_only
@@ -30,7 +28,7 @@ entries-only fate (suc n) =
     ap (λ (es : List Entry). es ++ map Entry.Copy (due fate (frames_in (frames_only n)))) (entries-only fate n)
     ∙ ap (λ (k : ℕ). map Entry.Copy (deliveries fate n) ++ map Entry.Copy (due fate k)) (count-only n)
     ∙ sym (map-append Entry.Copy (deliveries fate n) (due fate n))
-    ∙ ap (map Entry.Copy) (sym (deliveries-more fate n) ∙ ap (deliveries fate) (add-one n))
+    ∙ ap (map Entry.Copy) (sym (next-deliveries fate n) ∙ ap (deliveries fate) (add-one n))
 
 pub record IsSentLink (fate : ℕ → Fate) (count : ℕ) (old new : Link) : Type 0 where
   pub frames : new.frames ≡ count + 1

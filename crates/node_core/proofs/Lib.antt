@@ -16,3 +16,4 @@ pub mod Noticing
 pub mod Keeping
 pub mod Stepping
 pub mod Beginning
+pub mod Sends

@@ -7,7 +7,7 @@ use Rattle.std.proofs.lemmas.List.{append-nil}
 use Rattle.uid_names.specs.Names.{IsProcNumber}
 use Rattle.uid_names.specs.declared.ids.Place.{Place}
 use Rattle.uid_names.proofs.ListLemmas.{by_cases}
-use Rattle.uid_names.proofs.Somes.{found_there, map-there}
+use Rattle.uid_names.proofs.Somes.{found_there, map-there, none-there}
 use Rattle.dom_history.specs.declared.event.What.{What}
 use Rattle.dom_history.specs.declared.op.Reply.{Reply}
 use Rattle.dom_history.specs.declared.op.Want.{Want}
@@ -71,10 +71,6 @@ module _ {P : Type 0} (becomes : P → Option Reply → P) where
           is ∙ ap (option_map (λ x. told_all becomes x first)) old ∙ ap (λ hs. Some (told_all becomes (program_after becomes y heard) hs)) same
           ∙ sym (ap (λ x. Some x) (ap (program_after becomes y) there ∙ after-told y told heard))
 
-nothing : {A : Type 0} (o : Option A) → is_some o ≡ false → o ≡ None
-nothing None is = refl
-nothing (Some x) is = absurd (cc)
-
 module _ {P : Type 0} (spent : P → Bool) (wants : P → Want) (becomes : P → Option Reply → P) (made : ℕ → Option P) (g : Given) (x : Noted P) (n : NodeState)
     (stands : Stands wants becomes made g x n) (kept : IsKept spent wants x.inner) where
   -- the same processes have programs
@@ -123,8 +119,8 @@ module _ {P : Type 0} (spent : P → Bool) (wants : P → Want) (becomes : P →
       -- no other process has one
       told-none : (p : ℕ) → has_program (given_of x) p ≡ false → program_in programs p ≡ option_map (λ y. program_after becomes y (proc_of t.node p).heard) (made p)
       told-none p none =
-          nothing (program_in programs p) (sym (has-program programs p) ∙ (ap (list_any (λ q. q == p)) numbers ∙ none))
-          ∙ sym (ap (option_map (λ y. program_after becomes y (proc_of t.node p).heard)) (nothing (made p) (sym (stands.programs p) ∙ (sym (same-programs p) ∙ none))))
+          none-there (program_in programs p) (sym (has-program programs p) ∙ (ap (list_any (λ q. q == p)) numbers ∙ none))
+          ∙ sym (ap (option_map (λ y. program_after becomes y (proc_of t.node p).heard)) (none-there (made p) (sym (stands.programs p) ∙ (sym (same-programs p) ∙ none))))
 
       pub told-there : (p : ℕ) → program_in programs p ≡ option_map (λ y. program_after becomes y (proc_of t.node p).heard) (made p)
       told-there p = by_cases (has_program (given_of x) p) (program_in programs p ≡ option_map (λ y. program_after becomes y (proc_of t.node p).heard) (made p))

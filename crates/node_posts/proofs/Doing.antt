@@ -26,6 +26,7 @@ use Rattle.node_core.specs.declared.setup.Emitted.{Emitted}
 use Rattle.node_core.specs.declared.setup.Incoming as code
 use Rattle.node_core.specs.Nodes.{Noted, state_of}
 use Rattle.node_core.specs.Receivings.{emitted_by}
+use Rattle.node_core.proofs.Sends.{Sends, nothing, mark, frame}
 use Rattle.wire_links.specs.declared.carried.Carried.{Carried}
 use Rattle.wire_links.specs.declared.wire.WireIn.{WireIn}
 use Rattle.wire_links.specs.declared.wire.WireOut.{WireOut}
@@ -43,7 +44,7 @@ use Rattle.node_posts.proofs.Zips.{all-from}
 use Rattle.node_posts.proofs.Placing.{other-place, place-within}
 use Rattle.node_posts.proofs.Counting.{frames-low, wire-counts}
 use Rattle.node_posts.proofs.Wiring.{outs-after, all-pushed, pushed-more}
-use Rattle.node_posts.proofs.Sends.{Sends, nothing, mark, frame, emits-frame, emits-none}
+use Rattle.node_posts.proofs.Sends.{emits-frame, emits-none}
 use Rattle.node_posts.proofs.Stepping.{own-tick, own-number, own-is-node}
 use Rattle.node_posts.proofs.Telling.{tells, notices-after}
 use Rattle.node_posts.proofs.Coming.{IsLater, all-came-later}

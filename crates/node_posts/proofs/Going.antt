@@ -37,6 +37,7 @@ use Rattle.node_core.specs.declared.fault.RunFault.TheVariants as faults
 use Rattle.node_core.specs.declared.setup.Incoming as code
 use Rattle.node_core.specs.Nodes.{Noted, state_of, given_of, Stands}
 use Rattle.node_core.specs.Receivings.{emitted_by}
+use Rattle.node_core.proofs.Sends.{Sends, did-sends}
 use Rattle.wire_links.specs.declared.carried.Carried.{Carried}
 use Rattle.wire_links.specs.declared.wire.WireIn.{WireIn}
 use Rattle.wire_links.specs.declared.wire.WireOut.{WireOut}
@@ -50,7 +51,6 @@ use Rattle.node_posts.specs.Owns.{IsOwn}
 use Rattle.node_posts.specs.Posts.{IsOut, AreOuts, AreIns, IsOwnLink, AreNotices, IsPushed, IsCome, IsKnown, IsLastTick, IsLogged, IsPost, IsWhole, IsKept, HasRun, GoesOn}
 use Rattle.node_posts.specs.Turns.{IsStep, IsSentStep, IsBeside, IsCause, IsSender, MayDo, IsTurn, IsUnsent, IsFailed, IsDone}
 use Rattle.node_posts.proofs.Zips.{all-same, all-then, all-more, all-from}
-use Rattle.node_posts.proofs.Sends.{Sends, did-sends}
 use Rattle.node_posts.proofs.Stepping.{own-node, own-tick, own-number}
 use Rattle.node_posts.proofs.Counting.{frames-low}
 use Rattle.node_posts.proofs.Wiring.{outs-after, outs-still, all-pushed, pushed-more}

@@ -1,6 +1,6 @@
 -- A post is kept by each thing that is done to it.
 use Rattle.std.proofs.Common.{◌≡◌, ◌≢◌, ℕ, ◌+◌, ◌<◌, ◌≤◌, Bool, true, false, List, [], ◌∷◌, ◌++◌, length, map, drop, Option, Some, None, inl, inr, refl, sym, ap, subst, ◌∙◌, append-nil, arith}
-use Rattle.std.specs.Prelude.{◌^◌, ◌==◌, slice_get, is_some, IsTrue, IsFalse}
+use Rattle.std.specs.Prelude.{◌^◌, ◌==◌, slice_get, IsTrue, IsFalse}
 use Rattle.std.specs.List.{AllZip}
 use Rattle.std.proofs.lemmas.Bool.{cases_eq, eq-eqb, ne_eqb}
 use Rattle.std.proofs.lemmas.List.{length-map}
@@ -49,10 +49,6 @@ use Rattle.node_posts.proofs.Serving.{Receives}
 use Rattle.node_posts.proofs.Going.{same-ins, same-outs, unpushed-same, goes-same, whole-known, stands-ended}
 use Rattle.node_posts.proofs.Doing.{IsPopped, done-kept}
 use Rattle.node_posts.proofs.Sources.{ins_with, begin-receives, go-receives, ready-receives, ring-receives, passed-by, passed-rest, own-receives, own-enabled, own-early, own-names, notice-receives, notice-dropped, refused-passed, odd-passed, entry-names}
-
-pub none-there : {A : Type 0} (o : Option A) → is_some o ≡ false → o ≡ None
-none-there None is = refl
-none-there (Some x) is = absurd (cc)
 
 either-way : (A : Type 0) (b : Bool) → (IsTrue b → A) → (IsFalse b → A) → A
 either-way A true did none-did = did refl

@@ -30,9 +30,10 @@ use Rattle.local_runs.specs.LocalRuns.{own_event, own_world}
 use Rattle.node_core.specs.declared.setup.Incoming as code
 use Rattle.node_core.specs.declared.setup.Incoming.TheVariants as received
 use Rattle.node_core.specs.Receivings.{seen, mark_in, emitted_by}
+use Rattle.node_core.proofs.Sends.{Sends, nothing, mark, frame}
 use Rattle.node_posts.specs.Sending.{own_if, own_by, own_after}
 use Rattle.node_posts.specs.Posts.{IsOwnFrame, IsOwnLink}
-use Rattle.node_posts.proofs.Sends.{Sends, nothing, mark, frame, emits-frame, emits-none, sent-own-none, sent-own-mark, sent-own-frame, frames-none, frames-some}
+use Rattle.node_posts.proofs.Sends.{emits-frame, emits-none, sent-own-none, sent-own-mark, sent-own-frame, frames-none, frames-some}
 
 abbrev names : links.Carrying code.Incoming → List Entry
 names link = map (λ e. links.plain_name e.waiting) link.queue

@@ -33,13 +33,14 @@ use Rattle.local_runs.specs.LocalRuns.{Own, events_in, own_event, own_world, IsL
 use Rattle.node_core.specs.declared.setup.Incoming as code
 use Rattle.node_core.specs.declared.setup.Emitted.{Emitted}
 use Rattle.node_core.specs.Receivings.{mark_in, emitted_by}
+use Rattle.node_core.proofs.Sends.{Sends, nothing, mark, frame}
 use Rattle.wire_links.specs.declared.carried.Carried.{Carried}
 use Rattle.wire_links.specs.Carrying.{Posting, sending_of, frames_of, IsPosted}
 use Rattle.local_runs.specs.Posts.{Serving, count_if, words_in, times_in, times_named, Came, IsHeard, IsServed}
 use Rattle.local_runs.proofs.Marks.{marks_posted, marks-once}
 use Rattle.node_posts.specs.Sending.{posting_if, posted, own_after}
 use Rattle.node_posts.specs.Posts.{IsNoticeHere, frame_name, IsOwnLink}
-use Rattle.node_posts.proofs.Sends.{Sends, nothing, mark, frame, emits-frame, posted-none, posted-mark, posted-frame, posted-sent, posted-frames}
+use Rattle.node_posts.proofs.Sends.{emits-frame, posted-none, posted-mark, posted-frame, posted-sent, posted-frames}
 use Rattle.node_posts.proofs.OwnLink.{IsOwnAfter, own-link-after}
 use Rattle.node_posts.proofs.Telling.{grown}
 use Rattle.node_posts.proofs.Coming.{IsLater, came-later, all-came-later}

@@ -24,6 +24,7 @@ use Rattle.ring_links.specs.declared.notice.Notice as notice
 use Rattle.ring_links.specs.Notices.{notice_for}
 use Rattle.local_runs.specs.LocalRuns.{Own, events_in, own_event, own_world}
 use Rattle.node_core.specs.Receivings.{mark_in, emitted_by}
+use Rattle.node_core.proofs.Sends.{Sends, nothing, mark, frame}
 use Rattle.wire_links.specs.declared.wire.WireOut.{WireOut}
 use Rattle.wire_links.specs.Carrying.{Wired, Posting, frames_of, index_if, wire_after}
 use Rattle.wire_links.specs.Wires.{wire_of, next_fate}
@@ -34,7 +35,7 @@ use Rattle.node_posts.specs.Posts.{IsOut, AreOuts, IsNoticeHere, frame_name, Are
 use Rattle.node_posts.proofs.Placing.{other-place}
 use Rattle.node_posts.proofs.Counting.{wire-counts}
 use Rattle.node_posts.proofs.Wiring.{out-fates}
-use Rattle.node_posts.proofs.Sends.{Sends, nothing, mark, frame, emits-frame, emits-none, frames-none, frames-some}
+use Rattle.node_posts.proofs.Sends.{emits-frame, emits-none, frames-none, frames-some}
 use Rattle.node_posts.proofs.Noticing.{IsGrown, named-append, not-named, unnamed, unnamed-waiting, notice-stays, push-notices, notice-here}
 
 -- the event tells nothing, or one thing

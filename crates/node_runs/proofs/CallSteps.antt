@@ -14,6 +14,7 @@ use Rattle.fault_handler.proofs.Fours.{at-put_same, at-put_other, length-put}
 use Rattle.node_runs.specs.Setups.{Given}
 use Rattle.node_runs.specs.NodeStates.{Asked, Await, BegunOp, OpenOp, ProcState, NodeState, first_proc, proc_of}
 use Rattle.node_runs.specs.Incomings.{Incoming, has_program}
+use Rattle.node_runs.specs.SentFrames.{IsIncoming}
 use Rattle.node_runs.specs.Outcomes.{Stepped, Stage, request, next_call, turned, dropping, moved}
 use Rattle.node_runs.specs.Doings.{begun_at, stage_of, noticed_call, in_next_phase, others_marked}
 use Rattle.node_runs.specs.Dones.{Did, asking, paused, finished, began, resumed, served, passed_over, heard, ignored, resent, gave_up, got_ready, marked}
@@ -52,6 +53,13 @@ stays q = record { last = refl; doing = inl refl }
 abbrev pub IsFrameProc : Incoming → Type 0
 IsFrameProc (Incoming.Frame m) = IsProc m.proc
 IsFrameProc incoming = Unit {0}
+
+-- one as nodes send them is
+pub frame-proc : (i : Incoming) → IsIncoming i → IsFrameProc i
+frame-proc Incoming.Nothing is = tt
+frame-proc (Incoming.Frame m) is = (is.range.proc_low, is.range.proc_high)
+frame-proc (Incoming.Gone number tick) is = tt
+frame-proc (Incoming.Mark tick) is = tt
 
 module _ (g : Given) (n : NodeState) (four : length n.procs ≡ 4) where
   module _ (p : ℕ) (proc : IsProc p) (new : ProcState) where

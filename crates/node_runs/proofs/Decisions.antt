@@ -1,6 +1,6 @@
 -- In every run each call is decided at most once, and at the home that it asks.
-use Rattle.std.proofs.Common.{◌≡◌, ℕ, ◌≤◌, ◌<◌, Bool, true, false, List, ◌∷◌, Option, Some, None, inl, inr, refl, sym, ap, subst, ◌∙◌, arith}
-use Rattle.std.specs.Prelude.{◌==◌, ◌&&◌, nat_lt, if◌then◌else◌, unwrap_or, IfSome}
+use Rattle.std.proofs.Common.{◌≡◌, ℕ, ◌≤◌, ◌<◌, Bool, true, List, ◌∷◌, Option, Some, None, inl, inr, refl, sym, ap, subst, ◌∙◌, arith}
+use Rattle.std.specs.Prelude.{◌&&◌, if◌then◌else◌, unwrap_or, IfSome}
 use Rattle.std.proofs.lemmas.Bool.{cases_eq}
 use Rattle.std.proofs.lemmas.Bool.Decides.{nat_tests}
 use Rattle.uid_names.proofs.ListLemmas.{by_cases}
@@ -14,6 +14,7 @@ use Rattle.call_once.specs.declared.served.Looked.{Looked}
 use Rattle.call_once.specs.declared.served.Looked.TheVariants.{Fresh, Again, Old}
 use Rattle.call_once.specs.Calls.{Call, call_of, number_in, last_of, looked, with_call}
 use Rattle.call_once.proofs.KeptCalls.{call_of-with_call}
+use Rattle.call_once.proofs.LookedNumbers.{fresh-above}
 use Rattle.ring_messages.specs.Bodies.{Ask, Answer, ask_of, is_request}
 use Rattle.ring_messages.specs.Frames.{Message, caller_of}
 use Rattle.ring_messages.proofs.Asking.{request-is}
@@ -36,14 +37,6 @@ use Rattle.node_runs.proofs.Sides.{next-side}
 use Rattle.node_runs.proofs.Worlds.{IsNext, place_at, every-run}
 use Rattle.node_runs.proofs.Receiving.{EachOf-more, numbered-each}
 use Rattle.node_runs.proofs.Calls.{put-same, put-other, Grows, calls-grow, calls-first, calls-later}
-
-fresh-above : (number last : ℕ) → looked number last ≡ Fresh → last < number
-fresh-above number last is = by_cases (nat_lt last number) (last < number) (λ h. grind (arith, nat_tests, h)) (λ h. absurd (other h))
-  where
-    other : nat_lt last number ≡ false → ⊥
-    other h = by_cases (number == last) ⊥
-        (λ k. let e : Again ≡ Fresh = rw (h, k) at is in cc)
-        (λ k. let e : Old ≡ Fresh = rw (h, k) at is in cc)
 
 -- the last number of a process never falls, and is that of a call that was decided
 module _ (side : HomeSide) (q : ProcName) (number : ℕ) (ask : Ask) where

@@ -1,38 +1,21 @@
 -- What a request leaves of a home side, by how its number stands to the last one of its process.
-use Rattle.std.proofs.Common.{◌≡◌, ℕ, ◌+◌, ◌-◌, ◌^◌, ◌<◌, ◌≤◌, ◌==◌, nat_lt, true, false, List, refl, sym, ap, subst, ◌∙◌, arith}
+use Rattle.std.proofs.Common.{◌≡◌, ℕ, ◌+◌, ◌-◌, ◌^◌, ◌<◌, ◌≤◌, true, false, List, refl, sym, ap, subst, ◌∙◌, arith}
 use Rattle.std.specs.Prelude.{◌↔◌, IsTrue, IsSome, IsNone, IfSome, Option, Some, None}
 use Rattle.std.proofs.lemmas.Bool.{false≢true}
-use Rattle.std.proofs.lemmas.Bool.Decides.{nat_tests}
 use Rattle.std.proofs.lemmas.Option.{IfSome_then}
 use Rattle.uid_names.specs.Names.{ProcName}
-use Rattle.uid_names.proofs.ListLemmas.{by_cases}
 use Rattle.object_store.specs.HomeStates.{HomeState}
 use Rattle.lock_manager.specs.Tables.{Table}
 use Rattle.call_once.specs.declared.served.Looked.{Looked}
 use Rattle.call_once.specs.declared.served.Looked.TheVariants.{Fresh, Again, Old}
 use Rattle.call_once.specs.Calls.{Call, last_of, body_of, looked, with_call}
+use Rattle.call_once.proofs.LookedNumbers.{fresh-above, again-same, old-below}
 use Rattle.ring_messages.specs.Bodies.{Ask, Answer, ask_of}
 use Rattle.ring_messages.specs.Frames.{Message, caller_of}
 use Rattle.page_server.specs.Decisions.{Decision, decide}
 use Rattle.page_server.specs.ServerStates.{ServerState}
 use Rattle.page_server.specs.Serving.{HomeSide, Serving, serve_as, serve_asked, serve_frame}
 use Rattle.page_server.specs.Wants.{wants_as, may_want}
-
--- how a number stands to the last one
-fresh-above : (number last : ℕ) → looked number last ≡ Fresh → last < number
-fresh-above number last is =
-    by_cases (nat_lt last number) (last < number) (λ h. grind (arith, nat_tests, h))
-    (λ h. by_cases (number == last) (last < number) (λ k. absurd (let e : Again ≡ Fresh = rw (h, k) at is in cc)) (λ k. absurd (let e : Old ≡ Fresh = rw (h, k) at is in cc)))
-
-again-same : (number last : ℕ) → looked number last ≡ Again → number ≡ last
-again-same number last is =
-    by_cases (nat_lt last number) (number ≡ last) (λ h. absurd (let e : Fresh ≡ Again = rw h at is in cc))
-    (λ h. by_cases (number == last) (number ≡ last) (λ k. grind (arith, nat_tests, k)) (λ k. absurd (let e : Old ≡ Again = rw (h, k) at is in cc)))
-
-old-below : (number last : ℕ) → looked number last ≡ Old → number < last
-old-below number last is =
-    by_cases (nat_lt last number) (number < last) (λ h. absurd (let e : Fresh ≡ Old = rw h at is in cc))
-    (λ h. by_cases (number == last) (number < last) (λ k. absurd (let e : Again ≡ Old = rw (h, k) at is in cc)) (λ k. grind (arith, nat_tests, h, k)))
 
 -- no tick of the past is above the greatest one
 pub tick-below : (last now tick : ℕ) → last ≡ now → now < tick → tick ≤ 2 ^ 40 → 1 + last ≤ 2 ^ 64 - 2

@@ -6,6 +6,7 @@ use Rattle.std.proofs.lemmas.Result.{IfOk-from_err}
 use Rattle.uid_names.specs.Names.{ProcName}
 use Rattle.uid_names.specs.declared.mode.Mode.{Mode}
 use Rattle.uid_names.specs.declared.no_memory.NoMemory.{NoMemory}
+use Rattle.uid_names.proofs.Failures.{on-any, on-any-err}
 use Rattle.object_store.specs.declared.attributes.Attr.{Attr}
 use Rattle.lock_manager.specs.declared.locks.AskRefusal.{AskRefusal}
 use Rattle.lock_manager.specs.declared.locks.AskRefusal.TheVariants as refusals
@@ -14,16 +15,6 @@ use Rattle.ring_messages.specs.Bodies.{Answer}
 use Rattle.lock_manager.specs.declared.locks.TheConstants.{ROOM}
 use Rattle.page_server.specs.Decisions.{lock_answer}
 use Rattle.page_server.specs.Wants.{is_grant}
-
--- what holds, holds on success
-on-any : {T E P : Type 0} (r : Result T E) → P → OnOk r P
-on-any (Ok x) p = p
-on-any (Err e) p = tt
-
--- and on failure
-pub on-any-err : {T E P : Type 0} (r : Result T E) → P → OnErr r P
-on-any-err (Ok x) p = tt
-on-any-err (Err e) p = p
 
 -- a conflict is answered, and want of memory is not
 pub answer-refused : (asked : Result ℕ AskRefusal) (refusal : AskRefusal) (attr : Attr) (conflict : Option (ProcName × Mode)) (grant : ℕ) (result : Result Answer NoMemory)

@@ -1,6 +1,6 @@
 -- What an answer tells of the change that its home made, and what a link fault says.
-use Rattle.std.proofs.Common.{◌≡◌, Bool, true, false, List, [], Option, Some, None, inl, inr, refl, sym, ap, ◌∙◌}
-use Rattle.std.specs.Prelude.{◌⊎◌, not, ◌&&◌}
+use Rattle.std.proofs.Common.{◌≡◌, true, false, List, [], Option, Some, None, inl, inr, refl, sym, ap, ◌∙◌}
+use Rattle.std.specs.Prelude.{◌⊎◌}
 use Rattle.uid_names.specs.Names.{ObjectName, ProcName}
 use Rattle.dom_history.specs.declared.op.Op.{Op}
 use Rattle.dom_history.specs.declared.op.Op.TheVariants as ops
@@ -10,7 +10,8 @@ use Rattle.dom_history.specs.Replies.{may_write}
 use Rattle.dom_history.specs.StoreEffects.{store_effect}
 use Rattle.ring_messages.specs.Bodies.{Ask, Answer}
 use Rattle.fault_handler.specs.declared.entries.LockEntry.{LockEntry}
-use Rattle.fault_handler.specs.Entries.{entry_of, state_in, keeps_writing}
+use Rattle.fault_handler.specs.Entries.{entry_of, state_in}
+use Rattle.lock_validate.proofs.States.{keeps_writing-writes}
 use Rattle.node_runs.specs.NodeStates.{Asked, Await, OpenOp}
 use Rattle.node_runs.specs.RunHistories.{is_fault, change_reply}
 use Rattle.run_laws.specs.ToldAnswers.{TellsReply, IsReleaseFault, IsFaultOf}
@@ -88,17 +89,9 @@ asked_of given None = given
 asked_of given (Some o) = await_asked given o.awaits
 
 -- an unlock that is answered Kept still keeps its lock to write
-writing-may : (o : Option LockEntry) → keeps_writing o ≡ true → may_write (state_in o) ≡ true
-writing-may None is = absurd (cc)
-writing-may (Some e) is = by (may_write e.state) refl is
-  where
-    by : (x : Bool) → may_write e.state ≡ x → (x && not e.released) ≡ true → may_write e.state ≡ true
-    by true f h = f
-    by false f h = absurd (cc)
-
 pub kept-writes : (entries : List LockEntry) (u : ObjectName) (ask : Ask) → SendsHome entries u (Ask.Unlock u) ask → IsReleaseFault ask replies.Kept → may_write (state_in (entry_of u entries)) ≡ true
-kept-writes entries u (Ask.PageOut v k grant base bytes) sends is = writing-may (entry_of u entries) sends.1
-kept-writes entries u (Ask.AttrOut v n grant base) sends is = writing-may (entry_of u entries) sends.1
+kept-writes entries u (Ask.PageOut v k grant base bytes) sends is = keeps_writing-writes (entry_of u entries) sends.1
+kept-writes entries u (Ask.AttrOut v n grant base) sends is = keeps_writing-writes (entry_of u entries) sends.1
 kept-writes entries u (Ask.Unlock v) sends is = absurd (cc)
 kept-writes entries u (Ask.Remove v) sends is = absurd (cc)
 kept-writes entries u (Ask.PageIn v k) sends is = absurd is

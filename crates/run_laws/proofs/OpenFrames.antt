@@ -24,10 +24,9 @@ use Rattle.node_runs.specs.Doings.{ticked}
 use Rattle.node_runs.specs.Dones.{Did, asking}
 use Rattle.node_runs.specs.Steps.{step_of}
 use Rattle.node_runs.specs.NodesKeep.{IsNodeOf, IsTimely}
-use Rattle.node_runs.specs.SentFrames.{IsIncoming}
 use Rattle.node_runs.specs.Runs.{World, first_world, choice_of, numbered, taken, told_if, told_of, incoming_of}
 use Rattle.node_runs.proofs.Calls.{put-same, put-other}
-use Rattle.node_runs.proofs.CallSteps.{IsUnasking, IsFrameProc, did-calls}
+use Rattle.node_runs.proofs.CallSteps.{IsUnasking, did-calls, frame-proc}
 use Rattle.node_runs.proofs.Doing.{step_of-did}
 use Rattle.node_runs.proofs.SettingUp.{setup-procs}
 use Rattle.run_laws.specs.DecidedReplies.{proc_at}
@@ -51,12 +50,6 @@ use Rattle.run_laws.proofs.FittingReplies.{answer-told}
 use Rattle.run_laws.proofs.SentAgain.{TellsOf, AnswersIt, did-tells, did-answers, sent-or-same, reply-sends}
 use Rattle.run_laws.proofs.SentFrames.{turned, done-after, frames-after, takes-oldest, sends-frame}
 use Rattle.run_laws.proofs.WaitingNext.{Next, stays, takes, tells, waiting-next, untold-next}
-
-frame-proc : (i : Incoming) → IsIncoming i → IsFrameProc i
-frame-proc Incoming.Nothing is = tt
-frame-proc (Incoming.Frame m) is = (is.range.proc_low, is.range.proc_high)
-frame-proc (Incoming.Gone number tick) is = tt
-frame-proc (Incoming.Mark tick) is = tt
 
 told-same : (b : Bool) (m : Message) (i : Incoming) → told_if b m ≡ Some i → b ≡ true
 told-same true m i e = refl

@@ -1,8 +1,7 @@
 -- In every run each reply on a link has its decision.
-use Rattle.std.proofs.Common.{◌≡◌, ℕ, true, List, [], ◌∷◌, Option, Some, None, inl, inr, refl, sym, ap, subst, ◌∙◌, arith}
-use Rattle.std.specs.Prelude.{IfSome, if◌then◌else◌, ◌==◌, nat_lt, ◌&&◌, unwrap_or}
+use Rattle.std.proofs.Common.{◌≡◌, ℕ, true, List, [], ◌∷◌, Option, Some, None, inl, inr, refl, sym, ap, subst, ◌∙◌}
+use Rattle.std.specs.Prelude.{IfSome, if◌then◌else◌, ◌&&◌, unwrap_or}
 use Rattle.std.proofs.lemmas.Bool.{cases_eq}
-use Rattle.std.proofs.lemmas.Bool.Decides.{nat_tests}
 use Rattle.std.proofs.lemmas.Option.{same_Some}
 use Rattle.uid_names.proofs.ListLemmas.{by_cases}
 use Rattle.uid_names.specs.Names.{ProcName, ObjectName, same_proc}
@@ -12,6 +11,7 @@ use Rattle.call_once.specs.declared.served.Looked.{Looked}
 use Rattle.call_once.specs.declared.served.Looked.TheVariants.{Fresh, Again, Old}
 use Rattle.call_once.specs.Calls.{Call, call_of, body_in, number_in, last_of, looked, with_call}
 use Rattle.call_once.proofs.KeptCalls.{call_of-with_call}
+use Rattle.call_once.proofs.LookedNumbers.{again-same}
 use Rattle.ring_messages.specs.Bodies.{Ask, Answer, ask_of, is_request}
 use Rattle.ring_messages.proofs.Asking.{asked-body, asked-seen, asks-request}
 use Rattle.ring_messages.specs.Frames.{Message, caller_of}
@@ -50,11 +50,6 @@ pub data ReplyStep (n : NodeState) (s : Stepped) : Type 0 where
   mute : s.node.side ≡ n.side → s.frame ≡ None → ReplyStep n s
   sends : (m : Message) (ask : Ask) → s.node.side ≡ n.side → s.frame ≡ Some m → ask_of m.body ≡ Some ask → ReplyStep n s
   answers : (m : Message) (ask : Ask) (answer : Answer) → ask_of m.body ≡ Some ask → s.frame ≡ Some (reply_to m n.tick answer) → Answering n s m answer → ReplyStep n s
-
-again-same : (number last : ℕ) → looked number last ≡ Again → number ≡ last
-again-same number last is = by_cases (nat_lt last number) (number ≡ last)
-    (λ h. absurd (let e : Fresh ≡ Again = rw h at is in cc))
-    (λ h. by_cases (number == last) (number ≡ last) (λ k. grind (arith, nat_tests, k)) (λ k. absurd (let e : Old ≡ Again = rw (h, k) at is in cc)))
 
 module _ (g : Given) (n : NodeState) where
   module _ (m : Message) (ask : Ask) (answer : Answer) (s : Stepped) (is : (serve_of n.side (caller_of m) m.number ask).answer ≡ Some answer) (side : s.node.side ≡ (serve_of n.side (caller_of m) m.number ask).side) where

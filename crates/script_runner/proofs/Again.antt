@@ -1,16 +1,12 @@
 -- A process that is put among others a second time.
-use Rattle.std.proofs.Common.{◌≡◌, Bool, true, false, List, [], ◌∷◌, refl, ap, subst, arith}
+use Rattle.std.proofs.Common.{◌≡◌, Bool, true, false, List, [], ◌∷◌, refl, ap, subst}
 use Rattle.std.specs.Prelude.{Some, Option, IfSome, if◌then◌else◌}
-use Rattle.std.proofs.lemmas.Bool.Decides.{nat_tests}
 use Rattle.uid_names.specs.Names.{ProcName, same_proc, proc_lt}
-use Rattle.uid_names.proofs.Orders.{same_proc-itself}
+use Rattle.uid_names.proofs.Orders.{same_proc-itself, proc_lt-same}
 use Rattle.script_runs.specs.Processes.{procs_with}
 
-not-below : (p : ProcName) → proc_lt p p ≡ false
-not-below p = grind (arith, nat_tests)
-
 again-first : (p : ProcName) (rest : List ProcName) → procs_with p (p ∷ rest) ≡ p ∷ rest
-again-first p rest = rw (not-below p, same_proc-itself p) refl
+again-first p rest = rw (proc_lt-same p, same_proc-itself p) refl
 
 again-put : (p q : ProcName) (rest more : List ProcName) (b c : Bool) → proc_lt q p ≡ b → same_proc q p ≡ c → procs_with p more ≡ more
     → procs_with p (if b then q ∷ more else (if c then q ∷ rest else p ∷ q ∷ rest)) ≡ (if b then q ∷ more else (if c then q ∷ rest else p ∷ q ∷ rest))

@@ -11,3 +11,4 @@ pub mod ListLemmas
 pub mod TextTables
 pub mod Codes
 pub mod WrittenTables
+pub mod Failures

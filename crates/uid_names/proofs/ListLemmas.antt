@@ -1,11 +1,11 @@
 -- Lemmas on tests over lists: what is found, what a filter leaves, how many pass.
-use Rattle.std.proofs.Common.{◌≡◌, ℕ, zero, suc, ◌+◌, ◌<◌, ◌≤◌, Bool, true, false, not, cond, List, [], ◌∷◌, ◌++◌, map, filter, length, get_or, Option, Some, None, MatchOption, count_by, nat_lt, length-append, replicate, reverse, refl, subst, sym, ap, ◌∙◌, arith}
+use Rattle.std.proofs.Common.{◌≡◌, ◌≢◌, ℕ, zero, suc, ◌+◌, ◌<◌, ◌≤◌, Bool, true, false, not, cond, List, [], ◌∷◌, ◌++◌, map, filter, length, get_or, Option, Some, None, MatchOption, count_by, nat_lt, length-append, replicate, reverse, refl, subst, sym, ap, ◌∙◌, arith}
 use Rattle.std.proofs.lemmas.Bool.Decides.{nat_tests}
 use Rattle.std.proofs.lemmas.List.{reverse-append}
 use Rattle.std.proofs.lemmas.List.Sums.{sum_by-cons, length-filter}
 use Rattle.std.proofs.lemmas.List.Filters.{length-filter_both}
 use Rattle.std.proofs.lemmas.List.Elements.{All-head, All-tail, All-push}
-use Rattle.std.specs.Prelude.{IsSome, All, ◌==◌, slice_get, slice_index_or}
+use Rattle.std.specs.Prelude.{IsSome, All, ◌==◌, slice_get, slice_index_or, slice_set}
 use Rattle.std.specs.List.{find, list_any, list_all, remove, position, position_or_len}
 use Rattle.std.specs.Option.{option_map, option_or}
 use Rattle.uid_names.proofs.Passed.{left-true, right-true, equal}
@@ -14,6 +14,19 @@ use Rattle.uid_names.proofs.Passed.{left-true, right-true, equal}
 pub by_cases : (b : Bool) (P : Type 0) → (b ≡ true → P) → (b ≡ false → P) → P
 by_cases true P yes_case no_case = yes_case refl
 by_cases false P yes_case no_case = no_case refl
+
+-- an item that is set, and the others
+pub set-there : {A : Type 0} (xs : List A) (i : ℕ) (y : A) → i < length xs → slice_get (slice_set xs i y) i ≡ Some y
+set-there [] i y low = absurd (omega (arith, low))
+set-there (x ∷ xs) zero y low = refl
+set-there (x ∷ xs) (suc i) y low = set-there xs i y (omega (arith, low))
+
+pub set-else : {A : Type 0} (xs : List A) (i n : ℕ) (y : A) → n ≢ i → slice_get (slice_set xs i y) n ≡ slice_get xs n
+set-else [] i n y differs = refl
+set-else (x ∷ xs) zero zero y differs = absurd (differs refl)
+set-else (x ∷ xs) zero (suc n) y differs = refl
+set-else (x ∷ xs) (suc i) zero y differs = refl
+set-else (x ∷ xs) (suc i) (suc n) y differs = set-else xs i n y (λ same. differs (ap suc same))
 
 -- what holds of each holds of each from the last one on
 pub All-reverse : {X : Type 0} (P : X → Type 0) (xs : List X) → All P xs → All P (reverse xs)

@@ -113,6 +113,10 @@ same_uid-itself u = grind (arith, nat_tests)
 pub same_proc-itself : (p : ProcName) → same_proc p p ≡ true
 same_proc-itself p = grind (arith, nat_tests)
 
+-- and is not below itself
+pub proc_lt-same : (p : ProcName) → proc_lt p p ≡ false
+proc_lt-same p = grind (arith, nat_tests)
+
 -- objects are the same both ways
 pub same_uid-sym : (u v : ObjectName) → same_uid u v ≡ same_uid v u
 same_uid-sym u v = grind (arith, nat_tests)

@@ -1,5 +1,5 @@
 -- What may be there and is: by a predicate, by a test, under a map, behind a step that may find nothing.
-use Rattle.std.proofs.Common.{◌≡◌, true, Option, Some, None, IfSome, IsSome, refl, sym}
+use Rattle.std.proofs.Common.{◌≡◌, true, false, Option, Some, None, IfSome, IsSome, refl, sym, subst}
 use Rattle.std.specs.Prelude.{is_some, is_none, ◌↔◌}
 use Rattle.std.specs.Option.{option_map, option_or}
 use Rattle.std.proofs.lemmas.Option.{same_Some}
@@ -15,6 +15,11 @@ pub found_there : {A : Type 0} (o : Option A) → is_some o ≡ true → (x : A)
 found_there None h = absurd (cc)
 found_there (Some x) h = (x, refl)
 
+-- what it does not find there
+pub none-there : {A : Type 0} (o : Option A) → is_some o ≡ false → o ≡ None
+none-there None h = refl
+none-there (Some x) h = absurd (cc)
+
 -- what a test finds absent
 pub none-is : {A : Type 0} (o : Option A) → is_none o ≡ true → o ≡ None
 none-is None is = refl
@@ -24,6 +29,10 @@ none-is (Some x) is = absurd (cc)
 pub some-each : {A : Type 0} (o : Option A) (P : A → Type 0) → ((x : A) → o ≡ Some x → P x) → IfSome o P
 some-each None P each = tt
 some-each (Some a) P each = each a refl
+
+-- what holds of what may be there holds of what is
+pub take-some : {A : Type 0} (P : A → Type 0) (o : Option A) (x : A) → o ≡ Some x → IfSome o P → P x
+take-some P o x there holds = subst (λ r. IfSome r P) there holds
 
 -- nothing instead changes nothing
 pub option_or-none : {A : Type 0} (o : Option A) → option_or o None ≡ o

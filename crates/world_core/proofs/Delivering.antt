@@ -5,6 +5,7 @@ use Rattle.std.proofs.lemmas.List.{append_assoc, take-append-drop, take-set, dro
 use Rattle.std.proofs.lemmas.List.Elements.{All-nil, All-cons, All-append, All-head, All-tail}
 use Rattle.std.proofs.Math.Seq.{take-append_seam, drop-append_seam}
 use Rattle.std.proofs.lemmas.Option.{slice_get_within}
+use Rattle.uid_names.proofs.ListLemmas.{set-there}
 use Rattle.dom_history.specs.declared.event.What.TheVariants.{Begin, Go, Ready}
 use Rattle.dom_history.specs.declared.plan.Fate.{Fate}
 use Rattle.ring_messages.specs.Frames.{Message}
@@ -21,7 +22,6 @@ use Rattle.world_core.specs.Sending.{link_with, delivered_to, delivered}
 use Rattle.world_core.specs.Listed.{IsListed}
 use Rattle.world_core.specs.Before.{is_before, count_if, count_before, before_link, behind_link}
 use Rattle.world_core.proofs.Comings.{comings_append}
-use Rattle.world_core.proofs.Marked.{set_there}
 
 -- nothing is put
 pub put_nothing : (k : ℕ) (xs : List Coming) → take k xs ++ ([] ++ drop k xs) ≡ xs
@@ -44,7 +44,7 @@ split (x ∷ ls) (suc k) i j l at there =
 pub split-set : (ls : List LinkFrom) (k : ℕ) (l : LinkFrom) → k < length ls
     → oldest 0 (slice_set ls k l) ≡ oldest 0 (take k ls) ++ (oldest_of k l.from l.link.queue ++ oldest (k + 1) (drop (suc k) ls))
 split-set ls k l within =
-    split (slice_set ls k l) k 0 k l (omega arith) (set_there ls k l within)
+    split (slice_set ls k l) k 0 k l (omega arith) (set-there ls k l within)
     ∙ ap (λ (xs : List LinkFrom). oldest 0 xs ++ (oldest_of k l.from l.link.queue ++ oldest (k + 1) (drop (suc k) (slice_set ls k l)))) (take-set ls k l)
     ∙ ap (λ (xs : List LinkFrom). oldest 0 (take k ls) ++ (oldest_of k l.from l.link.queue ++ oldest (k + 1) xs)) (drop-set-lt (suc k) ls k l (omega arith))
 

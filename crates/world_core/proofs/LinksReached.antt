@@ -3,6 +3,7 @@ use Rattle.std.proofs.Common.{◌≡◌, ◌≢◌, ℕ, ◌+◌, Bool, true, fa
 use Rattle.std.specs.Prelude.{◌==◌, ◌&&◌, slice_get, slice_set}
 use Rattle.std.proofs.lemmas.Bool.{cases_eq, eq-eqb, ne_eqb}
 use Rattle.std.proofs.lemmas.Option.{slice_get_within}
+use Rattle.uid_names.proofs.ListLemmas.{set-there, set-else}
 use Rattle.dom_history.specs.declared.event.What.{What}
 use Rattle.dom_history.specs.declared.event.What.TheVariants as events
 use Rattle.dom_history.specs.declared.plan.Fate.{Fate}
@@ -17,7 +18,7 @@ use Rattle.world_core.specs.declared.station.LinkFrom.{LinkFrom}
 use Rattle.world_core.specs.Stations.{what_of}
 use Rattle.world_core.specs.Sending.{link_with, delivered_to, delivered, mark_with, marked_to, marked}
 use Rattle.world_core.specs.Listed.{link_less, less_at, ins_less}
-use Rattle.world_core.proofs.Marked.{set_there, set_else, set_many}
+use Rattle.world_core.proofs.Marked.{set_many}
 use Rattle.world_core.proofs.Sources.{IsTaken, IsStart, begins, goes_on, is_ready, IsFrom}
 use Rattle.world_core.proofs.StationsAfter.{less}
 
@@ -48,10 +49,10 @@ module _ {A : Type 0} (f : A → A) (i : ℕ) (xs : List A) where
   ]
   changed-at (Some x) j y there e = elim (cases_eq j i) [
     | inl same ↦
-        (let set = set_there xs i (f x) (slice_get_within xs i x there) in
+        (let set = set-there xs i (f x) (slice_get_within xs i x there) in
         let read = ap (slice_get (slice_set xs i (f x))) same in
         record { item = x; there = ap (slice_get xs) same ∙ there; change = here same (let r = sym e ∙ read ∙ set in cc) })
-    | inr differs ↦ record { item = y; there = sym (set_else xs i j (f x) differs) ∙ e; change = elsewhere differs refl }
+    | inr differs ↦ record { item = y; there = sym (set-else xs i j (f x) differs) ∙ e; change = elsewhere differs refl }
   ]
 
 -- a link that gets something, or of which the oldest entry is taken

@@ -3,20 +3,9 @@ use Rattle.std.proofs.Common.{◌≡◌, ◌≢◌, ℕ, zero, suc, ◌+◌, ◌
 use Rattle.std.specs.Prelude.{slice_get, slice_set}
 use Rattle.std.proofs.lemmas.Bool.{cases_eq}
 use Rattle.std.proofs.lemmas.Option.{slice_get_within}
+use Rattle.uid_names.proofs.ListLemmas.{set-there, set-else}
 use Rattle.world_core.specs.declared.station.Station.{Station}
 use Rattle.world_core.specs.SentMarks.{IsMarked, AreMarked}
-
-pub set_there : {A : Type 0} (xs : List A) (i : ℕ) (y : A) → i < length xs → slice_get (slice_set xs i y) i ≡ Some y
-set_there [] i y within = absurd (omega (arith, within))
-set_there (x ∷ xs) zero y within = refl
-set_there (x ∷ xs) (suc i) y within = set_there xs i y (omega (arith, within))
-
-pub set_else : {A : Type 0} (xs : List A) (i n : ℕ) (y : A) → n ≢ i → slice_get (slice_set xs i y) n ≡ slice_get xs n
-set_else [] i n y differs = refl
-set_else (x ∷ xs) zero zero y differs = absurd (differs refl)
-set_else (x ∷ xs) zero (suc n) y differs = refl
-set_else (x ∷ xs) (suc i) zero y differs = refl
-set_else (x ∷ xs) (suc i) (suc n) y differs = set_else xs i n y (λ e. differs (ap suc e))
 
 pub set_many : {A : Type 0} (xs : List A) (i : ℕ) (y : A) → length (slice_set xs i y) ≡ length xs
 set_many [] i y = refl
@@ -38,8 +27,8 @@ module _ {P G : Type 0} (at phase tick : ℕ) (old : List (Station P G)) where
       → IsMarking (i + 1) (slice_set new i y)
   mark_more i new x y is within differs there got = record {
     many = set_many new i y ∙ is.many;
-    rest = λ n past. set_else new i n y (λ e. absurd (omega (arith, past, e))) ∙ is.rest n (omega (arith, past));
-    sender = set_else new i at y (λ e. differs (sym e)) ∙ is.sender;
+    rest = λ n past. set-else new i n y (λ e. absurd (omega (arith, past, e))) ∙ is.rest n (omega (arith, past));
+    sender = set-else new i at y (λ e. differs (sym e)) ∙ is.sender;
     others = by_place;
   }
     where
@@ -48,10 +37,10 @@ module _ {P G : Type 0} (at phase tick : ℕ) (old : List (Station P G)) where
         | inl same ↦
             (let here : slice_get new n ≡ Some x = ap (slice_get new) same ∙ there in
             let first : x ≡ a = (let r = is.rest n (omega (arith, same)) in cc) in
-            let set : slice_get (slice_set new i y) n ≡ Some y = ap (slice_get (slice_set new i y)) same ∙ set_there new i y within in
+            let set : slice_get (slice_set new i y) n ≡ Some y = ap (slice_get (slice_set new i y)) same ∙ set-there new i y within in
             let second : y ≡ b = cc in
             subst (λ z. IsMarked at phase tick a z) second (subst (λ z. IsMarked at phase tick z y) first got))
-        | inr other ↦ is.others n a b (omega (arith, before, other)) away e (sym (set_else new i n y other) ∙ f)
+        | inr other ↦ is.others n a b (omega (arith, before, other)) away e (sym (set-else new i n y other) ∙ f)
       ]
 
   pub mark_not : (new : List (Station P G)) → IsMarking at new → IsMarking (at + 1) new

@@ -2,6 +2,7 @@
 use Rattle.std.proofs.Common.{◌≡◌, ℕ, ◌+◌, ◌<◌, ◌%◌, Option, Some, IfSome, length, sum, sym, ap, subst, ◌∙◌}
 use Rattle.std.specs.Prelude.{◌^◌, slice_get, slice_index_or}
 use Rattle.std.proofs.lemmas.Option.{slice_get-get_or}
+use Rattle.uid_names.proofs.Somes.{take-some}
 use Rattle.dom_history.specs.declared.op.Reply.{Reply}
 use Rattle.dom_history.specs.declared.op.Want.{Want}
 use Rattle.node_runs.specs.Setups.{Setup}
@@ -14,7 +15,6 @@ use Rattle.world_core.specs.Stations.{Candidate}
 use Rattle.world_core.specs.Listed.{IsListed, event_at, IsDone}
 use Rattle.world_core.specs.Stands.{Stands, IsBelow}
 use Rattle.world_core.proofs.Chosen.{IsChosen, place-within, own-within, chosen-is}
-use Rattle.ended_nodes.proofs.Elements.{if_some}
 
 -- the station at a place among all, whose event at a place of its own the turn picks
 pub record IsPicked {P G : Type 0} (s : Setup) (x : World P G) (w : runs.World) (choice at place : ℕ) (y : Station P G) : Type 0 where
@@ -44,4 +44,4 @@ module _ {P G : Type 0} (wants : P → Want) (becomes : P → Option Reply → P
   pub picked-done : (choice at place : ℕ) (y mid : Station P G) (emitted : Emitted) (it : IsPicked s x w choice at place y)
       → IfSome (event_at y place) (λ c. IsDone wants becomes c emitted y mid) → IsDone wants becomes it.chosen.candidate emitted y mid
   picked-done choice at place y mid emitted it done =
-      if_some (λ (c : Candidate). IsDone wants becomes c emitted y mid) (event_at y place) it.chosen.candidate it.chosen.there done
+      take-some (λ (c : Candidate). IsDone wants becomes c emitted y mid) (event_at y place) it.chosen.candidate it.chosen.there done

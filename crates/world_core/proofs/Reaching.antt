@@ -6,7 +6,7 @@ use Rattle.std.proofs.lemmas.Option.{slice_get_within}
 use Rattle.std.proofs.lemmas.List.{append_assoc}
 use Rattle.std.proofs.lemmas.List.Elements.{filter-append}
 use Rattle.uid_names.proofs.Passed.{equal, eqb-itself}
-use Rattle.uid_names.proofs.ListLemmas.{get-within}
+use Rattle.uid_names.proofs.ListLemmas.{get-within, set-there, set-else}
 use Rattle.node_core.specs.Nodes.{Noted}
 use Rattle.ring_links.specs.declared.notice.Notice.{Notice}
 use Rattle.world_core.specs.declared.station.LinkFrom.{LinkFrom}
@@ -22,7 +22,6 @@ use Rattle.dom_history.specs.declared.plan.FateRow.{FateRow}
 use Rattle.dom_history.specs.Plans.{fate_of}
 use Rattle.ring_messages.specs.Frames.{caller_of}
 use Rattle.ring_links.specs.Notices.{notice_for}
-use Rattle.world_core.proofs.Marked.{set_there, set_else}
 
 kept-one : {A : Type 0} (E : A → Bool) (x : A) (kept : List A) (b : Bool) → E x ≡ b → filter E kept ≡ kept → filter E (cond b (x ∷ kept) kept) ≡ cond b (x ∷ kept) kept
 kept-one E x kept true is same = ap (λ (b : Bool). cond b (x ∷ filter E kept) (filter E kept)) is ∙ ap (λ (xs : List _). x ∷ xs) same
@@ -77,12 +76,12 @@ module _ {P G : Type 0} where
   reached-one at k came ins old x y within there is none same n a b e f = elim (cases_eq n k) [
     | inl here ↦
         (let first : x ≡ a = (let r = ap (slice_get old) here in cc) in
-        let set : slice_get (slice_set old k y) n ≡ Some y = ap (slice_get (slice_set old k y)) here ∙ set_there old k y within in
+        let set : slice_get (slice_set old k y) n ≡ Some y = ap (slice_get (slice_set old k y)) here ∙ set-there old k y within in
         let second : y ≡ b = cc in
         subst (λ j. IsReached (j == at) (came j) (ins j a.ins.items) a b) (sym here)
         (subst (λ z. IsReached (k == at) (came k) (ins k a.ins.items) a z) second (subst (λ (z : Station P G). IsReached (k == at) (came k) (ins k z.ins.items) z y) first is)))
     | inr other ↦
-        (let r = set_else old k n y other in
+        (let r = set-else old k n y other in
         let first : a ≡ b = cc in
         subst (λ z. IsReached (n == at) (came n) (ins n a.ins.items) a z) first
         (subst (λ c. IsReached (n == at) c (ins n a.ins.items) a a) (sym (none n other)) (subst (λ ls. IsReached (n == at) [] ls a a) (sym (same n a.ins.items other)) (reached-not (n == at) a))))

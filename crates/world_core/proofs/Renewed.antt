@@ -3,6 +3,7 @@ use Rattle.std.proofs.Common.{◌≡◌, ◌≢◌, ℕ, ◌<◌, Bool, true, co
 use Rattle.std.specs.Prelude.{slice_get, slice_set, All}
 use Rattle.std.proofs.lemmas.Bool.{eq-eqb, ne_eqb}
 use Rattle.std.proofs.lemmas.List.Elements.{All-head, All-tail}
+use Rattle.uid_names.proofs.ListLemmas.{set-there, set-else}
 use Rattle.dom_history.specs.declared.op.Reply.{Reply}
 use Rattle.dom_history.specs.declared.op.Want.{Want}
 use Rattle.dom_history.specs.declared.event.What.{What}
@@ -23,7 +24,6 @@ use Rattle.world_core.specs.SentMarks.{AreMarked}
 use Rattle.world_core.specs.Listed.{IsListed, IsKept}
 use Rattle.world_core.specs.Reached.{IsReached, AreReached}
 use Rattle.world_core.specs.Stands.{IsNoticeOf, IsStation}
-use Rattle.world_core.proofs.Marked.{set_there, set_else}
 use Rattle.world_core.proofs.Reaching.{reached-not}
 use Rattle.world_core.proofs.Standing.{enabled-stands}
 
@@ -60,13 +60,13 @@ module _ {P G : Type 0} (at : ℕ) (old sent new : List (Station P G)) (after re
   mids = slice_set old at after
 
   own-mid : slice_get mids at ≡ Some after
-  own-mid = set_there old at after within
+  own-mid = set-there old at after within
 
   pub own-new : slice_get new at ≡ Some listed
-  own-new = ap (λ (xs : List (Station P G)). slice_get xs at) new-are ∙ set_there sent at listed (omega (arith, within, many))
+  own-new = ap (λ (xs : List (Station P G)). slice_get xs at) new-are ∙ set-there sent at listed (omega (arith, within, many))
 
   other-new : (k : ℕ) → k ≢ at → slice_get new k ≡ slice_get sent k
-  other-new k away = ap (λ (xs : List (Station P G)). slice_get xs k) new-are ∙ set_else sent at k listed away
+  other-new k away = ap (λ (xs : List (Station P G)). slice_get xs k) new-are ∙ set-else sent at k listed away
 
   own-renewed : (came : List Notice) (ins : List LinkFrom) → IsReached true came ins after reached → IsRenewed came ins after listed
   own-renewed came ins is = record {
@@ -86,7 +86,7 @@ module _ {P G : Type 0} (at : ℕ) (old sent new : List (Station P G)) (after re
     pub frame-other : (k : ℕ) (x y : Station P G) → k ≢ at → slice_get old k ≡ Some x → slice_get new k ≡ Some y → open_ones x.node x.notices.items ≡ x.notices.items → IsListed x
         → IsRenewed (came k) (ins k x.ins.items) x y
     frame-other k x y away there stands open_are was-listed =
-        let is = are k x y (set_else old at k after away ∙ there) (sym (other-new k away) ∙ stands) in
+        let is = are k x y (set-else old at k after away ∙ there) (sym (other-new k away) ∙ stands) in
         let other = ne_eqb k at away in
         record { node = is.node; ins_are = is.ins_are; notices = is.notices other open_are; listed = is.listed other was-listed }
 
@@ -99,5 +99,5 @@ module _ {P G : Type 0} (at : ℕ) (old sent new : List (Station P G)) (after re
 
     pub mark-other : (k : ℕ) (x y : Station P G) → k ≢ at → slice_get old k ≡ Some x → slice_get new k ≡ Some y → IsRenewed [] (marked at phase tick x.ins.items) x y
     mark-other k x y away there stands =
-        let is = are.others k x y away (set_else old at k after away ∙ there) (sym (other-new k away) ∙ stands) in
+        let is = are.others k x y away (set-else old at k after away ∙ there) (sym (other-new k away) ∙ stands) in
         record { node = is.node; ins_are = is.ins; notices = is.notices ∙ ap (open_ones x.node) (sym (append-nil x.notices.items)); listed = is.listed }

@@ -4,6 +4,7 @@ use Rattle.std.specs.Prelude.{slice_get, IfSome, ◌^◌}
 use Rattle.std.proofs.lemmas.Bool.{cases_eq}
 use Rattle.uid_names.specs.Steps.{◌>>=◌}
 use Rattle.uid_names.proofs.ListLemmas.{get-within}
+use Rattle.uid_names.proofs.Somes.{take-some}
 use Rattle.dom_history.specs.declared.op.Reply.{Reply}
 use Rattle.dom_history.specs.declared.op.Want.{Want}
 use Rattle.dom_history.specs.declared.plan.FateRow.{FateRow}
@@ -20,7 +21,7 @@ use Rattle.node_core.specs.declared.fault.RunFault.TheVariants as faults
 use Rattle.world_core.specs.declared.station.Station.{Station}
 use Rattle.world_core.specs.declared.world.World.{World}
 use Rattle.world_core.specs.Stands.{Stands, IsTurnOf, IsBelow}
-use Rattle.ended_nodes.proofs.Elements.{all_at, if_some}
+use Rattle.ended_nodes.proofs.Elements.{all_at}
 
 -- the world stands for so many turns of the seed, and no tick came to the last one
 pub record IsRunning {P G : Type 0} (wants : P → Want) (becomes : P → Option Reply → P) (made : ℕ → ℕ → Option P) (s : Setup) (seed last k : ℕ) (x : World P G) : Type 0 where
@@ -67,7 +68,7 @@ module _ {P G : Type 0} (wants : P → Want) (becomes : P → Option Reply → P
       still-below low n = elim (cases_eq n (i + 1)) [
         | inl same ↦
             (let y = get-within new.stations.items i turned.within in
-            let own = if_some (λ (z : Station P G). (state_of z.node).tick < last) (slice_get new.stations.items i) y.0 y.1 low in
+            let own = take-some (λ (z : Station P G). (state_of z.node).tick < last) (slice_get new.stations.items i) y.0 y.1 low in
             let tick = tick-at new turned.world turned.stands i y.0 y.1 in
             let at = ap (λ (m : ℕ). (turned.world.nodes m).tick) same in
             omega (arith, own, tick, at))
@@ -89,7 +90,7 @@ module _ {P G : Type 0} (wants : P → Want) (becomes : P → Option Reply → P
           → ComesToLast s old.plan seed last n
       comes-to-last n limit =
           let y = get-within new.stations.items i turned.within in
-          let own = if_some (λ (z : Station P G). (faults.TickLimit n ≡ faults.TickLimit z.node.log.node) × (last ≤ (state_of z.node).tick)) (slice_get new.stations.items i) y.0 y.1 limit in
+          let own = take-some (λ (z : Station P G). (faults.TickLimit n ≡ faults.TickLimit z.node.log.node) × (last ≤ (state_of z.node).tick)) (slice_get new.stations.items i) y.0 y.1 limit in
           let name : n ≡ y.0.node.log.node = (let e = own.0 in cc) in
           let node = name ∙ ap (λ l. l.node) (turned.stands.station i y.0 y.1).log in
           let high = own.1 in

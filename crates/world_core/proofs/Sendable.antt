@@ -3,6 +3,7 @@ use Rattle.std.proofs.Common.{◌≡◌, ℕ, ◌+◌, ◌-◌, ◌<◌, ◌≤�
 use Rattle.std.specs.Prelude.{◌==◌, ◌^◌, if◌then◌else◌, slice_get, slice_set, All}
 use Rattle.std.proofs.lemmas.Bool.{cases_eq}
 use Rattle.std.proofs.lemmas.Option.{slice_get_within}
+use Rattle.uid_names.proofs.ListLemmas.{set-there, set-else}
 use Rattle.dom_history.specs.declared.op.Reply.{Reply}
 use Rattle.dom_history.specs.declared.op.Want.{Want}
 use Rattle.dom_history.specs.declared.event.Sent.{Sent}
@@ -27,7 +28,7 @@ use Rattle.world_core.specs.Listed.{link_less, less_at, ins_less}
 use Rattle.world_core.specs.Stands.{Stands}
 use Rattle.world_core.proofs.Counting.{done-few}
 use Rattle.ended_nodes.proofs.Elements.{all_at, some_if}
-use Rattle.world_core.proofs.Marked.{set_there, set_else, set_many}
+use Rattle.world_core.proofs.Marked.{set_many}
 
 -- the nodes of a frame that is sent
 caller-low : (b : Bool) (from to count : ℕ) → from - 1 < count → to - 1 < count → (if b then from else to) - 1 < count
@@ -81,10 +82,10 @@ less-one : (ins : List LinkFrom) (i : ℕ) (o : Option LinkFrom) → slice_get i
 less-one ins i None is k l e = record { link = l; there = e; frames = refl }
 less-one ins i (Some d) is k l e = elim (cases_eq k i) [
   | inl same ↦
-      (let set : slice_get (slice_set ins i (link_less d)) k ≡ Some (link_less d) = ap (slice_get (slice_set ins i (link_less d))) same ∙ set_there ins i (link_less d) (slice_get_within ins i d is) in
+      (let set : slice_get (slice_set ins i (link_less d)) k ≡ Some (link_less d) = ap (slice_get (slice_set ins i (link_less d))) same ∙ set-there ins i (link_less d) (slice_get_within ins i d is) in
       let equal : l ≡ link_less d = cc in
       record { link = d; there = ap (slice_get ins) same ∙ is; frames = ap (λ (z : LinkFrom). z.link.frames) equal })
-  | inr other ↦ record { link = l; there = sym (set_else ins i k (link_less d) other) ∙ e; frames = refl }
+  | inr other ↦ record { link = l; there = sym (set-else ins i k (link_less d) other) ∙ e; frames = refl }
 ]
 
 link-before : (from : source.Source) (ins : List LinkFrom) (k : ℕ) (l : LinkFrom) → slice_get (ins_less from ins) k ≡ Some l → IsLinkLess ins k l
@@ -108,10 +109,10 @@ all-set T xs i y within here each = all_at T (slice_set xs i y) by-place
     by-place : (k : ℕ) (x : _) → slice_get (slice_set xs i y) k ≡ Some x → T x
     by-place k x e = elim (cases_eq k i) [
       | inl same ↦
-          (let set : slice_get (slice_set xs i y) k ≡ Some y = ap (slice_get (slice_set xs i y)) same ∙ set_there xs i y within in
+          (let set : slice_get (slice_set xs i y) k ≡ Some y = ap (slice_get (slice_set xs i y)) same ∙ set-there xs i y within in
           let equal : y ≡ x = cc in
           subst T equal here)
-      | inr other ↦ each k x (sym (set_else xs i k y other) ∙ e)
+      | inr other ↦ each k x (sym (set-else xs i k y other) ∙ e)
     ]
 
 module _ {P G : Type 0} (wants : P → Want) (becomes : P → Option Reply → P) (made : ℕ → ℕ → Option P) (s : Setup) (x : World P G) (w : runs.World) (stands : Stands wants becomes made s x w) where

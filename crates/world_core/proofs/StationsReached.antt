@@ -12,6 +12,8 @@ use Rattle.std.proofs.lemmas.Bool.{cases_eq, eq-eqb, ne_eqb}
 use Rattle.std.proofs.lemmas.List.{length-map}
 use Rattle.std.proofs.lemmas.List.Elements.{All-nil}
 use Rattle.std.proofs.lemmas.Option.{slice_get_within}
+use Rattle.uid_names.proofs.ListLemmas.{set-there}
+use Rattle.uid_names.proofs.Somes.{take-some}
 use Rattle.dom_history.specs.declared.op.Reply.{Reply}
 use Rattle.dom_history.specs.declared.op.Want.{Want}
 use Rattle.dom_history.specs.declared.event.What.{What}
@@ -39,6 +41,7 @@ use Rattle.node_core.specs.declared.setup.Emitted.{Emitted}
 use Rattle.node_core.specs.Receivings.{indexed, mark_in}
 use Rattle.node_core.specs.Nodes as nodes
 use Rattle.node_core.specs.Nodes.{Noted, state_of}
+use Rattle.node_core.proofs.Sends.{Sends, nothing, mark, frame, did-sends}
 use Rattle.ring_links.specs.declared.notice.Notice.{Notice}
 use Rattle.world_core.specs.declared.station.LinkFrom.{LinkFrom}
 use Rattle.world_core.specs.declared.station.Station.{Station}
@@ -49,12 +52,10 @@ use Rattle.world_core.specs.SentMarks.{AreMarked}
 use Rattle.world_core.specs.Listed.{IsListed, IsKept, event_at, IsDone}
 use Rattle.world_core.specs.Reached.{ins_if, frame_notices, frame_ins, came_of, framed_ins, AreReached, AreSent}
 use Rattle.world_core.specs.Stands.{IsNoticeOf, IsStation}
-use Rattle.ended_nodes.proofs.Elements.{if_some}
-use Rattle.world_core.proofs.Marked.{set_there}
 use Rattle.world_core.proofs.TakingTurns.{own-log}
 use Rattle.world_core.proofs.StationsAfter.{IsStationAfter}
 use Rattle.world_core.proofs.Sources.{event-from}
-use Rattle.world_core.proofs.EventsSent.{Sends, nothing, mark, frame, did-sends, sent-away}
+use Rattle.world_core.proofs.EventsSent.{sent-away}
 use Rattle.world_core.proofs.LinksReached.{changed-many, delivered-is, marked-is, AreLess, less-away, less-own, less-many}
 use Rattle.world_core.proofs.LinksSent.{frames-there, AreMade, nothing-made, own-mark-made, mark-made, no-frame-made, frame-made}
 use Rattle.world_core.proofs.NoticesReached.{AreLeft, left-away, left-own, caller-low, notices-came, told-came, none-came}
@@ -193,7 +194,7 @@ module _ {P G : Type 0} (wants : P → Want) (becomes : P → Option Reply → P
     marked-are : (phase : ℕ) → c.coming.what ≡ Ready phase → AreMarked at phase st.node.tick mids sent
     marked-are phase is =
         subst (λ (k : ℕ). AreMarked at phase k mids sent) t.happened.stands.alike.tick
-        (if_some (λ (x : Station P G). AreMarked at phase (state_of x.node).tick mids sent) (slice_get mids at) t.after (set_there old at t.after within)
+        (take-some (λ (x : Station P G). AreMarked at phase (state_of x.node).tick mids sent) (slice_get mids at) t.after (set-there old at t.after within)
         (subst (λ (m : Option ℕ). AreSent at plan m (indexed st.frame st.effects.sent) mids sent) (ap mark_in is) sent-are))
 
     -- a node of the new list, and what it was
@@ -253,10 +254,10 @@ module _ {P G : Type 0} (wants : P → Want) (becomes : P → Option Reply → P
 
       module _ (m : Message) (f : Sent) (unmarked : mark_in c.coming.what ≡ None) (is : st.frame ≡ Some m) (sends : st.effects.sent ≡ Some f) (from : m.from ≡ (at + 1)) (goes : f.to ≡ m.to) where
         next : f.index ≡ frames_on (at + 1) f.to w.done + 1
-        next = if_some (λ (z : Sent). z.index ≡ frames_on (at + 1) z.to w.done + 1) st.effects.sent f sends t.next
+        next = take-some (λ (z : Sent). z.index ≡ frames_on (at + 1) z.to w.done + 1) st.effects.sent f sends t.next
 
         low : 1 ≤ m.to
-        low = let node = if_some (λ (z : Sent). IsNode s.opening.nodes z.to) st.effects.sent f sends t.goes in let one = node.0 in omega (arith, one, goes)
+        low = let node = take-some (λ (z : Sent). IsNode s.opening.nodes z.to) st.effects.sent f sends t.goes in let one = node.0 in omega (arith, one, goes)
 
         -- it is the newest frame of its link
         number : f.index ≡ length (w.frames m.from m.to) + 1

@@ -149,7 +149,8 @@ copies-map : (ks : List ℕ) → copies_of (map Entry.Copy ks) ≡ ks
 copies-map [] = refl
 copies-map (k ∷ ks) = ap (λ (xs : List ℕ). k ∷ xs) (copies-map ks)
 
-next-deliveries : (fate : ℕ → Fate) (n : ℕ) → deliveries fate (n + 1) ≡ deliveries fate n ++ due fate n
+-- a frame more delivers what is due
+pub next-deliveries : (fate : ℕ → Fate) (n : ℕ) → deliveries fate (n + 1) ≡ deliveries fate n ++ due fate n
 next-deliveries fate n = subst (λ m. deliveries fate m ≡ deliveries fate n ++ (in_place m (fate m) ++ copies fate m m)) (sym (add-one n)) refl
 
 -- the copies among all entries of a link are its deliveries
@@ -186,7 +187,8 @@ takes-copies from to (e ∷ older) =
     ∙ ap (λ (ks : List ℕ). copies_of (entries_taken from to older) ++ ks) (sym (taken-copy from to e.place.node e.what))
     ∙ sym (copies-append (entries_taken from to older) (entry_by from to e.place.node e.what))
 
-prefix-of : (xs ys : List ℕ) → is_prefix xs (xs ++ ys) ≡ true
+-- a list is the first part of one that begins with it
+pub prefix-of : (xs ys : List ℕ) → is_prefix xs (xs ++ ys) ≡ true
 prefix-of [] ys = refl
 prefix-of (x ∷ xs) ys = ap (λ b. b && is_prefix xs (xs ++ ys)) (eq-eqb x x refl) ∙ prefix-of xs ys
 

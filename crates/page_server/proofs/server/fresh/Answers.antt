@@ -1,11 +1,11 @@
 use Rattle.std.proofs.Common.{◌≡◌, sym, subst, rules}
 use Rattle.std.specs.Prelude.{IfSome, IsTrue}
+use Rattle.uid_names.proofs.Failures.{on-any-err}
 use Rattle.ring_messages.specs.declared.body.Body.{Body}
 use Rattle.ring_messages.specs.Bodies.{Answer, ask_of, is_request}
 use Rattle.ring_messages.specs.Frames.{caller_of}
 use Rattle.ring_messages.proofs.Asking.{asked-of}
 use Rattle.page_server.specs.Decisions.{decide}
-use Rattle.page_server.proofs.Refusals.{on-any-err}
 use Rattle.page_server.proofs.Copying.{MayWant, asked-unchanged, failed-says, nothing-said, said-as}
 use Rattle.page_server.proofs.server.fresh.Goals as goal
 

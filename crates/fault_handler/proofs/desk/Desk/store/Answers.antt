@@ -2,9 +2,10 @@ use Rattle.std.proofs.Common.{◌≡◌, ◌≤◌, ◌+◌, ◌/◌, ◌%◌, L
 use Rattle.std.proofs.lemmas.Bool.{OnTrue_at, OnFalse_at}
 use Rattle.dom_history.specs.declared.op.Reply.{Reply}
 use Rattle.uid_names.specs.declared.limits.TheConstants.{PAGE_BYTES}
+use Rattle.uid_names.proofs.Failures.{on-any-err}
 use Rattle.fault_handler.specs.Changes.{with_stored, with_end}
 use Rattle.fault_handler.proofs.Beginning.{store-allowed}
-use Rattle.fault_handler.proofs.Locally.{on-any-err, held-as, writes-as, refused-by, store-unheld, store-unwritable, store-past, store-here, store-done, store-misses}
+use Rattle.fault_handler.proofs.Locally.{held-as, writes-as, refused-by, store-unheld, store-unwritable, store-past, store-here, store-done, store-misses}
 use Rattle.fault_handler.proofs.desk.Desk.store.Goals as goal
 
 pub store_page-requires : goal.store_page-requires

@@ -1,16 +1,17 @@
 use Rattle.std.proofs.Common.{◌≡◌, ℕ, Option, Some, None, inl, inr, refl, ap, sym, subst, drop, ◌∙◌}
 use Rattle.std.proofs.lemmas.Bool.{cases_eq}
+use Rattle.uid_names.proofs.Somes.{none-there}
 use Rattle.ring_links.specs.Carried.{Carrying}
 use Rattle.journal_places.specs.Orders.{IsHalfwayAs, IsOrderAs}
 use Rattle.journal_places.specs.declared.order.Bare.{Bare}
 use Rattle.journal_places.specs.declared.order.Order.{Order}
-use Rattle.journal_places.proofs.Ordering.{half-end-waiting, half-next, none-of}
+use Rattle.journal_places.proofs.Ordering.{half-end-waiting, half-next}
 use Rattle.journal_places.proofs.order.Order.settle.Goals as goal
 
 pub returns-in_default-clause-order : goal.returns-in_default-clause-order
 returns-in_default-clause-order c = λ delivered taken half.
     let o = c.loop-self.self in
-    let none : o.fault ≡ None = none-of o.fault c.loop-self-test.ensures in
+    let none : o.fault ≡ None = none-there o.fault c.loop-self-test.ensures in
     let at = subst (λ (f : Option ℕ). IsHalfwayAs f delivered taken o.waiting o.early.items) none (c.loop-self.invariant.order delivered taken half) in
     subst (λ (f : Option ℕ). IsOrderAs f delivered taken o.waiting o.early.items) (sym none) (half-end-waiting delivered taken o.waiting o.early.items at (sym c.in_default.ensures))
 
@@ -20,7 +21,7 @@ loop-self-preserved c =
     let was = c.args.self.now in
     let t = c.in-Some-pop_front.taken in
     let next = c.in-Some.next in
-    let none : o.fault ≡ None = none-of o.fault c.loop-self-test.ensures in
+    let none : o.fault ≡ None = none-there o.fault c.loop-self-test.ensures in
     let less : Carrying Bare = record { frames = o.waiting.frames; queue = drop 1 o.waiting.queue; later = o.waiting.later } in
     elim (cases_eq t.index next) [
       | inl same ↦

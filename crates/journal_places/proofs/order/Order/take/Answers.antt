@@ -1,12 +1,13 @@
 use Rattle.std.proofs.Common.{◌≡◌, ℕ, Option, Some, None, [], ◌∷◌, ◌++◌, inl, inr, refl, sym, subst, drop}
 use Rattle.std.proofs.lemmas.Bool.{cases_eq}
+use Rattle.uid_names.proofs.Somes.{none-there}
 use Rattle.node_runs.specs.Deliveries.{deliveries}
 use Rattle.ring_links.specs.Carried.{Carrying}
 use Rattle.journal_places.specs.Orders.{IsOrder, IsOrderAs, taken_of}
 use Rattle.journal_places.specs.declared.order.Bare.{Bare}
 use Rattle.journal_places.specs.declared.order.Early.{Early}
 use Rattle.journal_places.specs.declared.order.Order.{Order}
-use Rattle.journal_places.proofs.Ordering.{taken-early, taken-next, none-of}
+use Rattle.journal_places.proofs.Ordering.{taken-early, taken-next}
 use Rattle.journal_places.proofs.order.Order.take.Goals as goal
 
 pub returns-in-Some : goal.returns-in-Some
@@ -14,7 +15,7 @@ returns-in-Some c = λ fates count taken is.
     let o = c.args.self.now in
     let t : Early = record { index = c.args.index; line = c.args.line } in
     let next = c.in-Some.next in
-    let none : o.fault ≡ None = none-of o.fault (sym c.if-is_some.ensures) in
+    let none : o.fault ≡ None = none-there o.fault (sym c.if-is_some.ensures) in
     let at = subst (λ (f : Option ℕ). IsOrderAs f (deliveries fates count) taken o.waiting o.early.items) none is.order in
     let less : Carrying Bare = record { frames = o.waiting.frames; queue = drop 1 o.waiting.queue; later = o.waiting.later } in
     elim (cases_eq t.index next) [
@@ -35,7 +36,7 @@ pub returns-in_ok-push_back-in-None : goal.returns-in_ok-push_back-in-None
 returns-in_ok-push_back-in-None c = λ fates count taken is.
     let o = c.args.self.now in
     let t : Early = record { index = c.args.index; line = c.args.line } in
-    let none : o.fault ≡ None = none-of o.fault (sym c.if-is_some.ensures) in
+    let none : o.fault ≡ None = none-there o.fault (sym c.if-is_some.ensures) in
     let at = subst (λ (f : Option ℕ). IsOrderAs f (deliveries fates count) taken o.waiting o.early.items) none is.order in
     record {
       frames = is.frames;

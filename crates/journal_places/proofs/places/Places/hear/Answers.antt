@@ -2,6 +2,7 @@ use Rattle.std.proofs.Common.{None, refl, ap, sym, subst, arith}
 use Rattle.std.specs.Prelude.{slice_set}
 use Rattle.std.proofs.lemmas.Result.{on_ok_weaker}
 use Rattle.std.specs.Vec.{with_item}
+use Rattle.uid_names.proofs.Somes.{take-some}
 use Rattle.dom_history.specs.declared.event.What.{What}
 use Rattle.dom_history.specs.declared.event.What.TheVariants.{Take}
 use Rattle.dom_history.specs.Plans.{fate_of}
@@ -10,7 +11,7 @@ use Rattle.journal_places.specs.Links.{link_place, at_link}
 use Rattle.journal_places.specs.Orders.{IsOrder}
 use Rattle.journal_places.specs.Judged.{KeepsPlaces, least_of, line_if, tells_old, taken_then}
 use Rattle.journal_places.specs.declared.places.Places.{Places}
-use Rattle.journal_places.proofs.LinkPlaces.{read-at, take-some}
+use Rattle.journal_places.proofs.LinkPlaces.{read-at}
 use Rattle.journal_places.proofs.Placing.{keeps-same, least-none, take-keeps}
 use Rattle.journal_places.proofs.places.Places.hear.Goals as goal
 

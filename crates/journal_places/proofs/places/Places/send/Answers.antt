@@ -2,6 +2,7 @@ use Rattle.std.proofs.Common.{◌≡◌, ◌+◌, Option, Some, IfSome, refl, ap
 use Rattle.std.specs.Prelude.{slice_set}
 use Rattle.std.proofs.lemmas.Result.{on_ok_weaker}
 use Rattle.std.specs.Vec.{with_item}
+use Rattle.uid_names.proofs.Somes.{take-some}
 use Rattle.dom_history.specs.declared.event.Sent.{Sent}
 use Rattle.dom_history.specs.Plans.{fate_of}
 use Rattle.fault_handler.specs.Desks.{IsNode}
@@ -9,7 +10,7 @@ use Rattle.journal_places.specs.Links.{link_place, at_link}
 use Rattle.journal_places.specs.Orders.{IsOrder}
 use Rattle.journal_places.specs.Judged.{KeepsPlaces, sent_then}
 use Rattle.journal_places.specs.declared.places.Places.{Places}
-use Rattle.journal_places.proofs.LinkPlaces.{read-at, take-some}
+use Rattle.journal_places.proofs.LinkPlaces.{read-at}
 use Rattle.journal_places.proofs.Placing.{send-keeps}
 use Rattle.journal_places.proofs.places.Places.send.Goals as goal
 

@@ -1,5 +1,5 @@
 use Rattle.std.proofs.Common.{◌∙◌, sym}
-use Rattle.node_posts.proofs.Keeping.{none-there}
+use Rattle.uid_names.proofs.Somes.{none-there}
 use Rattle.node_posts.proofs.Asking.{run-live}
 use Rattle.node_posts.proofs.post.Post.answered.Goals as goal
 

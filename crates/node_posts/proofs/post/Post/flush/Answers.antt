@@ -1,6 +1,7 @@
 use Rattle.std.proofs.Common.{refl, sym, ◌∙◌}
+use Rattle.uid_names.proofs.Somes.{none-there}
 use Rattle.node_posts.proofs.Going.{goes-same}
-use Rattle.node_posts.proofs.Keeping.{none-there, flush-goes}
+use Rattle.node_posts.proofs.Keeping.{flush-goes}
 use Rattle.node_posts.proofs.post.Post.flush.Goals as goal
 
 pub returns-then-has_fault-clause-goes : goal.returns-then-has_fault-clause-goes

@@ -1,11 +1,12 @@
 use Rattle.std.proofs.Common.{refl, sym, subst, ◌∙◌}
 use Rattle.std.specs.Prelude.{IsTrue}
+use Rattle.uid_names.proofs.Somes.{none-there}
 use Rattle.dom_history.specs.declared.event.What.{What}
 use Rattle.world_runs.specs.NamedNodes.{NamesNodesIn}
 use Rattle.ring_links.specs.Notices.{notice_incoming}
 use Rattle.node_posts.specs.Turns.{MayDo, IsDone}
 use Rattle.node_posts.proofs.Going.{goes-same}
-use Rattle.node_posts.proofs.Keeping.{none-there, alike-goes, hear-may, hear-early, hear-either}
+use Rattle.node_posts.proofs.Keeping.{alike-goes, hear-may, hear-early, hear-either}
 use Rattle.node_posts.proofs.post.Post.hear.Goals as goal
 
 pub returns-then-has_fault : goal.returns-then-has_fault

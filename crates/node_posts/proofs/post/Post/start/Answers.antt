@@ -1,6 +1,7 @@
 use Rattle.std.proofs.Common.{◌∙◌, sym, arith}
+use Rattle.uid_names.proofs.Somes.{none-there}
 use Rattle.node_posts.proofs.Going.{goes-same}
-use Rattle.node_posts.proofs.Keeping.{none-there, start-may, start-goes, goes-either}
+use Rattle.node_posts.proofs.Keeping.{start-may, start-goes, goes-either}
 use Rattle.node_posts.proofs.post.Post.start.Goals as goal
 
 pub returns-then-has_fault-clause-goes : goal.returns-then-has_fault-clause-goes

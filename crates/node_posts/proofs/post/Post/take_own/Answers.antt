@@ -1,12 +1,13 @@
 use Rattle.std.proofs.Common.{ℕ, refl, sym, ap, subst, ◌∙◌}
 use Rattle.std.specs.Prelude.{IsTrue, IsFalse}
+use Rattle.uid_names.proofs.Somes.{none-there}
 use Rattle.dom_history.specs.declared.event.What.{What}
 use Rattle.world_runs.specs.NamedNodes.{NamesNodesIn}
 use Rattle.node_core.specs.Receivings.{seen}
 use Rattle.node_posts.specs.Ends.{own_event}
 use Rattle.node_posts.specs.Turns.{MayDo, IsDone, IsRefused}
 use Rattle.node_posts.proofs.Going.{goes-same}
-use Rattle.node_posts.proofs.Keeping.{none-there, own-none, own-goes-may, own-comes-early, own-either}
+use Rattle.node_posts.proofs.Keeping.{own-none, own-goes-may, own-comes-early, own-either}
 use Rattle.node_posts.proofs.post.Post.take_own.Goals as goal
 
 pub returns-then-has_fault : goal.returns-then-has_fault

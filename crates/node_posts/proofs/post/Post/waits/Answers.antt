@@ -1,6 +1,7 @@
 use Rattle.std.proofs.Common.{refl, sym, ◌∙◌}
+use Rattle.uid_names.proofs.Somes.{none-there}
 use Rattle.node_posts.proofs.Going.{goes-same}
-use Rattle.node_posts.proofs.Keeping.{none-there, looked-goes}
+use Rattle.node_posts.proofs.Keeping.{looked-goes}
 use Rattle.node_posts.proofs.post.Post.waits.Goals as goal
 
 pub returns-then-has_fault : goal.returns-then-has_fault

@@ -2,6 +2,7 @@ use Rattle.std.proofs.Common.{◌≡◌, ℕ, ◌+◌, ◌<◌, ◌∙◌, ap, s
 use Rattle.std.specs.Prelude.{IsTrue, Some}
 use Rattle.std.specs.Option.{option_map}
 use Rattle.uid_names.specs.Names.{ProcName}
+use Rattle.uid_names.proofs.Failures.{on-any-err}
 use Rattle.call_once.specs.declared.served.Looked.TheVariants.{Fresh, Again}
 use Rattle.call_once.specs.Calls.{body_of}
 use Rattle.ring_messages.specs.Bodies.{Ask, ask_of}
@@ -14,7 +15,6 @@ use Rattle.ring_messages.proofs.Asking.{asked-of}
 use Rattle.page_server.proofs.Bounds.{IsServer-later}
 use Rattle.page_server.proofs.Sides.{IsServer-asked, asked-range}
 use Rattle.page_server.proofs.Rising.{asked-node}
-use Rattle.page_server.proofs.Refusals.{on-any-err}
 use Rattle.page_server.proofs.Copying.{nothing-said, each-said, failed-says}
 use Rattle.page_server.proofs.Leaving.{tick-below, looked-so, left-alone, wants-so, leaves-fresh, leaves-again, leaves-old}
 use Rattle.page_server.proofs.server.PageServer.serve.Goals as goal

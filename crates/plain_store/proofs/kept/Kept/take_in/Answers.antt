@@ -1,14 +1,9 @@
-use Rattle.std.specs.Prelude.{Result, Ok, Err, OnErr}
+use Rattle.uid_names.proofs.Failures.{on-any-err}
 use Rattle.dom_history.specs.StoreEffects.{store_effects}
 use Rattle.plain_store.proofs.kept.Kept.take_in.Goals as goal
 
--- what holds anyway holds of an error
-on_err : {T E : Type 0} {P : Type 0} (r : Result T E) → P → OnErr r P
-on_err (Ok x) h = tt
-on_err (Err e) h = h
-
 pub returns-in_err-write-clause-err : goal.returns-in_err-write-clause-err
-returns-in_err-write-clause-err c = on_err c.from_residual.result (λ opening deeds held. record {
+returns-in_err-write-clause-err c = on-any-err c.from_residual.result (λ opening deeds held. record {
   objects = held.objects;
   locks = held.locks;
   maps = held.maps;

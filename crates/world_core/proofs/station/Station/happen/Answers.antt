@@ -1,6 +1,7 @@
 use Rattle.std.proofs.Common.{Vec, Global, ◌≡◌, ◌<◌, Option, IfSome, true, sym, ap, subst}
 use Rattle.std.specs.Prelude.{slice_get}
 use Rattle.std.proofs.lemmas.Option.{slice_get_within}
+use Rattle.uid_names.proofs.Somes.{take-some}
 use Rattle.node_runs.specs.Incomings.{Incoming, tick_of}
 use Rattle.ring_links.specs.declared.entry.Entry.{Entry}
 use Rattle.node_core.specs.declared.setup.Incoming as code
@@ -12,7 +13,6 @@ use Rattle.ring_links.specs.declared.notice.Notice.{Notice}
 use Rattle.ring_links.specs.Notices.{notice_incoming}
 use Rattle.world_core.specs.Stations.{Candidate}
 use Rattle.world_core.specs.Listed.{event_at}
-use Rattle.ended_nodes.proofs.Elements.{if_some}
 use Rattle.world_core.proofs.Found.{IsFoundAt}
 use Rattle.world_core.specs.declared.station.LinkFrom.{LinkFrom}
 use Rattle.world_core.proofs.OnOks.{if_ok, if_ok_and}
@@ -41,7 +41,7 @@ hear-requires-clause-notice g c =
     let coming = c.index-coming.result.now in
     let at = at-place x c.args.place coming c.requires.listed c.requires.within c.index-coming.ensures in
     let found = subst (λ (s : source.Source). IsFoundAt x.notices.items x.ins.items at.candidate.incoming s) c.in-Notice.is at.found in
-    let early = if_some (λ (k : Candidate). tick_of k.incoming < 1099511627776) (event_at x c.args.place) at.candidate at.there c.requires.early in
+    let early = take-some (λ (k : Candidate). tick_of k.incoming < 1099511627776) (event_at x c.args.place) at.candidate at.there c.requires.early in
     subst (λ (r : Option Notice). IfSome r (λ y. (is_enabled x.node coming.what (notice_incoming y) ≡ true) × (y.tick < 1099511627776))) (sym found.there)
     (subst (λ (i : Incoming). is_enabled x.node coming.what i ≡ true) found.received at.enabled, subst (λ (i : Incoming). tick_of i < 1099511627776) found.received early)
 
@@ -59,7 +59,7 @@ take-requires-clause-entry g c =
     let coming = c.index-coming.result.now in
     let at = at-place x c.args.place coming c.requires.listed c.requires.within c.index-coming.ensures in
     let found = subst (λ (s : source.Source). IsFoundAt x.notices.items x.ins.items at.candidate.incoming s) c.in-Link.is at.found in
-    let early = if_some (λ (k : Candidate). tick_of k.incoming < 1099511627776) (event_at x c.args.place) at.candidate at.there c.requires.early in
+    let early = take-some (λ (k : Candidate). tick_of k.incoming < 1099511627776) (event_at x c.args.place) at.candidate at.there c.requires.early in
     entry-there x.node coming.what 1099511627776 x.ins.items c.in-Link.at at.candidate.incoming found at.enabled early
 
 pub returns-in-Nothing : goal.returns-in-Nothing
