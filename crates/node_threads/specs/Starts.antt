@@ -5,7 +5,7 @@ use Rattle.dom_history.specs.declared.op.Want.{Want}
 use Rattle.dom_history.specs.declared.plan.FateRow.{FateRow}
 use Rattle.node_runs.specs.Setups.{Setup}
 use Rattle.node_posts.specs.declared.post.Post.{Post}
-pub use Rattle.node_posts.specs.Starts.{ArePosts, AreRings}
+pub use Rattle.node_posts.specs.Starts.{AreNodes, ArePosts, AreRings}
 
 module _ {P G : Type 0} (wants : P → Want) (becomes : P → Option Reply → P) where
   -- it holds of each setup, of the programs that were made and of each plan by which these are the posts at the start
