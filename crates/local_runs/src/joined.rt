@@ -8,8 +8,8 @@ ghost use Rattle.local_runs.specs.LocalRuns.{AreLocalRuns, AreDelivered, IsMerge
 ghost use Rattle.local_runs.specs.Posts.{Numbered, AreServed, HaveEnded, own_of, world_at};
 ghost use Rattle.local_runs.specs.JoinedMerges.{OfServedPosts, OfServedLogs, EndTogether};
 
-use crate::merged::merged_logs_are_a_merge;
 use crate::laws::{delivered_local_runs_are_planned, local_runs_are_one_run};
+use crate::merged::merged_logs_are_a_merge;
 use ring_messages::laws::frames_have_one_spelling;
 
 /// Posts that were served each alone, over rings of which each gave a first part of what its sender's wire put, are local runs in

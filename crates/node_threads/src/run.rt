@@ -17,6 +17,7 @@ use crate::laws::logs_of_threads_are_one_recent_run;
 use crate::threads::serve_all;
 use dom_history::{NodeLog, Program};
 use ended_nodes::take_apart;
+use local_runs::joined::{served_posts_are_local_runs, threads_make_a_planned_run};
 use local_runs::merged::local_runs_have_a_merge;
 use node_core::RunFault;
 use node_posts::Post;
@@ -25,7 +26,6 @@ use std::alloc::Global;
 use std::sync::Wait;
 use std::thread::Threads;
 use uid_names::ProcId;
-use local_runs::joined::{served_posts_are_local_runs, threads_make_a_planned_run};
 
 /// The fault of the lowest node to which one came, of posts by number.
 fn lowest_fault<P: Program, G: Pages>(posts: &[Post<P, G>]) -> Option<RunFault>

@@ -5,3 +5,10 @@ pub mod Drops
 pub mod PageNames
 pub mod Spelling
 pub mod Journals
+pub mod Steps
+pub mod Prefixes
+pub mod Planned
+pub mod AtLines
+pub mod JournalLengths
+pub mod Verdicts
+pub mod Over

@@ -1,2 +1,9 @@
 pub mod Begins
 pub mod Journals
+pub mod RecentRuns
+pub mod Deciding
+pub mod Places
+pub mod Accepted
+pub mod Causes
+pub mod OverFrames
+pub mod Matching

@@ -26,14 +26,14 @@ ghost use Rattle.run_laws.specs.HeardOf.{heard_by_phase, heard_of, AsksForEachEn
 ghost use Rattle.run_laws.specs.HeardByHistories.{heard_by_history, AreHeardByPhase, AreHeardByAsks, AreHeardAsSaid};
 ghost use Rattle.run_laws.specs.HeardSamples as sample;
 
-use crate::ends::no_turn_is_stuck;
-use crate::left::a_home_has_what_was_stored_at_an_unlock;
-use crate::moves::each_history_is_one_of_one_store;
 use crate::calls::{
     ended_runs_have_ended_histories, entries_are_what_programs_heard, histories_follow_programs,
     open_operations_stand_last, phases_never_overlap, programs_of_ended_runs_are_done,
 };
+use crate::ends::no_turn_is_stuck;
 use crate::homes::an_open_call_finds_what_it_needs;
+use crate::left::a_home_has_what_was_stored_at_an_unlock;
+use crate::moves::each_history_is_one_of_one_store;
 use world_runs::laws::{ticks_are_few, turns_are_a_run_by_place};
 
 /// A run of at most 2^40 events gives no node a tick above 2^40.

@@ -4,7 +4,7 @@ use Rattle.std.specs.Prelude.{codes, String, string_bytes, unwrap_or}
 use Rattle.dom_text.specs.Numbers.{number_spelled}
 use Rattle.script_runner.specs.declared.words.Asked.{Asked}
 use Rattle.script_runner.specs.declared.words.Asked.TheVariants.{Reads, Generates}
-use Rattle.script_runner.specs.Words.{AskFor, AskToRead, AskToGenerate}
+use Rattle.script_runner.specs.Words.{AskFor, AskToRun, AskToCheck, IsTaken, AskToRead, AskToGenerate}
 
 -- the word at a place
 abbrev word_at : ℕ → List (List ℕ) → List ℕ
@@ -81,6 +81,22 @@ asked_once words (Reads t) (Reads u) first second = ap Reads (turns_once (map st
 asked_once words (Reads t) (Generates n u) first second = absurd (never_both (map string_bytes words) t n u first second)
 asked_once words (Generates m t) (Reads u) first second = absurd (never_both (map string_bytes words) u m t second first)
 asked_once words (Generates m t) (Generates n u) first second = seeds_once (map string_bytes words) m n t u first second
+
+-- words that ask for a run don't ask for a check
+pub run_or_check : {Z : Type 0} (words : List (String Z)) (a : Asked) → AskFor words a → AskToCheck words → ⊥
+run_or_check words (Reads turns) runs checks =
+    let same : codes "run" ≡ codes "check" = sym (read_first (map string_bytes words) turns runs) ∙ ap (word_at 0) checks in
+    let letters : 114 ≡ 99 = ap (λ (word : List ℕ). slice_index_or word 0 0) same in
+    absurd (omega (arith, letters))
+run_or_check words (Generates seed turns) runs checks =
+    let same : codes "gen" ≡ codes "check" = sym (generate_first (map string_bytes words) seed turns runs) ∙ ap (word_at 0) checks in
+    let letters : 103 ≡ 99 = ap (λ (word : List ℕ). slice_index_or word 0 0) same in
+    absurd (omega (arith, letters))
+
+-- words that ask for neither are not taken
+pub neither : {Z : Type 0} (words : List (String Z)) → (AskToRun words → ⊥) → (AskToCheck words → ⊥) → IsTaken words → ⊥
+neither words runs checks (inl is) = runs is
+neither words runs checks (inr is) = checks is
 
 -- so what holds of what they ask for holds of all that they ask for
 pub of_each : {Z : Type 0} (words : List (String Z)) (a : Asked) → AskFor words a → (P : Asked → Type 0) → P a → (b : Asked) → AskFor words b → P b

@@ -8,3 +8,8 @@ pub mod FirstNodes
 pub mod RanNodes
 pub mod Threads
 pub mod Again
+pub mod CheckedNodes
+pub mod Parting
+pub mod OneSaid
+pub mod CheckPromises
+pub mod Saying

@@ -17,7 +17,7 @@ use Rattle.script_runner.specs.DueTexts.{IsRead, IsUnread}
 use Rattle.script_runner.proofs.Sourced.{AreNeverBoth, AreOneContent, same_script, not_lacking, script_not_refused}
 
 -- numbers that a test tells apart
-differs : (test : ℕ → Bool) (m n : ℕ) → test m ≡ true → test n ≡ false → m ≡ n → ⊥
+pub differs : (test : ℕ → Bool) (m n : ℕ) → test m ≡ true → test n ≡ false → m ≡ n → ⊥
 differs test m n holds fails is = let both : true ≡ false = sym holds ∙ (ap test is ∙ fails) in absurd (cc)
 
 -- the statuses of a run that is written, of a refusal, of a text and where nothing is written

@@ -51,12 +51,12 @@ use Rattle.script_runner.specs.Reports.{RunOf, answers_in}
 use Rattle.script_runner.proofs.FirstNodes.{shell_found}
 
 -- each process of a script is one of its nodes
-processes_named : (s : Content) → IsContent s → All (λ p. IsNode (length s.nodes) p.node) (processes_of s.commands)
+pub processes_named : (s : Content) → IsContent s → All (λ p. IsNode (length s.nodes) p.node) (processes_of s.commands)
 processes_named s content = processes_of-All (λ p. IsNode (length s.nodes) p.node) s.commands
     (All-weaker (IsCommandRow (length s.nodes) s.phases) (λ row. IsNode (length s.nodes) row.proc.node) (λ row h. (h.proc.node.0, h.node)) s.commands content.draft.commands)
 
 -- the shell of each process of a script is made
-shells_made : (s : Content) → All (λ p. made_shell s p.node p.number ≡ Some (shell_of s p)) (processes_of s.commands)
+pub shells_made : (s : Content) → All (λ p. made_shell s p.node p.number ≡ Some (shell_of s p)) (processes_of s.commands)
 shells_made s i d below = shell_found s (processes_of s.commands) (slice_index_or (processes_of s.commands) i d) i d below refl
 
 -- a node of so many has a name

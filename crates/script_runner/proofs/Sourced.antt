@@ -14,11 +14,11 @@ use Rattle.script_runner.specs.Domain.{AreLeft, IsSourceOf, IsTakenTo, IsBadSour
 use Rattle.script_runner.specs.Promises.{HasScript, LacksScript}
 
 -- so many zeros
-zeros : ℕ → List ℕ
+pub zeros : ℕ → List ℕ
 zeros zero = []
 zeros (suc n) = 0 ∷ zeros n
 
-length-zeros : (n : ℕ) → length (zeros n) ≡ n
+pub length-zeros : (n : ℕ) → length (zeros n) ≡ n
 unfolding zeros
 length-zeros zero = refl
 length-zeros (suc n) = ap suc (length-zeros n)

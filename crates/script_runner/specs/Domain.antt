@@ -22,11 +22,15 @@ use Rattle.script_runner.specs.Reports.{RunOf, journal_of}
 use Rattle.script_runner.specs.Faults.{ComesToLastTick}
 
 abbrev pub usage : List ℕ
-usage = codes "usage: domain run [--turns N] | domain gen SEED [--turns N]\n"
+usage = codes "usage: domain run [--turns N] | domain gen SEED [--turns N] | domain check\n"
+
+-- what is said of a line, and why
+abbrev pub line_text : ℕ → List ℕ → List ℕ
+line_text line why = codes "line " ++ decimal line ++ codes ": " ++ why ++ codes "\n"
 
 -- what is said of a bad line
 abbrev pub refusal : ℕ → Cause → List ℕ
-refusal line cause = codes "line " ++ decimal line ++ codes ": " ++ cause_text cause ++ codes "\n"
+refusal line cause = line_text line (cause_text cause)
 
 -- the bytes are all that the source had left, where it tells that
 abbrev pub AreLeft : Option (List ℕ) → List ℕ → Type 0

@@ -8,3 +8,6 @@ pub mod Faults
 pub mod Answered
 pub mod Nodes
 pub mod EndedShells
+pub mod Checked
+pub mod Parted
+pub mod Checking

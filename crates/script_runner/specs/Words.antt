@@ -39,9 +39,17 @@ abbrev pub AskFor : {Z : Type 0} → List (String Z) → Asked → Type 0
 AskFor words (Reads turns) = AskToRead (map string_bytes words) turns
 AskFor words (Generates seed turns) = AskToGenerate (map string_bytes words) seed turns
 
+-- the words ask for a run
+abbrev pub AskToRun : {Z : Type 0} → List (String Z) → Type 0
+AskToRun words = (asked : Asked) × AskFor words asked
+
+-- the words ask whether a journal is that of a run of its script: `check`, alone
+abbrev pub AskToCheck : {Z : Type 0} → List (String Z) → Type 0
+AskToCheck words = map string_bytes words ≡ codes "check" ∷ []
+
 -- the words are taken
 abbrev pub IsTaken : {Z : Type 0} → List (String Z) → Type 0
-IsTaken words = (asked : Asked) × AskFor words asked
+IsTaken words = AskToRun words ⊎ AskToCheck words
 
 -- the number of the turns, if the words say one
 abbrev pub turns_of : Asked → Option ℕ

@@ -2,25 +2,26 @@
 ghost use Rattle.std.specs.Prelude.{◌≡◌, ◌≢◌, ◌+◌, ◌≤◌, ◌⊎◌, map, IfOk, IfErr, IsErrOf};
 ghost use Rattle.dom_io.specs.Counts.{CountRose};
 ghost use Rattle.dom_io.specs.Known.{TakesAtMost};
-ghost use Rattle.script_reader.specs.declared.cause.Cause.{Cause};
 ghost use Rattle.script_runner.specs.declared.words.Asked.{Asked};
 ghost use Rattle.script_runner.specs.declared.words.Asked.TheVariants.{Reads, Generates};
-ghost use Rattle.script_runner.specs.Words.{AskFor, IsTaken, turns_of};
+ghost use Rattle.script_runner.specs.Checking.{PromiseOfCheck};
+ghost use Rattle.script_runner.specs.Words.{AskFor, AskToCheck, IsTaken, turns_of};
 ghost use Rattle.script_runner.specs.Reports.{answers_in};
-ghost use Rattle.script_runner.specs.Outside.{Bytes, from_to, over, IsSame, Fails, Adds, AddsPart, AddsOrFails};
-ghost use Rattle.script_runner.specs.Domain.{refusal as refusal_text, IsScriptFor, LimitFor};
+ghost use Rattle.script_runner.specs.Outside.{Bytes, from_to, over, IsSame, Fails, Adds, AddsPart};
+ghost use Rattle.script_runner.specs.Domain.{IsScriptFor, LimitFor};
 ghost use Rattle.script_runner.specs.Promises.{IsStatusOf, RefusesWords, Promised};
 ghost use Rattle.script_runner.specs.DueTexts.{told_for, IsEndOf, IsDueFor, IsRead, IsUnread};
 
+use crate::checking::check_source;
 use crate::names::names_of;
 use crate::report::report;
 use crate::run::{AnswerRow, MergedRan, run_merged};
 use crate::run_journal::RunJournal;
 use crate::summary::summary;
-use crate::words::{Asked, words_asked};
+use crate::texts::{refusal, write_text};
+use crate::words::{Asked, ask_to_check, words_asked};
 use dom_history::NodeNames;
 use dom_io::{ReadEnd, Sink, Source, read_all, write_all};
-use dom_text::put_decimal;
 use node_core::RunFault;
 use node_threads::Gate;
 use script_maker::generate;
@@ -32,7 +33,8 @@ use std::thread::Threads;
 use thiserror::Error;
 use uid_names::{ByteList, NoMemory, SCRIPT_BYTES};
 
-const USAGE: &[u8; 60] = b"usage: domain run [--turns N] | domain gen SEED [--turns N]\n";
+const USAGE: &[u8; 75] =
+    b"usage: domain run [--turns N] | domain gen SEED [--turns N] | domain check\n";
 
 /// No event gives a node this tick.
 const LAST_TICK: u64 = 1 << 40;
@@ -66,18 +68,6 @@ impl From<NoMemory> for RunEnd {
     fn from(_error: NoMemory) -> RunEnd {
         RunEnd::NoMemory
     }
-}
-
-/// What is said of a bad line.
-fn refusal(alloc: Global, line: u32, cause: Cause) -> Result<ByteList, NoMemory>
-    ensures { IfOk result (λ text. text ≡ refusal_text line cause) }
-{
-    let mut text = ByteList::from_slice(alloc, b"line ")?;
-    put_decimal(&mut text, u64::from(line))?;
-    text.extend(b": ")?;
-    text.extend(cause.text().as_bytes())?;
-    text.extend(b"\n")?;
-    Ok(text)
 }
 
 /// What is told of these answers: the report, or the line that sums up those of a script that was generated.
@@ -182,17 +172,6 @@ fn asked_due<S: Source, K: Gate, R: Threads + Wait + Sync>(
     }
 }
 
-/// Writes a text: the status, or 5 where a write failed.
-fn write_text<O: Sink>(out: &mut O, text: &[u8], status: u8) -> u8
-    ensures either { AddsOrFails (over O.held O.faults out.old out.new) text.now status result }
-    ensures count { O.faults out.old ≤ O.faults out.new }
-{
-    match write_all(out, text) {
-        Ok(()) => status,
-        Err(_) => 5,
-    }
-}
-
 /// Writes what is told of a run, and then the journal: 0, or 5 where a write of the text failed, 6 where one of the journal did,
 /// and 7, before anything is written, without memory.
 fn write_run<O: Sink, J: Sink>(
@@ -253,16 +232,19 @@ fn run_asked<S: Source, O: Sink, J: Sink, K: Gate, R: Threads + Wait + Sync>(
 /// Runs the program: `words` are those of the command line, `script` is standard input, `out` standard output and
 /// `journal` standard error. What is told of a run is the report of the script that was read, or the line that sums up the
 /// run of the one that was generated. Where the words say a number of turns the nodes run on one thread; else each has a thread of its
-/// own, the gate delays commands, and the call may wait. The answer is the exit status:
+/// own, the gate delays commands, and the call may wait. Where the word is `check` nothing is run: the source has a script, a line
+/// `--- journal`, and a journal, and `journal` stays as it was. The answer is the exit status:
 ///
-/// - 0: what is told of a run of the script was written, and the journal;
+/// - 0: what is told of a run of the script was written, and the journal; or the journal is that of an ended and recent run of its script,
+///   by its faults, and how many events it has was written, and the report;
 /// - 2: the words are not taken, and the usage was written;
 /// - 3: the source has no script, and its first bad line was named with the cause;
 /// - 4: a read failed;
 /// - 5: a write to `out` failed;
 /// - 6: what is told of a run was written, and a write to `journal` failed;
 /// - 7: there was no memory;
-/// - 8: a node came to the last tick.
+/// - 8: a node came to the last tick;
+/// - 9: there is no line `--- journal`, or the journal is not that of such a run, and its line at fault was named with the cause.
 ///
 /// Nothing takes memory once that begins to be written.
 pub fn run_domain<S: Source, O: Sink, J: Sink, K: Gate, R: Threads + Wait + Sync>(
@@ -274,8 +256,9 @@ pub fn run_domain<S: Source, O: Sink, J: Sink, K: Gate, R: Threads + Wait + Sync
     journal: &mut J,
     gate: &K,
 ) -> u8
-    // Whatever the words are: a status of failure only where the count of faults rose, what stays as it was, and what was taken.
-    ensures statuses { IsStatusOf (over S.left S.faults script.old script.new) (over O.held O.faults out.old out.new) (over J.held J.faults journal.old journal.new) result }
+    // Whatever the words are, but `check`: a status of failure only where the count of faults rose, what stays as it was, and what was taken.
+    ensures statuses { (AskToCheck words.now → ⊥) →
+        IsStatusOf (over S.left S.faults script.old script.new) (over O.held O.faults out.old out.new) (over J.held J.faults journal.old journal.new) result }
 
     // Words that are not taken: the usage is written, or a first part of it where a write fails, and nothing is read.
     ensures words_refused { (IsTaken words.now → ⊥) → RefusesWords (over S.left S.faults script.old script.new) (over O.held O.faults out.old out.new) result }
@@ -289,7 +272,16 @@ pub fn run_domain<S: Source, O: Sink, J: Sink, K: Gate, R: Threads + Wait + Sync
     // line that sums up its answers.
     ensures kept { (a : Asked) → AskFor words.now a → Promised a (over S.left S.faults script.old script.new)
         (over O.held O.faults out.old out.new) (over J.held J.faults journal.old journal.new) result }
+
+    // The word `check`: what is written is what is to be said of the source's bytes, and no other status and text can be said of them. At 0 the
+    // journal is that of a run of the script as the one above, and the report is that of its history; at 9 it is of no such run, by the line and
+    // the first cause that are named.
+    ensures checked { AskToCheck words.now → PromiseOfCheck (over S.left S.faults script.old script.new) (over O.held O.faults out.old out.new) result }
+    ensures checked_alone { AskToCheck words.now → IsSame (over J.held J.faults journal.old journal.new) }
 {
+    if ask_to_check(words) {
+        return check_source(alloc, script, out);
+    }
     let Some(asked) = words_asked(words) else {
         return write_text(out, USAGE, 2);
     };

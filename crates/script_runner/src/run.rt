@@ -14,8 +14,8 @@ use crate::processes::processes_in;
 use aegis_shell::Shell;
 use aegis_shell::laws::shells_go_by_all_they_heard;
 use dom_history::{EventList, MergedLogs};
-use local_runs::merged::logs_of_local_runs_may_be_merged;
 use local_runs::merge;
+use local_runs::merged::logs_of_local_runs_may_be_merged;
 use node_core::RunFault;
 use node_threads::{Gate, make_posts, run_all};
 use script_reader::Script;
@@ -55,7 +55,7 @@ pub(crate) struct MergedRan {
 }
 
 /// Copies of a process's answers.
-fn answers_of(alloc: Global, shell: &Shell) -> Result<ItemList<ByteList>, NoMemory>
+pub(crate) fn answers_of(alloc: Global, shell: &Shell) -> Result<ItemList<ByteList>, NoMemory>
     ensures { IfOk result (λ answers. answers ≡ shell_answers shell.now) }
 {
     let mut answers = ItemList::new(alloc);

@@ -1,11 +1,11 @@
 //! The words of the command line.
 ghost use Rattle.std.specs.Prelude.{◌≡◌, codes, ◌↔◌, IsTrue, MatchOption};
 ghost use Rattle.dom_text.specs.Numbers.{number_spelled};
-ghost use Rattle.script_runner.specs.Words.{AskFor, IsTaken, turns_of};
+ghost use Rattle.script_runner.specs.Words.{AskFor, AskToRun, AskToCheck, turns_of};
 
 use dom_text::decimal;
 
-/// What the words ask for; a number of turns stands there if they say one.
+/// Which run the words ask for; a number of turns stands there if they say one.
 #[derive(Clone, Copy, Debug, PartialEq, Eq)]
 pub(crate) enum Asked {
     /// A run of the script that the source has.
@@ -50,9 +50,25 @@ fn number(word: &str) -> Option<u64>
     decimal(word.as_bytes()).ok()
 }
 
-/// What the words ask for; None where they are not taken.
+fn is_check(word: &str) -> bool
+    ensures { IsTrue result ↔ (word.now ≡ codes "check") }
+{
+    word == "check"
+}
+
+/// Whether the words ask for a check of a journal.
+pub(crate) fn ask_to_check(words: &[String]) -> bool
+    ensures { IsTrue result ↔ AskToCheck words.now }
+{
+    match words {
+        [check] => is_check(check.as_str()),
+        _ => false,
+    }
+}
+
+/// Which run the words ask for; None where they ask for none.
 pub(crate) fn words_asked(words: &[String]) -> Option<Asked>
-    ensures { MatchOption result (IsTaken words.now → ⊥) (AskFor words.now) }
+    ensures { MatchOption result (AskToRun words.now → ⊥) (AskFor words.now) }
 {
     match words {
         [run] if is_run(run.as_str()) => Some(Asked::Reads { turns: None }),

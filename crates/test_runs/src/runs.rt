@@ -87,3 +87,47 @@ fn threads_run_a_script_too(rt: HostRuntime) -> Result<(), Fail> {
     assert_eq!(rt; turns.map(|ran| ran.events.items().len()), Ok(19));
     Ok(())
 }
+
+#[test]
+fn a_line_that_parts_has_no_cr(rt: HostRuntime) -> Result<(), Fail> {
+    // The source of `check`, its status, and what it writes.
+    let rows: [(&[u8], u8, &[u8]); 4] = [
+        (b"node a\r\n--- journal\n1 a ready 1\n", 0, b"yes 1\n"),
+        (
+            b"node a\r\n--- journal\r\n1 a ready 1\n",
+            9,
+            b"line 0: no journal\n",
+        ),
+        (
+            b"node a\n--- journal\r\n--- journal\n",
+            3,
+            b"line 2: word\n",
+        ),
+        (
+            b"node a\r\n--- journal\n1 a ready 1\r\n",
+            9,
+            b"line 1: form\n",
+        ),
+    ];
+    let mut words = Vec::new(rt.alloc());
+    words.push(String::from_str(rt.alloc(), "check")?)?;
+    let words = words.as_slice();
+    for (bytes, status, text) in rows {
+        let mut source = MemSource::new(rt.alloc(), bytes, &[])?;
+        let mut out = MemSink::new(rt.alloc(), 100, &[])?;
+        let mut journal = MemSink::new(rt.alloc(), 100, &[])?;
+        let answer = run_domain(
+            &rt,
+            rt.alloc(),
+            words,
+            &mut source,
+            &mut out,
+            &mut journal,
+            &OpenGate,
+        );
+        assert_eq!(rt; answer, status);
+        assert_eq!(rt; out.bytes(), text);
+        assert!(rt; journal.bytes().is_empty());
+    }
+    Ok(())
+}

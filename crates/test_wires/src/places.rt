@@ -4,7 +4,7 @@ ghost use Rattle.dom_history.specs.Events.{IsKindNumber};
 ghost use Rattle.world_runs.specs.NamedNodes.{NamesNodes};
 
 use dom_history::{Dropped, Effects, Event, FaultPlan, Sent, What};
-use journal_places::Places;
+use journal_check::Places;
 use samples::node;
 use std::alloc::Global;
 use std::test::Fail;

@@ -16,6 +16,7 @@ macro_rules! timed {
     }};
 }
 
+mod checks;
 mod desk;
 mod files;
 mod home;
@@ -47,6 +48,7 @@ pub const NAMES: &str =
     cache-evictions-64 cache-evictions-256 scripts-read shells-made store-operations \
     node-accesses node-locks xorshift-steps \
     world-mixed world-resident world-locks world-evictions run-mixed run-resident run-locks run-evictions \
+    check-mixed check-resident check-locks check-evictions \
     names copies-256 copies-8 file-read \
     threads-mixed threads-resident threads-locks threads-evictions \
     threads-run-mixed threads-run-resident threads-run-locks threads-run-evictions";
@@ -86,6 +88,9 @@ fn take_run<R: Threads + Wait + Sync>(
 ) -> Result<(u64, u64)> {
     if let Some((order, work)) = run_named(name) {
         return runs::run(rt, threads, work, order, count);
+    }
+    if let Some(work) = name.strip_prefix("check-").and_then(work_named) {
+        return checks::check(rt, threads, work, count);
     }
     match world_named(name) {
         Some((order, work)) => worlds::run(rt, threads, work, order, count),

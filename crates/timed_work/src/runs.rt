@@ -86,7 +86,8 @@ fn put_node(alloc: Global, script: &mut ByteList, work: Work, node: u32) -> Resu
     }
 }
 
-fn put_script(alloc: Global, script: &mut ByteList, work: Work) -> Result<(), NoMemory> {
+/// A script of the work.
+pub fn put_script(alloc: Global, script: &mut ByteList, work: Work) -> Result<(), NoMemory> {
     put_head(alloc, script, work)?;
     match work {
         Work::Mixed => return put_mixed(alloc, script),
@@ -99,13 +100,13 @@ fn put_script(alloc: Global, script: &mut ByteList, work: Work) -> Result<(), No
     Ok(())
 }
 
-fn put_word(alloc: Global, words: &mut Vec<String>, word: &str) -> Result<(), NoMemory> {
+pub fn put_word(alloc: Global, words: &mut Vec<String>, word: &str) -> Result<(), NoMemory> {
     words.push(String::from_str(alloc, word)?)?;
     Ok(())
 }
 
 /// The words that ask for a run, in the turns of a number or by threads.
-fn put_words(
+pub fn put_words(
     alloc: Global,
     words: &mut Vec<String>,
     order: Order,

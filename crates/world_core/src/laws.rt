@@ -14,9 +14,9 @@ ghost use Rattle.world_core.specs.EnabledEvents.{ListsEnabled, ReceivesSent, Cou
 ghost use Rattle.world_core.specs.SoFar.{IsRightSoFar};
 
 use dom_history::Program;
-use run_laws::every::turns_come_to_right_runs;
 use page_store::Pages;
 use recent_runs::laws::turns_are_recent;
+use run_laws::every::turns_come_to_right_runs;
 use world_runs::laws::turns_are_a_run_by_place;
 
 /// The events that a node lists are those that are enabled there, in their order.

@@ -1,4 +1,0 @@
-//! What a journal must be that is one of a script: an ended, planned and recent run of it; and where one that is not is at fault.
-#![tactic(auto)]
-
-pub mod laws;

@@ -1,0 +1,9 @@
+pub mod Links
+pub mod Orders
+pub mod Judged
+pub mod Kept
+pub mod Changes
+pub mod Passes
+pub mod Verdicts
+pub mod Passing
+pub mod Journals
