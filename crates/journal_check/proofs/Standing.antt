@@ -45,6 +45,7 @@ use Rattle.world_runs.proofs.Sent.{IsSent as IsSentBy, step-sent}
 use Rattle.world_runs.proofs.Telling.{frame-is}
 use Rattle.run_laws.specs.FittingAnswers.{AreFittingAnswers, AnswersThis, IsFittingReply}
 use Rattle.run_laws.proofs.Fitting.{answers-fit}
+use Rattle.run_laws.proofs.WaitingNext.{only-one}
 use Rattle.node_core.specs.Nodes.{Noted, Stands}
 use Rattle.node_core.specs.Receivings.{seen, indexed, mark_in}
 use Rattle.node_core.specs.declared.setup.Incoming as code
@@ -67,10 +68,6 @@ use Rattle.journal_check.proofs.LinkChanges.{changed, link-there}
 use Rattle.journal_check.proofs.LinksAfter.{step-over-now, step-told, step-sent as link-sent, step-served, step-heard}
 use Rattle.journal_check.proofs.Overs.{asks-none, heard-over, taken-here, served-over}
 use Rattle.journal_check.proofs.Heads.{numbered-low}
-
-or-false : (a : Bool) → (a || false) ≡ true → a ≡ true
-or-false true is = refl
-or-false false is = absurd (cc)
 
 -- a frame that a process is told of was sent
 told-there : (p : ProcName) (o : Option Message) (i : Incoming) → Some i ≡ told_of p o → (m : Message) × (o ≡ Some m)
@@ -135,7 +132,7 @@ module _ {P G : Type 0} (wants : P → Want) (becomes : P → Option Reply → P
       by (Go p) r tells_it = absurd (cc)
       by (Take a k) r tells_it = absurd (cc)
       by (Notice p a b k) r tells_it =
-          let same : ◌≡◌ {A = FrameName} (from, to, index) (a, b, k) = frame-is (from, to, index) (a, b, k) (or-false (same_frame (from, to, index) (a, b, k)) tells_it) in
+          let same : ◌≡◌ {A = FrameName} (from, to, index) (a, b, k) = frame-is (from, to, index) (a, b, k) (only-one (same_frame (from, to, index) (a, b, k)) tells_it) in
           let there = told-there (record { node = n; number = p }) (numbered k (w.frames a b)) (seen i) r.0 in
           let low = numbered-low (w.frames a b) k there.0 there.1 in
           subst (λ (f : FrameName). f.2 ≤ length (w.frames f.0 f.1)) (sym same) low

@@ -4,7 +4,6 @@ ghost use Rattle.uid_names.specs.declared.ids.Place as places;
 ghost use Rattle.uid_names.specs.declared.limits.TheConstants.{MAX_NODES};
 ghost use Rattle.dom_history.specs.declared.event.What.TheVariants as events;
 ghost use Rattle.dom_history.specs.Events.{Happening};
-ghost use Rattle.dom_history.specs.Histories.{place_lt};
 ghost use Rattle.fault_handler.specs.Desks.{IsNode};
 ghost use Rattle.node_runs.specs.Setups.{Setup, IsSetup, given};
 ghost use Rattle.node_runs.specs.NodeStates.{is_ended};
@@ -22,6 +21,7 @@ use crate::{is_among, link_of, place_of};
 use dom_history::{Event, Program, What};
 use node_core::{Emitted, Incoming, Node};
 use page_store::Pages;
+use ring_links::is_before;
 use ring_messages::Frame;
 use run_journals::checked::a_step_is_decided_by_its_node;
 use std::alloc::Global;
@@ -66,12 +66,6 @@ fn have_ended<P: Program, G: Pages>(nodes: &[Node<P, G>]) -> bool
         }
     }
     true
-}
-
-fn is_before(a: Place, b: Place) -> bool
-    ensures { result ≡ place_lt a b }
-{
-    a.tick < b.tick || (a.tick == b.tick && a.node.number() < b.node.number())
 }
 
 /// Whether a place is above that of the last event, if there is one.

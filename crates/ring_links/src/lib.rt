@@ -10,5 +10,5 @@ pub mod notice;
 
 pub use entry::{Entry, Waiting};
 pub use link::Link;
-pub use merge::by_place;
+pub use merge::{by_place, is_before};
 pub use notice::{Notice, is_gone};

@@ -8,7 +8,8 @@ use dom_history::{MergedLogs, NodeLog};
 use std::alloc::Global;
 use uid_names::{NoMemory, Place};
 
-fn is_before(a: Place, b: Place) -> bool
+/// Whether a place is below another: by tick, and of one tick by the number of the node. Takes no memory.
+pub fn is_before(a: Place, b: Place) -> bool
     ensures { result ≡ place_lt a b }
 {
     a.tick < b.tick || (a.tick == b.tick && a.node.number() < b.node.number())

@@ -104,7 +104,7 @@ taken-here from to n i (Ready phase) is = absurd is
 taken-here from to n i (Mark a phase) is = absurd (no-mark ((a == from) && (n == to)) i phase is)
 
 -- a frame that an event tells
-only-one : (b : Bool) → (b || false) ≡ true → b ≡ true
+pub only-one : (b : Bool) → (b || false) ≡ true → b ≡ true
 only-one true h = refl
 only-one false h = absurd (cc)
 
