@@ -36,8 +36,8 @@ use uid_names::{ByteList, NoMemory, SCRIPT_BYTES};
 const USAGE: &[u8; 75] =
     b"usage: domain run [--turns N] | domain gen SEED [--turns N] | domain check\n";
 
-/// No event gives a node this tick.
-const LAST_TICK: u64 = 1 << 40;
+/// No event of a run that the program tells of gives a node this tick.
+pub const LAST_TICK: u64 = 1 << 40;
 
 /// What is due for a script.
 #[derive(Drop)]

@@ -8,7 +8,7 @@ use std::alloc::Global;
 use uid_names::NoMemory;
 
 /// The names of nodes.
-pub(crate) fn names_of(alloc: Global, rows: &[NodeRow]) -> Result<NodeNames, NoMemory>
+pub fn names_of(alloc: Global, rows: &[NodeRow]) -> Result<NodeNames, NoMemory>
     requires { AreNodeNames (map (λ n. n.name) rows.now) }
     ensures { IfOk result (λ names. names ≡ map (λ n. n.name) rows.now) }
 {

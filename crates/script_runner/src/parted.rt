@@ -29,7 +29,7 @@ fn bytes_before(bytes: &[u8]) -> Option<usize>
 }
 
 /// The bytes in front of the first line `--- journal`, and those behind it; None where no line is that. Takes no memory.
-pub(crate) fn parted(bytes: &[u8]) -> Option<(&[u8], &[u8])>
+pub fn parted(bytes: &[u8]) -> Option<(&[u8], &[u8])>
     ensures { MatchOption result (LacksParting bytes.now) (λ parts. IsParted bytes.now parts.0.now parts.1.now) }
 {
     let at = bytes_before(bytes)?;

@@ -42,11 +42,7 @@ fn put_lines(to: &mut ByteList, process: &[u8], answers: &[ByteList]) -> Result<
 }
 
 /// The report: the lines of each process, one process after another.
-pub(crate) fn report(
-    alloc: Global,
-    names: &NodeNames,
-    rows: &[AnswerRow],
-) -> Result<ByteList, NoMemory>
+pub fn report(alloc: Global, names: &NodeNames, rows: &[AnswerRow]) -> Result<ByteList, NoMemory>
     ensures { IfOk result (λ text. text ≡ lines_of names.now (map answers_in rows.now)) }
 {
     let mut text = ByteList::new(alloc);
