@@ -1,0 +1,10 @@
+//! Charts of lanes: what happened in each of some lanes, from the top down, and arrows from one to another. A chart is drawn for
+//! a terminal, or as a picture.
+#![tactic(auto)]
+
+pub mod chart;
+pub mod escape;
+pub mod laws;
+
+pub use chart::{Arrival, Arrow, Chart, ChartRow, MOST_LANES, MOST_ROWS};
+pub use escape::escaped;
