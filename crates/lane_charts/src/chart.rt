@@ -1,5 +1,5 @@
 //! What a chart shows.
-ghost use Rattle.std.specs.Prelude.{◌≡◌, ◌≤◌, length, All, IfOk, OnOk, OnErr};
+ghost use Rattle.std.specs.Prelude.{◌≡◌, ◌<◌, ◌≤◌, length, All, IfOk, OnOk, OnErr};
 
 use std::alloc::Global;
 use std::marker::Model;
@@ -144,5 +144,17 @@ impl Chart {
         ensures few { length self.now.arrows ≤ MOST_ROWS }
     {
         self.arrows.items()
+    }
+
+    /// The lane of the row of this index.
+    pub fn lane_of(&self, row: usize) -> usize
+        requires { row < length self.now.rows }
+        ensures value { result ≡ lane_at self.now.rows row }
+        ensures placed { result < length self.now.lanes }
+    {
+        match self.rows.items().get(row) {
+            Some(row) => row.lane,
+            None => unreachable!(),
+        }
     }
 }

@@ -2,9 +2,14 @@
 //! a terminal, or as a picture.
 #![tactic(auto)]
 
+mod cells;
 pub mod chart;
+mod cuts;
 pub mod escape;
 pub mod laws;
+pub mod text;
+mod way;
 
 pub use chart::{Arrival, Arrow, Chart, ChartRow, MOST_LANES, MOST_ROWS};
 pub use escape::escaped;
+pub use text::draw_text;
