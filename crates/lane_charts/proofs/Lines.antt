@@ -1,6 +1,6 @@
 -- The lines of a picture are apart, and its texts end where they are to.
-use Rattle.std.proofs.Common.{◌≡◌, ◌<◌, ◌≤◌, ◌+◌, ◌*◌, ◌%◌, ℕ, zero, suc, Bool, true, false, List, [], ◌∷◌, length, take, refl, arith}
-use Rattle.std.specs.Prelude.{◌==◌, nat_lt, cond, count_by}
+use Rattle.std.proofs.Common.{◌≡◌, ◌<◌, ◌≤◌, ◌+◌, ◌*◌, ◌%◌, ℕ, zero, suc, true, List, [], ◌∷◌, length, take, refl, arith}
+use Rattle.std.specs.Prelude.{◌==◌, nat_lt, cond}
 use Rattle.std.proofs.lemmas.Bool.{eqb-true}
 use Rattle.uid_names.proofs.ListLemmas.{count_by-cons}
 use Rattle.lane_charts.specs.Heads.{is_headed}

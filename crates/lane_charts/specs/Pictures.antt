@@ -1,6 +1,6 @@
 -- A chart as a picture: a head, a group for each row in their order, each with the arrows that it sends, and an end.
 use Rattle.std.specs.Prelude.{ℕ, zero, suc, ◌+◌, ◌-◌, ◌==◌, Bool, true, false, List, [], ◌∷◌, ◌++◌, codes, decimal, length}
-use Rattle.lane_charts.specs.Charts.{Drawing, lane_at}
+use Rattle.lane_charts.specs.Charts.{Drawing}
 use Rattle.lane_charts.specs.Escapes.{escaped_text}
 use Rattle.lane_charts.specs.Heads.{is_headed}
 use Rattle.lane_charts.specs.Layout.{fitting, lane_x, line_of, line_y, lines_in, right_of, stub_x, width_of, words_x}

@@ -1,5 +1,5 @@
 -- How a text in a picture is read again.
-use Rattle.std.specs.Prelude.{ℕ, ◌-◌, ◌==◌, nat_le, Bool, ◌&&◌, not, if◌then◌else◌, Option, Some, None, List, [], ◌∷◌, ◌++◌, codes, drop, unwrap_or}
+use Rattle.std.specs.Prelude.{ℕ, ◌-◌, ◌==◌, Bool, ◌&&◌, not, if◌then◌else◌, Option, Some, None, List, [], ◌∷◌, ◌++◌, codes, drop}
 use Rattle.std.specs.Str.{bytes_eq}
 use Rattle.dom_text.specs.Numbers.{number_spelled}
 use Rattle.lane_charts.specs.Escapes.{is_seen}
