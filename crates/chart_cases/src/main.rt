@@ -1,14 +1,27 @@
-//! The program `chart_cases`: draws small charts for a terminal and as pictures, and compares what it drew with the files of `data/`.
-//! Standard input has the names of the charts, one a line. What differs from its file is printed whole; what stands in `data/` was
-//! looked at by eye. No program stands on it.
+//! The program `chart_cases`: draws charts for a terminal and as pictures, and compares what it drew with files. Standard input has the
+//! names of the charts, one a line. In `data/` a chart NAME is described by `NAME.chart`, and drawn in `NAME.txt` and `NAME.svg`, which
+//! were looked at by eye. What differs is printed whole. No program stands on it.
+//!
+//! ```text
+//! two nodes
+//! a b
+//! row 1 0 a.1.1 lock x w
+//! row 2 1 takes LockAsk
+//! mark 5 1 phase 1
+//! sent 0 1 1 LockAsk x w
+//! copy 0 1 lost LockAsk x w
+//! ```
+//!
+//! The first line is the title, the second has the names of the lanes. A row or a mark has its tick, its lane and its label. An arrow
+//! has the row that it starts at, the lane that it goes to, the row that takes it or `lost` or `never`, and its label.
 #![tactic(auto)]
 
-mod samples;
+mod described;
 
 use anyhow::Result;
+use described::read_chart;
 use dom_io::{RealSink, write_all};
 use lane_charts::{draw_svg, draw_text};
-use samples::sample;
 use std::{fs, io};
 
 /// How many bytes the lines of a terminal have.
@@ -27,16 +40,23 @@ fn tell(rt: &HostRuntime, file: &str, drawn: &[u8]) -> Result<()> {
     Ok(())
 }
 
+/// Draws a chart, and tells of it.
+fn try_chart(rt: &HostRuntime, name: &str) -> Result<()> {
+    let file = format!(in rt.alloc(); "{name}.chart")?;
+    let description = fs::read_to_string(rt, file.as_str())?;
+    let chart = read_chart(rt.alloc(), description.as_str())?;
+    let text = draw_text(rt.alloc(), &chart, WIDTH)?;
+    let file = format!(in rt.alloc(); "{name}.txt")?;
+    tell(rt, file.as_str(), text.bytes())?;
+    let picture = draw_svg(rt.alloc(), &chart)?;
+    let file = format!(in rt.alloc(); "{name}.svg")?;
+    tell(rt, file.as_str(), picture.bytes())
+}
+
 fn main(rt: HostRuntime) -> Result<()> {
     for name in rt.lines(rt.alloc()) {
         let name = name?;
-        let chart = sample(rt.alloc(), name.as_str())?;
-        let text = draw_text(rt.alloc(), &chart, WIDTH)?;
-        let file = format!(in rt.alloc(); "{name}.txt")?;
-        tell(&rt, file.as_str(), text.bytes())?;
-        let picture = draw_svg(rt.alloc(), &chart)?;
-        let file = format!(in rt.alloc(); "{name}.svg")?;
-        tell(&rt, file.as_str(), picture.bytes())?;
+        try_chart(&rt, name.as_str())?;
     }
     Ok(())
 }

@@ -1,5 +1,5 @@
 //! What the lines of a chart in a terminal are made of.
-ghost use Rattle.std.specs.Prelude.{◌≡◌, ◌≤◌, ◌∷◌, [], ◌++◌, codes, take, IfOk, OnOk};
+ghost use Rattle.std.specs.Prelude.{◌≡◌, ◌≤◌, ◌∷◌, [], ◌++◌, OnOk};
 ghost use Rattle.lane_charts.specs.TextCells.{column_of, dash_of, head_of, lifeline, margin, point_of, repeated, shaft, shown as shown_text, shown_byte as shown_of, worded};
 
 use crate::chart::{Arrival, Arrow};

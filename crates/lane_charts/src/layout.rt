@@ -1,9 +1,8 @@
 //! Where things stand in a picture, in pixels.
 ghost use Rattle.std.specs.Prelude.{◌≡◌, ◌≤◌, ◌<◌, ◌^◌, length};
-ghost use Rattle.lane_charts.specs.Layout.{fitting as fitting_text, lane_x as lane_x_of, letters_between, line_of, lines_in, right_of, stub_x as stub_x_of, width_of, words_x as words_x_of};
-ghost use Rattle.lane_charts.specs.declared.chart.TheConstants.{MOST_LANES, MOST_ROWS};
+ghost use Rattle.lane_charts.specs.Layout.{fitting as fitting_text, lane_x as lane_x_of, line_of, lines_in, right_of, stub_x as stub_x_of, width_of, words_x as words_x_of};
 
-use crate::chart::{Chart, MOST_LANES, MOST_ROWS};
+use crate::chart::{Chart, MOST_LANES};
 use crate::cuts::first_of;
 use crate::way::Way;
 

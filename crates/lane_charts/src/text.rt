@@ -1,8 +1,8 @@
 //! Draws charts for terminals.
-ghost use Rattle.std.specs.Prelude.{◌≡◌, ◌<◌, ◌≤◌, ◌++◌, length, IfOk, OnOk};
+ghost use Rattle.std.specs.Prelude.{◌≡◌, ◌<◌, ◌≤◌, ◌++◌, IfOk, OnOk};
 ghost use Rattle.std.specs.List.{flat_map};
-ghost use Rattle.lane_charts.specs.Charts.{IsArrowOf, IsRowOf, lane_at};
-ghost use Rattle.lane_charts.specs.TextCharts.{arrow_cells, arrow_if, arrow_line, fails_at, is_not_taken, is_taken_at, names_if, names_line, row_block, row_cells, row_line, text_in, text_of};
+ghost use Rattle.lane_charts.specs.Charts.{IsArrowOf, IsRowOf};
+ghost use Rattle.lane_charts.specs.TextCharts.{arrow_if, arrow_line, fails_at, is_taken_at, names_line, row_block, row_cells, row_line, text_of};
 
 use crate::cells::{
     column_width, put_lifelines, put_margin, put_repeated, put_shaft, put_shown, put_worded,
