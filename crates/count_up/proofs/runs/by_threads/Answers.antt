@@ -5,6 +5,7 @@ use Rattle.count_up.specs.Counting.{made_counter, counting}
 use Rattle.node_threads.specs.Ran.{HaveRun}
 use Rattle.count_up.specs.Counters.{want_of, counter_after}
 use Rattle.count_up.specs.Sums.{HaveSeen}
+use Rattle.count_up.proofs.Counted.{counts_up}
 use Rattle.count_up.proofs.Ending.{by_threads_ended}
 use Rattle.count_up.proofs.Setting.{as_posts}
 use Rattle.count_up.proofs.runs.by_threads.Goals as goal
@@ -28,8 +29,8 @@ merge-requires g c =
     (c.in_ok-posts.ensures.posts (2 ^ 40) (omega arith) (made_counter rounds) (counting rounds) (as_posts rounds c.in_ok-nodes.nodes.items c.in_ok-nodes.ensures)) in
     c.logs_of_local_runs_may_be_merged.ensures (counting rounds) ran.owns ran.worlds c.in_ok-logs.logs.items ran.runs.runs ran.runs.logs_of ran.runs.apart
 
-pub returns : goal.returns
-returns g c =
+pub returns-clause-run : goal.returns-clause-run
+returns-clause-run g c =
     let rounds = c.args.rounds in
     let ran = c.in_ok-logs.ensures.run (made_counter rounds) (counting rounds) c.new-plan.result
     (c.in_ok-posts.ensures.posts (2 ^ 40) (omega arith) (made_counter rounds) (counting rounds) (as_posts rounds c.in_ok-nodes.nodes.items c.in_ok-nodes.ensures)) in
@@ -38,3 +39,15 @@ returns g c =
     (λ sum seen.
     by_threads_ended c.every_run_is_right.ensures.timely rounds sum c.in_ok-logs.logs.items c.in_ok-merge.field-0.events c.in_ok-logs.counters.items own c.in_ok-merge.ensures.merged
     (subst (HaveSeen sum) c.as_slice.ensures.value seen)) c.seen_by_all.ensures
+
+pub returns-clause-sum : goal.returns-clause-sum
+returns-clause-sum g c =
+    let rounds = c.args.rounds in
+    let ran = c.in_ok-logs.ensures.run (made_counter rounds) (counting rounds) c.new-plan.result
+    (c.in_ok-posts.ensures.posts (2 ^ 40) (omega arith) (made_counter rounds) (counting rounds) (as_posts rounds c.in_ok-nodes.nodes.items c.in_ok-nodes.ensures)) in
+    let own = subst (λ plan. HaveRun want_of counter_after (made_counter rounds) (counting rounds) plan c.in_ok-logs.logs.items c.in_ok-logs.counters.items) c.new-plan.ensures ran in
+    IfOk-weaker c.seen_by_all.result _ _
+    (λ sum seen some.
+    counts_up c.an_ended_run_ends_its_programs.ensures.history rounds sum (λ is. absurd (omega (arith, is, some))) (omega (arith, c.ranges.rounds.fits))
+    (by_threads_ended c.every_run_is_right.ensures.timely rounds sum c.in_ok-logs.logs.items c.in_ok-merge.field-0.events c.in_ok-logs.counters.items own c.in_ok-merge.ensures.merged
+    (subst (HaveSeen sum) c.as_slice.ensures.value seen))) c.seen_by_all.ensures
