@@ -1,22 +1,21 @@
 -- The number that all three loaded last is the sum of their rounds.
 use Rattle.std.proofs.Common.{◌≡◌, ◌≢◌, ℕ, ◌-◌, ◌*◌, ◌<◌, ◌≤◌, ◌==◌, Bool, true, false, Option, Some, None, List, [], ◌∷◌, refl, sym, ◌∙◌, ap, subst, inl, inr, arith}
-use Rattle.std.specs.Prelude.{◌⊎◌, ◌&&◌, ◌||◌, ◌^◌, All, slice_index_or}
+use Rattle.std.specs.Prelude.{◌⊎◌, ◌&&◌, ◌^◌, slice_index_or}
 use Rattle.std.proofs.lemmas.Bool.Decides.{nat_tests}
 use Rattle.std.proofs.lemmas.Option.{same_Some}
 use Rattle.uid_names.specs.Names.{ProcName, same_proc}
 use Rattle.dom_history.specs.declared.op.Entry.{Entry}
-use Rattle.dom_history.specs.declared.op.Want.TheVariants.{Phase, Done}
+use Rattle.dom_history.specs.declared.op.Want.TheVariants.{Done}
 use Rattle.dom_history.specs.declared.plan.FateRow.{FateRow}
 use Rattle.dom_history.specs.Events.{Happening}
 use Rattle.dom_history.specs.Follows.{Heard, Reaches, IsEnded, IsPhased, entries_of}
 use Rattle.dom_history.specs.Histories.{History, entries}
 use Rattle.dom_history.specs.Legal.{IsLegal, AreLegal}
 use Rattle.dom_history.specs.Objects.{is_node}
-use Rattle.dom_history.specs.Programs.{program_after}
 use Rattle.node_core.specs.Programs.{program_by}
 use Rattle.node_runs.specs.NodeStates.{proc_of}
 use Rattle.node_runs.specs.NodesKeep.{IsTimely}
-use Rattle.node_runs.specs.Runs.{World, world_of}
+use Rattle.node_runs.specs.Runs.{World}
 use Rattle.node_runs.specs.RunHistories.{history_of, history_in, history_if}
 use Rattle.node_runs.specs.Setups.{Setup, IsSetup}
 use Rattle.run_laws.specs.EveryRun.{IsRightAt}
@@ -25,15 +24,15 @@ use Rattle.world_runs.specs.EndedRuns.{IsEndedRun}
 use Rattle.count_up.specs.declared.counter.Counter.{Counter}
 use Rattle.count_up.specs.declared.counter.Step.{Step}
 use Rattle.count_up.specs.declared.counter.Step.TheVariants.{Waits, Locks, Loads, Stores, Unlocks, Ends, Fails}
-use Rattle.count_up.specs.Counters.{first_counter, counter_after, seen_at, seen_by}
+use Rattle.count_up.specs.Counters.{first_counter, seen_at, seen_by}
 use Rattle.count_up.specs.Counting.{made_if, made_counter, asks_of, counting}
 use Rattle.count_up.specs.Starting.{object, start}
-use Rattle.count_up.specs.Sums.{CountsTo, counter_in}
+use Rattle.count_up.specs.Sums.{CountsTo}
 use Rattle.count_up.proofs.Named.{idle, of_three}
 use Rattle.count_up.proofs.Plain.{plain_answered}
 use Rattle.count_up.proofs.Setting.{by_three, counting_is}
 use Rattle.count_up.proofs.Sides.{Who, One, Two, Three, name_of}
-use Rattle.count_up.proofs.Steps.{asks, heard_by, after_all, settle_at, phase_at, is_waiting, is_asked, IsAsked}
+use Rattle.count_up.proofs.Steps.{asks, heard_by, settle_at, phase_at, is_waiting, is_asked, IsAsked}
 use Rattle.count_up.proofs.Summing.{counter_by, AreTheirs, AreKnown, all_plain, all_sides}
 
 -- a process has a counter, or none

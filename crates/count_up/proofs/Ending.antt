@@ -1,6 +1,6 @@
 -- What comes of nodes that count, once they have ended.
-use Rattle.std.proofs.Common.{◌≡◌, ◌≢◌, ℕ, false, ◌≤◌, Option, Some, None, Result, Ok, Err, List, [], refl, sym, ◌∙◌, ap, subst, arith}
-use Rattle.std.specs.Prelude.{◌^◌, IfSome, IfOk, reverse}
+use Rattle.std.proofs.Common.{◌≡◌, ◌≢◌, ℕ, false, Some, List, [], sym, ◌∙◌, ap, subst}
+use Rattle.std.specs.Prelude.{IfSome, reverse}
 use Rattle.std.specs.Option.{option_map}
 use Rattle.std.proofs.lemmas.List.Elements.{All-nil}
 use Rattle.uid_names.specs.Names.{ProcName}
@@ -25,7 +25,7 @@ use Rattle.count_up.specs.declared.counter.Counter.{Counter}
 use Rattle.count_up.specs.Counters.{first_counter, want_of, counter_after, seen_by}
 use Rattle.count_up.specs.Counting.{made_counter, counting}
 use Rattle.count_up.specs.Starting.{object}
-use Rattle.count_up.specs.Sums.{counter_in, CountsTo, HaveSeen}
+use Rattle.count_up.specs.Sums.{CountsTo, HaveSeen}
 use Rattle.count_up.proofs.Seeing.{named_each}
 use Rattle.count_up.proofs.Setting.{made_one, counting_is}
 

@@ -1,36 +1,33 @@
 -- What an entry of one of the three does.
 use Rattle.std.proofs.Common.{◌≡◌, ◌≢◌, ℕ, zero, suc, ◌+◌, ◌-◌, ◌*◌, ◌<◌, ◌≤◌, ◌==◌, Bool, true, false, Option, Some, None, List, [], ◌∷◌, ◌++◌, refl, sym, ◌∙◌, ap, subst, inl, inr, arith}
-use Rattle.std.specs.Prelude.{◌⊎◌, ◌^◌, ◌%◌, if◌then◌else◌, not, nat_le, nat_lt, ◌&&◌, find, length}
+use Rattle.std.specs.Prelude.{◌⊎◌, ◌^◌, ◌%◌, if◌then◌else◌, not}
 use Rattle.std.specs.Int.{w64, to_le_bytes}
 use Rattle.std.proofs.Math.Nat.{mod-eq_of_lt}
 use Rattle.std.proofs.lemmas.Bool.Decides.{nat_tests}
-use Rattle.uid_names.specs.Names.{ProcName, same_proc, same_uid}
+use Rattle.uid_names.specs.Names.{ProcName, same_proc}
 use Rattle.uid_names.specs.Modes.{modes_clash}
 use Rattle.uid_names.specs.declared.lock_row.LockRow.{LockRow}
 use Rattle.uid_names.specs.declared.mode.Mode.{Mode}
 use Rattle.uid_names.specs.declared.mode.Mode.TheVariants.{Read, Write}
-use Rattle.dom_history.specs.declared.deed.Deed.{Deed}
 use Rattle.dom_history.specs.declared.deed.LockState.{LockState}
 use Rattle.dom_history.specs.declared.deed.LockState.TheVariants.{Free, Held}
 use Rattle.dom_history.specs.declared.op.Op.{Op}
 use Rattle.dom_history.specs.declared.op.Op.TheVariants.{Lock, Unlock, Load, Store}
 use Rattle.dom_history.specs.declared.op.Reply.{Reply}
-use Rattle.dom_history.specs.declared.op.Reply.TheVariants.{Fine, Bytes, Conflict, PastEnd, AlreadyHeld, Unsettled, TooMany, NoObject, NoLock}
+use Rattle.dom_history.specs.declared.op.Reply.TheVariants.{Fine, Conflict, AlreadyHeld, Unsettled, TooMany, NoObject, NoLock}
 use Rattle.dom_history.specs.declared.op.Spot.TheVariants.{Of}
-use Rattle.dom_history.specs.declared.op.Want.TheVariants.{Do}
-use Rattle.dom_history.specs.Locks.{holds, state, is_held, is_unsettled, not_free}
-use Rattle.dom_history.specs.Objects.{is_present}
+use Rattle.dom_history.specs.Locks.{holds, state, is_held, is_unsettled}
 use Rattle.dom_history.specs.Replies.{Before, conflict_or_fine, reply_of}
 use Rattle.dom_history.specs.StoreEffects.{StoreEffect, store_effect}
 use Rattle.dom_history.proofs.Tables.{state-by_last}
 use Rattle.count_up.specs.declared.counter.Counter.{Counter}
 use Rattle.count_up.specs.declared.counter.Step.{Step}
 use Rattle.count_up.specs.declared.counter.Step.TheVariants.{Waits, Locks, Loads, Stores, Unlocks, Ends, Fails}
-use Rattle.count_up.specs.Counters.{mode_of, want_at, want_of, is_fine, after_lock, number_in, after_at}
+use Rattle.count_up.specs.Counters.{mode_of, is_fine, after_lock, number_in, after_at}
 use Rattle.count_up.specs.Starting.{object, start}
-use Rattle.count_up.proofs.Numbers.{Number, load_of, is_loaded, is_stored, number_locked, number_freed, is_granted, no_conflict}
-use Rattle.count_up.proofs.Sides.{Who, One, Two, Three, name_of, Side, Sides, side, put, Apart, apart_sym, not_apart, each_but, lock_at, lock_of, held_mode, writes_at, writes, rest_at, rest_of, rest_all, looked_at, IsSide, AreSides, rest_same, rest_less, alone_put}
-use Rattle.count_up.proofs.Steps.{settle, goes}
+use Rattle.count_up.proofs.Numbers.{Number, is_stored, number_locked, number_freed, is_granted, no_conflict}
+use Rattle.count_up.proofs.Sides.{Who, One, Two, Three, name_of, Side, Sides, side, put, Apart, apart_sym, each_but, lock_at, lock_of, held_mode, writes_at, writes, rest_at, rest_of, rest_all, looked_at, IsSide, AreSides, rest_same, rest_less, alone_put}
+use Rattle.count_up.proofs.Steps.{settle}
 
 -- a process once it was answered
 abbrev pub answered_side : Step → Who → Op → Reply → Side → Side

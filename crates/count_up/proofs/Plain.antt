@@ -1,26 +1,19 @@
 -- A history without link faults and open operations is its entries, each answered as one store answers it.
-use Rattle.std.proofs.Common.{◌≡◌, ◌≢◌, ℕ, ◌+◌, ◌%◌, ◌==◌, Bool, true, false, Option, Some, None, List, [], ◌∷◌, refl, sym, ◌∙◌, ap, subst, inl, inr}
-use Rattle.std.specs.Prelude.{◌⊎◌, ◌^◌, All, if◌then◌else◌}
+use Rattle.std.proofs.Common.{◌≡◌, Bool, true, false, List, [], ◌∷◌, refl, ap, subst, inl, inr}
+use Rattle.std.specs.Prelude.{◌⊎◌, All, if◌then◌else◌}
 use Rattle.std.proofs.lemmas.List.Elements.{All-cons, All-nil, All-head, All-tail, All-contains}
 use Rattle.uid_names.specs.Names.{ProcName}
 use Rattle.uid_names.specs.Openings.{Start}
-use Rattle.dom_history.specs.declared.deed.Deed.{Deed}
 use Rattle.dom_history.specs.declared.deed.LockState.{LockState}
 use Rattle.dom_history.specs.declared.op.Op.{Op}
 use Rattle.dom_history.specs.declared.op.Op.TheVariants.{New, Lock, Unlock, Delete, Load, Store, List as ListOp}
 use Rattle.dom_history.specs.declared.op.Reply.{Reply}
-use Rattle.dom_history.specs.declared.op.Reply.TheVariants.{Made, Fine, Bytes, Locks as LockRows, Conflict, NoObject, NoSpace, Kept, Doubt, LinkFault, PastEnd}
-use Rattle.dom_history.specs.declared.op.Want.TheVariants.{Do}
+use Rattle.dom_history.specs.declared.op.Reply.TheVariants.{Made, Fine, Bytes, Locks as LockRows, Conflict, NoObject, NoSpace, Kept, Doubt, LinkFault}
 use Rattle.dom_history.specs.declared.op.Entry.{Entry}
-use Rattle.dom_history.specs.Histories.{Item, Answered, Acted, Act, Pending, SomeOf, told, entries, deeds}
+use Rattle.dom_history.specs.Histories.{Item, Answered, Acted, Act, SomeOf, told, entries, deeds}
 use Rattle.dom_history.specs.Legal.{IsAllowed, AreLegal, IsLeftOpen, IsOpenOp}
 use Rattle.dom_history.specs.Replies.{Before, may_write, before_of, reply_of, link_faults, unlock_state}
 use Rattle.dom_history.specs.Runs.{AreAnswered, IsFaultless}
-use Rattle.count_up.specs.declared.counter.Counter.{Counter}
-use Rattle.count_up.specs.declared.counter.Step.{Step}
-use Rattle.count_up.specs.declared.counter.Step.TheVariants.{Waits, Locks, Loads, Stores, Unlocks, Ends, Fails}
-use Rattle.count_up.specs.Counters.{want_at, after_at}
-use Rattle.count_up.proofs.Steps.{settle}
 
 one_faulty : (reply : Reply) → (IsFaultless reply → ⊥) → All (λ r. IsFaultless r → ⊥) (reply ∷ [])
 one_faulty reply h = All-cons (λ r. IsFaultless r → ⊥) reply [] h (All-nil (λ r. IsFaultless r → ⊥))

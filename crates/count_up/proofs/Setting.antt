@@ -1,21 +1,18 @@
 -- The nodes that count are those of a set-up.
-use Rattle.std.proofs.Common.{◌≡◌, ℕ, zero, suc, ◌+◌, ◌-◌, ◌<◌, ◌≤◌, ◌==◌, Bool, true, false, Option, Some, None, Result, Ok, Err, List, [], ◌∷◌, length, refl, sym, ◌∙◌, ap, subst, arith}
-use Rattle.std.specs.Prelude.{All, AllPairs, IfSome, IfOk, ◌≢◌, ◌||◌, if◌then◌else◌, is_some, filter, slice_get}
+use Rattle.std.proofs.Common.{◌≡◌, ℕ, zero, suc, ◌+◌, ◌≤◌, ◌==◌, Bool, true, false, Some, None, Result, Ok, Err, List, [], ◌∷◌, refl, sym, ap, subst, arith}
+use Rattle.std.specs.Prelude.{IfSome, IfOk, ◌≢◌, ◌||◌, if◌then◌else◌, is_some, slice_get}
 use Rattle.std.specs.List.{list_any}
 use Rattle.std.proofs.lemmas.List.Elements.{All-cons, All-nil}
 use Rattle.std.proofs.lemmas.List.Kept.{AllPairs-cons}
-use Rattle.uid_names.specs.Names.{ProcName, IsProcNumber}
+use Rattle.uid_names.specs.Names.{IsProcNumber}
 use Rattle.uid_names.specs.Openings.{Start, IsStart, IsDeclarable}
-use Rattle.uid_names.specs.Beginnings.{CanHomeBegin, CanBegin, at_home}
-use Rattle.uid_names.specs.declared.opening.Object.{Object}
-use Rattle.dom_history.specs.declared.op.Want.TheVariants.{Phase}
+use Rattle.uid_names.specs.Beginnings.{CanHomeBegin, at_home}
 use Rattle.dom_history.specs.Follows.{Heard}
 use Rattle.dom_history.specs.Objects.{is_node}
-use Rattle.dom_history.specs.Programs.{asked_by}
 use Rattle.dom_history.specs.Ranges.{IsWant}
 use Rattle.fault_handler.specs.Desks.{IsNode}
 use Rattle.node_runs.specs.NodeStates.{first_node}
-use Rattle.node_runs.specs.Setups.{Setup, IsSetup, IsFrames, ArePrograms, given}
+use Rattle.node_runs.specs.Setups.{IsSetup, IsFrames, ArePrograms, given}
 use Rattle.node_core.specs.declared.setup.NodeSetup.{NodeSetup}
 use Rattle.node_core.specs.Programs.{program_in, program_by}
 use Rattle.node_core.specs.Nodes.{Noted, Stands, IsGivenBy}

@@ -1,22 +1,19 @@
 -- How a counter goes on from one answer to the next.
-use Rattle.std.proofs.Common.{◌≡◌, ◌≢◌, ℕ, zero, suc, ◌+◌, ◌-◌, ◌<◌, ◌≤◌, ◌==◌, Bool, true, false, Option, Some, None, List, [], ◌∷◌, refl, sym, ◌∙◌, ap, subst, inl, inr, arith}
-use Rattle.std.specs.Prelude.{if◌then◌else◌, ◌⊎◌}
+use Rattle.std.proofs.Common.{◌≡◌, ◌≢◌, ℕ, zero, suc, ◌-◌, ◌==◌, Bool, true, false, Option, Some, None, List, [], ◌∷◌, refl, sym, ◌∙◌, ap, subst, arith}
+use Rattle.std.specs.Prelude.{if◌then◌else◌}
 use Rattle.std.proofs.lemmas.Bool.Decides.{nat_tests}
 use Rattle.dom_history.specs.declared.op.Op.{Op}
-use Rattle.dom_history.specs.declared.op.Op.TheVariants.{Lock, Unlock, Load, Store}
 use Rattle.dom_history.specs.declared.op.Reply.{Reply}
-use Rattle.dom_history.specs.declared.op.Reply.TheVariants.{Fine, Bytes, Conflict, PastEnd}
+use Rattle.dom_history.specs.declared.op.Reply.TheVariants.{Fine, Conflict}
 use Rattle.dom_history.specs.declared.op.Entry.{Entry}
 use Rattle.dom_history.specs.declared.op.Want.{Want}
-use Rattle.dom_history.specs.declared.op.Want.TheVariants.{Do, Phase, Done}
+use Rattle.dom_history.specs.declared.op.Want.TheVariants.{Do, Phase}
 use Rattle.dom_history.specs.Follows.{Heard, Reaches, starts, answered, passed}
 use Rattle.dom_history.specs.Programs.{program_after, asked_by}
-use Rattle.uid_names.specs.declared.mode.Mode.{Mode}
-use Rattle.uid_names.specs.Names.{ProcName}
 use Rattle.count_up.specs.declared.counter.Counter.{Counter}
 use Rattle.count_up.specs.declared.counter.Step.{Step}
 use Rattle.count_up.specs.declared.counter.Step.TheVariants.{Waits, Locks, Loads, Stores, Unlocks, Ends, Fails}
-use Rattle.count_up.specs.Counters.{want_at, want_of, is_fine, after_lock, number_in, loaded, after_unlock, unlocked, after_at, counter_after, first_counter}
+use Rattle.count_up.specs.Counters.{want_at, want_of, is_fine, number_in, after_unlock, after_at, counter_after, first_counter}
 use Rattle.count_up.specs.Starting.{object}
 
 -- who waits for a phase goes on once it begins

@@ -1,11 +1,10 @@
 -- What all three load last is the sum of their rounds.
-use Rattle.std.proofs.Common.{◌≡◌, ◌≢◌, ℕ, zero, suc, ◌+◌, ◌-◌, ◌*◌, ◌<◌, ◌≤◌, ◌==◌, Bool, true, false, Option, Some, None, List, [], ◌∷◌, ◌++◌, refl, sym, ◌∙◌, ap, subst, inl, inr, arith}
-use Rattle.std.specs.Prelude.{◌⊎◌, ◌^◌, All, if◌then◌else◌, filter}
+use Rattle.std.proofs.Common.{◌≡◌, ◌≢◌, ℕ, ◌*◌, ◌<◌, ◌≤◌, ◌==◌, Bool, true, false, Some, None, List, [], ◌∷◌, ◌++◌, refl, sym, ◌∙◌, ap, subst, inl, inr, arith}
+use Rattle.std.specs.Prelude.{◌⊎◌, ◌^◌, All, if◌then◌else◌}
 use Rattle.std.specs.Int.{w64, to_le_bytes}
 use Rattle.std.proofs.lemmas.Bool.Decides.{nat_tests}
 use Rattle.std.proofs.lemmas.List.Elements.{All-cons, All-nil, All-head, All-tail}
-use Rattle.uid_names.specs.Names.{ProcName, same_proc}
-use Rattle.dom_history.specs.declared.deed.Deed.{Deed}
+use Rattle.uid_names.specs.Names.{ProcName}
 use Rattle.dom_history.specs.declared.op.Op.{Op}
 use Rattle.dom_history.specs.declared.op.Op.TheVariants.{Lock, Unlock, Load, Store}
 use Rattle.dom_history.specs.declared.op.Reply.{Reply}
@@ -29,7 +28,7 @@ use Rattle.count_up.specs.Starting.{object, start}
 use Rattle.count_up.proofs.Going.{Result, answered_side, before, lock_answers, fine_answers, load_held, goes_locked, goes_refused, goes_loaded, goes_stored, goes_freed}
 use Rattle.count_up.proofs.Numbers.{load_of, is_loaded}
 use Rattle.count_up.proofs.Sides.{Who, One, Two, Three, name_of, Side, Sides, side, put, Apart, each_who, lock_at, lock_of, held_mode, writes, rest_at, IsSide, AreSides}
-use Rattle.count_up.proofs.Steps.{settle, goes, after_all, Did, phase_at, phase_of}
+use Rattle.count_up.proofs.Steps.{settle, goes, after_all, Did, phase_at}
 
 -- an unlock is answered by Fine
 unlock_answers : (reply : Reply) → (is_fine (Some reply) ≡ false → ⊥) → reply ≡ Fine

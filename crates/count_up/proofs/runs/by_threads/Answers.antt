@@ -1,4 +1,4 @@
-use Rattle.std.proofs.Common.{arith, [], subst}
+use Rattle.std.proofs.Common.{arith, subst}
 use Rattle.std.proofs.lemmas.Result.{IfOk-weaker}
 use Rattle.std.specs.Prelude.{◌^◌}
 use Rattle.count_up.specs.Counting.{made_counter, counting}

@@ -1,4 +1,4 @@
-use Rattle.std.proofs.Common.{◌∙◌, [], subst, arith}
+use Rattle.std.proofs.Common.{◌∙◌, subst, arith}
 use Rattle.std.specs.Prelude.{◌^◌}
 use Rattle.std.proofs.lemmas.Result.{IfOk-weaker}
 use Rattle.world_core.specs.Stands.{IsRunOf}
