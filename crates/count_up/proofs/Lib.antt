@@ -1,0 +1,12 @@
+pub mod Counted
+pub mod Ending
+pub mod Going
+pub mod Named
+pub mod Numbers
+pub mod Plain
+pub mod Seeing
+pub mod Setting
+pub mod Sides
+pub mod Steps
+pub mod Summing
+pub mod Wanting

@@ -1,0 +1,4 @@
+pub mod Counters
+pub mod Counting
+pub mod Starting
+pub mod Sums
