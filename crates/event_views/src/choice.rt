@@ -1,0 +1,148 @@
+//! The choice of events. No function takes memory.
+ghost use Rattle.std.specs.Prelude.{◌≡◌};
+ghost use Rattle.event_views.specs.Chosen.{is_from as not_below, is_to as not_above, is_object as is_of_object, is_page as is_of_page, says_so as says_of, drops_so as drops_of, is_about as concerns, names_command as names, sent_for as is_sent_for, is_of as is_of_name, is_of_command as is_of_chosen, is_chosen as is_chosen_by};
+
+use crate::command::CommandName;
+use crate::run::{EventView, FrameView};
+use uid_names::{ItemList, Uid};
+
+/// Which events are shown: those from a tick on, up to one, of an object, of a page, and of a command, each where it is said.
+#[derive(Clone, Copy, Debug, PartialEq, Eq)]
+pub struct Choice {
+    pub from: Option<u64>,
+    pub to: Option<u64>,
+    pub object: Option<Uid>,
+    pub page: Option<u32>,
+    pub command: Option<CommandName>,
+}
+
+fn is_from(first: Option<u64>, tick: u64) -> bool
+    ensures { result ≡ not_below first tick }
+{
+    match first {
+        None => true,
+        Some(first) => first <= tick,
+    }
+}
+
+fn is_to(last: Option<u64>, tick: u64) -> bool
+    ensures { result ≡ not_above last tick }
+{
+    match last {
+        None => true,
+        Some(last) => tick <= last,
+    }
+}
+
+fn is_object(object: Option<Uid>, named: Option<Uid>) -> bool
+    ensures { result ≡ is_of_object object named }
+{
+    let Some(object) = object else {
+        return true;
+    };
+    match named {
+        None => false,
+        Some(named) => object.is(named),
+    }
+}
+
+fn is_page(page: Option<u32>, named: Option<u32>) -> bool
+    ensures { result ≡ is_of_page page named }
+{
+    let Some(page) = page else {
+        return true;
+    };
+    match named {
+        None => false,
+        Some(named) => page == named,
+    }
+}
+
+fn names_command(command: CommandName, named: Option<CommandName>) -> bool
+    ensures { result ≡ names command named }
+{
+    match named {
+        None => false,
+        Some(named) => command.is(named),
+    }
+}
+
+fn sent_for(command: CommandName, frame: Option<FrameView>) -> bool
+    ensures { result ≡ is_sent_for command frame }
+{
+    match frame {
+        None => false,
+        Some(frame) => names_command(command, frame.command),
+    }
+}
+
+/// Whether a command begins or is answered with an event, or that sent or met a frame that was sent for it.
+pub fn is_of(command: CommandName, view: &EventView) -> bool
+    ensures { result ≡ is_of_name command view.now }
+{
+    names_command(command, view.begun)
+        || view.answered.items().iter().any(|other| command.is(*other))
+        || sent_for(command, view.sent)
+        || sent_for(command, view.met)
+}
+
+impl Choice {
+    /// The choice of all events.
+    pub fn all() -> Choice
+        ensures { result ≡ record { from = None; to = None; object = None; page = None; command = None } }
+    {
+        Choice {
+            from: None,
+            to: None,
+            object: None,
+            page: None,
+            command: None,
+        }
+    }
+
+    fn says_so(&self, frame: Option<FrameView>) -> bool
+        ensures { result ≡ says_of self.now frame }
+    {
+        match frame {
+            None => false,
+            Some(frame) => {
+                is_object(self.object, frame.said.uid) && is_page(self.page, frame.said.page)
+            }
+        }
+    }
+
+    fn drops_so(&self, uid: Uid, page: u32) -> bool
+        ensures { result ≡ drops_of self.now (uid, page) }
+    {
+        is_object(self.object, Some(uid)) && is_page(self.page, Some(page))
+    }
+
+    fn is_about(&self, view: &EventView) -> bool
+        ensures { result ≡ concerns self.now view.now }
+    {
+        (self.object.is_none() && self.page.is_none())
+            || self.says_so(view.sent)
+            || self.says_so(view.met)
+            || view.event.effects().dropped.items().iter().any(|page| self.drops_so(page.0, page.1))
+    }
+
+    fn is_of_command(&self, view: &EventView) -> bool
+        ensures { result ≡ is_of_chosen self.now.command view.now }
+    {
+        match self.command {
+            None => true,
+            Some(command) => is_of(command, view),
+        }
+    }
+
+    /// Whether an event is chosen.
+    pub fn is_chosen(&self, view: &EventView) -> bool
+        ensures { result ≡ is_chosen_by self.now view.now }
+    {
+        let tick = view.event.place().tick;
+        is_from(self.from, tick)
+            && is_to(self.to, tick)
+            && self.is_about(view)
+            && self.is_of_command(view)
+    }
+}
