@@ -1,5 +1,5 @@
 -- The words in which events and frames are shown.
-use Rattle.std.specs.Prelude.{ℕ, Bool, ◌==◌, if◌then◌else◌, Option, Some, None, List, [], ◌∷◌, ◌++◌, codes, decimal, find, fold, map, length}
+use Rattle.std.specs.Prelude.{ℕ, Bool, true, false, Option, Some, None, List, [], ◌∷◌, ◌++◌, codes, decimal, find, fold}
 use Rattle.uid_names.specs.Names.{ObjectName, same_uid}
 use Rattle.uid_names.specs.Texts.{text_of}
 use Rattle.uid_names.specs.Modes.{mode_letter}

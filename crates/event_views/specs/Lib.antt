@@ -5,3 +5,4 @@ pub mod Labels
 pub mod CommandWords
 pub mod LineWords
 pub mod Chosen
+pub mod Differing

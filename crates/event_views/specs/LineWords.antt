@@ -10,8 +10,13 @@ is_between b = (b == 32) || (b == 59)
 abbrev pub words_in : List ℕ → List (List ℕ)
 words_in line = slice_split is_between line
 
--- the words that are sought stand among others in order: each is found behind the one before it, whatever stands between them
+-- what is still sought behind a word, of words that are sought in order
+abbrev pub left_behind : List ℕ → List (List ℕ) → List (List ℕ)
+left_behind word [] = []
+left_behind word (sought ∷ more) = if bytes_eq word sought then more else sought ∷ more
+
+-- the words that are sought stand among these in order, whatever stands between them
 abbrev pub are_found : List (List ℕ) → List (List ℕ) → Bool
-are_found among [] = true
-are_found [] (word ∷ words) = false
-are_found (other ∷ among) (word ∷ words) = if bytes_eq other word then are_found among words else are_found among (word ∷ words)
+are_found [] [] = true
+are_found [] (sought ∷ more) = false
+are_found (word ∷ words) sought = are_found words (left_behind word sought)

@@ -1,10 +1,12 @@
 //! The choice of events. No function takes memory.
-ghost use Rattle.std.specs.Prelude.{◌≡◌};
+ghost use Rattle.std.specs.Prelude.{◌≡◌, None};
+ghost use Rattle.std.specs.List.{list_any};
+ghost use Rattle.event_views.specs.Commands.{same_command};
 ghost use Rattle.event_views.specs.Chosen.{is_from as not_below, is_to as not_above, is_object as is_of_object, is_page as is_of_page, says_so as says_of, drops_so as drops_of, is_about as concerns, names_command as names, sent_for as is_sent_for, is_of as is_of_name, is_of_command as is_of_chosen, is_chosen as is_chosen_by};
 
 use crate::command::CommandName;
 use crate::run::{EventView, FrameView};
-use uid_names::{ItemList, Uid};
+use uid_names::Uid;
 
 /// Which events are shown: those from a tick on, up to one, of an object, of a page, and of a command, each where it is said.
 #[derive(Clone, Copy, Debug, PartialEq, Eq)]
@@ -58,8 +60,8 @@ fn is_page(page: Option<u32>, named: Option<u32>) -> bool
     }
 }
 
-fn names_command(command: CommandName, named: Option<CommandName>) -> bool
-    ensures { result ≡ names command named }
+fn names_command(command: &CommandName, named: &Option<CommandName>) -> bool
+    ensures { result ≡ names command.now named.now }
 {
     match named {
         None => false,
@@ -67,23 +69,35 @@ fn names_command(command: CommandName, named: Option<CommandName>) -> bool
     }
 }
 
-fn sent_for(command: CommandName, frame: Option<FrameView>) -> bool
-    ensures { result ≡ is_sent_for command frame }
+fn sent_for(command: &CommandName, frame: &Option<FrameView>) -> bool
+    ensures { result ≡ is_sent_for command.now frame.now }
 {
     match frame {
         None => false,
-        Some(frame) => names_command(command, frame.command),
+        Some(frame) => names_command(command, &frame.command),
     }
 }
 
-/// Whether a command begins or is answered with an event, or that sent or met a frame that was sent for it.
-pub fn is_of(command: CommandName, view: &EventView) -> bool
-    ensures { result ≡ is_of_name command view.now }
+/// Whether a command is one of these.
+fn is_named_in(command: &CommandName, named: &[CommandName]) -> bool
+    ensures { result ≡ list_any (same_command command.now) named.now }
 {
-    names_command(command, view.begun)
-        || view.answered.items().iter().any(|other| command.is(*other))
-        || sent_for(command, view.sent)
-        || sent_for(command, view.met)
+    for other in named {
+        if command.is(other) {
+            return true;
+        }
+    }
+    false
+}
+
+/// Whether a command begins or is answered with an event, or that sent or met a frame that was sent for it.
+pub fn is_of(command: &CommandName, view: &EventView) -> bool
+    ensures { result ≡ is_of_name command.now view.now }
+{
+    names_command(command, &view.begun)
+        || is_named_in(command, view.answered.items())
+        || sent_for(command, &view.sent)
+        || sent_for(command, &view.met)
 }
 
 impl Choice {
@@ -100,8 +114,8 @@ impl Choice {
         }
     }
 
-    fn says_so(&self, frame: Option<FrameView>) -> bool
-        ensures { result ≡ says_of self.now frame }
+    fn says_so(&self, frame: &Option<FrameView>) -> bool
+        ensures { result ≡ says_of self.now frame.now }
     {
         match frame {
             None => false,
@@ -117,19 +131,30 @@ impl Choice {
         is_object(self.object, Some(uid)) && is_page(self.page, Some(page))
     }
 
+    fn drops_any(&self, pages: &[(Uid, u32)]) -> bool
+        ensures { result ≡ list_any (drops_of self.now) pages.now }
+    {
+        for (uid, page) in pages {
+            if self.drops_so(*uid, *page) {
+                return true;
+            }
+        }
+        false
+    }
+
     fn is_about(&self, view: &EventView) -> bool
         ensures { result ≡ concerns self.now view.now }
     {
         (self.object.is_none() && self.page.is_none())
-            || self.says_so(view.sent)
-            || self.says_so(view.met)
-            || view.event.effects().dropped.items().iter().any(|page| self.drops_so(page.0, page.1))
+            || self.says_so(&view.sent)
+            || self.says_so(&view.met)
+            || self.drops_any(view.event.effects().dropped.items())
     }
 
     fn is_of_command(&self, view: &EventView) -> bool
         ensures { result ≡ is_of_chosen self.now.command view.now }
     {
-        match self.command {
+        match &self.command {
             None => true,
             Some(command) => is_of(command, view),
         }

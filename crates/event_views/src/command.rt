@@ -16,8 +16,8 @@ pub struct CommandName {
 
 impl CommandName {
     /// Whether the two are one command. Takes no memory.
-    pub fn is(self, other: CommandName) -> bool
-        ensures { result ≡ same_command self other }
+    pub fn is(&self, other: &CommandName) -> bool
+        ensures { result ≡ same_command self.now other.now }
     {
         self.proc.is(other.proc) && self.index == other.index
     }
@@ -27,9 +27,9 @@ impl CommandName {
 pub fn put_command(
     to: &mut ByteList,
     names: &NodeNames,
-    command: CommandName,
+    command: &CommandName,
 ) -> Result<(), NoMemory>
-    ensures { OnOk result (to.new ≡ to.old ++ command_text names.now command) }
+    ensures { OnOk result (to.new ≡ to.old ++ command_text names.now command.now) }
 {
     put_process(to, names, command.proc)?;
     to.extend(b".")?;

@@ -1,7 +1,8 @@
 //! The words in which events and frames are shown.
-ghost use Rattle.std.specs.Prelude.{◌≡◌, ◌++◌, List, [], ◌∷◌, IfOk, OnOk, IfSome, option_copied, find};
+ghost use Rattle.std.specs.Prelude.{◌≡◌, ◌++◌, IfOk, OnOk, decimal, option_copied, find};
 ghost use Rattle.uid_names.specs.Names.{same_uid};
 ghost use Rattle.dom_history.specs.Events.{IsKindNumber};
+ghost use Rattle.dom_history.specs.declared.event.What.TheVariants as events;
 ghost use Rattle.journal_text.specs.Lines.{kind_text, numbered_text, what_text};
 ghost use Rattle.event_views.specs.Commands.{command_text};
 ghost use Rattle.event_views.specs.Labels.{object_text, object_part, page_part, mode_part, said_text, sent_label as sent_label_of, sent_title as sent_title_of, command_in, words_behind, answer_behind, answer_of, begun_text, answered_text, with_part, begun_label, commands_label, is_mark as is_drawn_across, shown_what, label_of};
@@ -38,11 +39,7 @@ pub fn put_object(to: &mut ByteList, objects: &[VarRow], uid: Uid) -> Result<(),
     }
 }
 
-fn put_object_part(
-    to: &mut ByteList,
-    objects: &[VarRow],
-    uid: Option<Uid>,
-) -> Result<(), NoMemory>
+fn put_object_part(to: &mut ByteList, objects: &[VarRow], uid: Option<Uid>) -> Result<(), NoMemory>
     ensures { OnOk result (to.new ≡ to.old ++ object_part objects.now uid) }
 {
     let Some(uid) = uid else {
@@ -97,10 +94,10 @@ fn put_sent(
     to: &mut ByteList,
     run: &RunView,
     sent: &Sent,
-    frame: Option<FrameView>,
+    frame: &Option<FrameView>,
 ) -> Result<(), NoMemory>
     requires { IsKindNumber sent.now.kind }
-    ensures { OnOk result (to.new ≡ to.old ++ sent_label_of run.now.objects sent.now frame) }
+    ensures { OnOk result (to.new ≡ to.old ++ sent_label_of run.now.objects sent.now frame.now) }
 {
     match frame {
         Some(frame) => put_said(to, run.objects(), &frame.said),
@@ -113,10 +110,10 @@ pub fn sent_label(
     alloc: Global,
     run: &RunView,
     sent: &Sent,
-    frame: Option<FrameView>,
+    frame: &Option<FrameView>,
 ) -> Result<ByteList, NoMemory>
     requires { IsKindNumber sent.now.kind }
-    ensures { IfOk result (λ text. text ≡ sent_label_of run.now.objects sent.now frame) }
+    ensures { IfOk result (λ text. text ≡ sent_label_of run.now.objects sent.now frame.now) }
 {
     let mut text = ByteList::new(alloc);
     put_sent(&mut text, run, sent, frame)?;
@@ -129,10 +126,10 @@ pub fn sent_title(
     run: &RunView,
     from: NodeId,
     sent: &Sent,
-    frame: Option<FrameView>,
+    frame: &Option<FrameView>,
 ) -> Result<ByteList, NoMemory>
     requires { IsKindNumber sent.now.kind }
-    ensures { IfOk result (λ text. text ≡ sent_title_of run.now from sent.now frame) }
+    ensures { IfOk result (λ text. text ≡ sent_title_of run.now from sent.now frame.now) }
 {
     let mut text = ByteList::new(alloc);
     put_sent(&mut text, run, sent, frame)?;
@@ -148,8 +145,8 @@ pub fn sent_title(
 }
 
 /// The command of this name. Takes no memory.
-pub fn command_of<'a>(commands: &'a [CommandView], name: CommandName) -> Option<&'a CommandView>
-    ensures { option_copied result ≡ command_in commands.now name }
+pub fn command_of<'a>(commands: &'a [CommandView], name: &CommandName) -> Option<&'a CommandView>
+    ensures { option_copied result ≡ command_in commands.now name.now }
 {
     for row in commands {
         if row.name.is(name) {
@@ -160,7 +157,7 @@ pub fn command_of<'a>(commands: &'a [CommandView], name: CommandName) -> Option<
 }
 
 fn put_words(to: &mut ByteList, row: Option<&CommandView>) -> Result<(), NoMemory>
-    ensures { OnOk result (to.new ≡ to.old ++ words_behind (option_copied row)) }
+    ensures { OnOk result (to.new ≡ to.old ++ words_behind (option_copied row.entry)) }
 {
     let Some(row) = row else {
         return Ok(());
@@ -170,7 +167,7 @@ fn put_words(to: &mut ByteList, row: Option<&CommandView>) -> Result<(), NoMemor
 }
 
 fn put_answer(to: &mut ByteList, row: Option<&CommandView>) -> Result<(), NoMemory>
-    ensures { OnOk result (to.new ≡ to.old ++ answer_behind (answer_of (option_copied row))) }
+    ensures { OnOk result (to.new ≡ to.old ++ answer_behind (answer_of (option_copied row.entry))) }
 {
     let Some(row) = row else {
         return Ok(());
@@ -183,24 +180,24 @@ fn put_answer(to: &mut ByteList, row: Option<&CommandView>) -> Result<(), NoMemo
 }
 
 /// Puts a command where it begins: its name and its words.
-fn put_begun(to: &mut ByteList, run: &RunView, name: CommandName) -> Result<(), NoMemory>
-    ensures { OnOk result (to.new ≡ to.old ++ begun_text run.now name) }
+fn put_begun(to: &mut ByteList, run: &RunView, name: &CommandName) -> Result<(), NoMemory>
+    ensures { OnOk result (to.new ≡ to.old ++ begun_text run.now name.now) }
 {
     put_command(to, run.names(), name)?;
     put_words(to, command_of(run.commands(), name))
 }
 
 /// Puts a command where it is answered: its name and its answer.
-fn put_answered(to: &mut ByteList, run: &RunView, name: CommandName) -> Result<(), NoMemory>
-    ensures { OnOk result (to.new ≡ to.old ++ answered_text run.now name) }
+fn put_answered(to: &mut ByteList, run: &RunView, name: &CommandName) -> Result<(), NoMemory>
+    ensures { OnOk result (to.new ≡ to.old ++ answered_text run.now name.now) }
 {
     put_command(to, run.names(), name)?;
     put_answer(to, command_of(run.commands(), name))
 }
 
 /// Puts a command that was answered behind the parts before it.
-fn put_answered_part(to: &mut ByteList, run: &RunView, name: CommandName) -> Result<(), NoMemory>
-    ensures { OnOk result (to.new ≡ with_part to.old (answered_text run.now name)) }
+fn put_answered_part(to: &mut ByteList, run: &RunView, name: &CommandName) -> Result<(), NoMemory>
+    ensures { OnOk result (to.new ≡ with_part to.old (answered_text run.now name.now)) }
 {
     if !to.bytes().is_empty() {
         to.extend(b"; ")?;
@@ -211,9 +208,9 @@ fn put_answered_part(to: &mut ByteList, run: &RunView, name: CommandName) -> Res
 fn begun_text_of(
     alloc: Global,
     run: &RunView,
-    begun: Option<CommandName>,
+    begun: &Option<CommandName>,
 ) -> Result<ByteList, NoMemory>
-    ensures { IfOk result (λ text. text ≡ begun_label run.now begun) }
+    ensures { IfOk result (λ text. text ≡ begun_label run.now begun.now) }
 {
     let mut text = ByteList::new(alloc);
     if let Some(name) = begun {
@@ -226,9 +223,9 @@ fn begun_text_of(
 fn commands_text(alloc: Global, run: &RunView, view: &EventView) -> Result<ByteList, NoMemory>
     ensures { IfOk result (λ text. text ≡ commands_label run.now view.now) }
 {
-    let mut text = begun_text_of(alloc, run, view.begun)?;
+    let mut text = begun_text_of(alloc, run, &view.begun)?;
     for name in view.answered.items() {
-        put_answered_part(&mut text, run, *name)?;
+        put_answered_part(&mut text, run, name)?;
     }
     Ok(text)
 }
@@ -254,7 +251,7 @@ fn put_notice(
     into: NodeId,
     index: u64,
 ) -> Result<(), NoMemory>
-    ensures { OnOk result (to.new ≡ to.old ++ what_text names.now (Notice proc from into index)) }
+    ensures { OnOk result (to.new ≡ to.old ++ what_text names.now (events.Notice proc from into index)) }
 {
     to.extend(b"notice ")?;
     put_decimal(to, proc as u64)?;

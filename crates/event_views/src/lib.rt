@@ -4,6 +4,7 @@
 
 pub mod choice;
 pub mod command;
+pub mod differing;
 pub mod finding;
 pub mod labels;
 pub mod run;
@@ -12,6 +13,7 @@ pub mod words;
 
 pub use choice::Choice;
 pub use command::{CommandName, CommandView, put_command};
+pub use differing::{AnswerDiff, RunDiff, diff};
 pub use finding::has_words;
 pub use run::{EventView, FrameView, RunView};
 pub use said::{FrameSaid, said_of};
