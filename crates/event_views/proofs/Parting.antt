@@ -21,11 +21,11 @@ pub same-more : (first second : List EventView) (at : ℕ) (a b : EventView) →
     → take at (events_of first) ≡ take at (events_of second)
     → (at + 1 ≤ length second) × (take (at + 1) (events_of first) ≡ take (at + 1) (events_of second))
 same-more first second at a b low is within there same taken = (
-      omega (arith, within),
-      one-more first at a low is
+  omega (arith, within),
+  one-more first at a low is
       ∙ (ap (λ (es : List Happening). es ++ a.event ∷ []) taken
       ∙ (ap (λ (e : Happening). take at (events_of second) ++ e ∷ []) same ∙ sym (one-more second at b within there))),
-    )
+)
 
 -- behind the last event of one the other has one more
 some-there : (events : List Happening) (n : ℕ) → n < length events → slice_get events n ≢ None

@@ -30,7 +30,8 @@ pub fn run_in_turns(
     ensures limit { IfErr result (IsFaultOf script.now (Some turns) LAST_TICK) }
 {
     let ran = run_script_in_turns(alloc, script, turns, LAST_TICK)?;
-    Ok(views_of(alloc, script, source, ran.events.items())?)
+    let run = views_of(alloc, script, source, ran.events.items())?;
+    Ok(run)
 }
 
 /// The events whose journal the bytes are.
@@ -67,5 +68,6 @@ pub fn run_of_journal(
     let _checked = check_script(alloc, script, journal)?;
     let names = names_of(alloc, script.nodes())?;
     let events = read(alloc, &names, journal)?;
-    Ok(views_of(alloc, script, source, events.items())?)
+    let run = views_of(alloc, script, source, events.items())?;
+    Ok(run)
 }
