@@ -6,7 +6,7 @@ ghost use Rattle.lane_charts.specs.Charts.{EndsAmong, with_row, with_arrow};
 ghost use Rattle.lane_charts.specs.declared.chart.Arrival.TheVariants.{Row};
 ghost use Rattle.event_views.specs.Runs.{AreNamed};
 ghost use Rattle.event_views.specs.Chosen.{chosen};
-ghost use Rattle.event_charts.specs.ChartsOfRuns.{title_of, row_of, takes_from as is_taken_from, takes as is_taken, takers as places_of_takers, is_late as is_late_fate, not_taken as became, arrow_of, arrows_sent, arrows_at, arrows_from, with_arrows, chart_of as chart_of_events};
+ghost use Rattle.event_charts.specs.ChartsOfRuns.{title_of, row_of, takes_from as is_taken_from, takes as is_taken, takers as places_of_takers, place_if, is_late as is_late_fate, not_taken as became, arrow_of, arrows_sent, arrows_at, arrows_from, with_arrows, chart_of as chart_of_events};
 ghost use Rattle.event_charts.specs.LentViews.{lent_views};
 
 use dom_history::{Fate, NodeNames, Sent, What};
@@ -109,6 +109,17 @@ fn takes(from: NodeId, sent: &Sent, view: &EventView) -> bool
         && takes_from(from, sent.index, &view.event.what())
 }
 
+/// Puts a place last, if that is asked.
+fn push_if(rows: &mut Vec<usize>, asked: bool, at: usize) -> Result<(), NoMemory>
+    ensures { OnOk result (rows.new.items ≡ rows.old.items ++ place_if asked at []) }
+{
+    if !asked {
+        return Ok(());
+    }
+    rows.push(at)?;
+    Ok(())
+}
+
 /// The places of those that take a frame which a node sent.
 fn takers(
     alloc: Global,
@@ -121,9 +132,7 @@ fn takers(
 {
     let mut rows = Vec::new(alloc);
     for (at, &view) in shown.iter().enumerate() {
-        if takes(from, sent, view) {
-            rows.push(at)?;
-        }
+        push_if(&mut rows, takes(from, sent, view), at)?;
     }
     Ok(rows)
 }

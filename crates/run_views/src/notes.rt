@@ -89,6 +89,18 @@ fn said_in(frame: &Frame, met: &Option<FrameView>) -> FrameSaid {
     }
 }
 
+/// Puts a frame last on the link of this place, if there is one.
+fn put_on(
+    links: &mut Vec<ItemList<FrameView>>,
+    link: usize,
+    view: FrameView,
+) -> Result<(), NoMemory> {
+    if link >= links.len() {
+        return Ok(());
+    }
+    links[link].push(view)
+}
+
 /// The command for which a frame was sent.
 fn command_of(frame: &Option<FrameView>) -> Option<CommandName> {
     match frame {
@@ -202,15 +214,13 @@ impl<'a> Notes<'a> {
 
     /// Notes a frame that was sent, as it is shown, on its link.
     pub(crate) fn send(&mut self, frame: &Frame, met: &Option<FrameView>) -> Result<(), NoMemory> {
-        let view = self.shown(frame, met);
         let count = self.phases.len();
         if !is_among(frame.from(), count) || !is_among(frame.to(), count) {
             return Ok(());
         }
-        match self.links.get_mut(link_of(frame.from(), frame.to(), count)) {
-            Some(frames) => frames.push(view),
-            None => Ok(()),
-        }
+        let link = link_of(frame.from(), frame.to(), count);
+        let view = self.shown(frame, met);
+        put_on(&mut self.links, link, view)
     }
 
     /// The commands that are answered before any event.
