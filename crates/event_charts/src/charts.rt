@@ -1,5 +1,5 @@
 //! The chart of a run's events.
-ghost use Rattle.std.specs.Prelude.{◌≡◌, ◌<◌, ◌++◌, ◌∷◌, [], length, map, All, IfOk, OnOk};
+ghost use Rattle.std.specs.Prelude.{◌≡◌, ◌-◌, ◌<◌, ◌++◌, ◌∷◌, [], true, Some, length, map, All, IfOk, OnOk};
 ghost use Rattle.dom_history.specs.Events.{IsKindNumber};
 ghost use Rattle.journal_text.specs.Lines.{IsNamed, Names};
 ghost use Rattle.lane_charts.specs.Charts.{EndsAmong, with_row, with_arrow};

@@ -89,18 +89,6 @@ fn said_in(frame: &Frame, met: &Option<FrameView>) -> FrameSaid {
     }
 }
 
-/// Puts a frame last on the link of this place, if there is one.
-fn put_on(
-    links: &mut Vec<ItemList<FrameView>>,
-    link: usize,
-    view: FrameView,
-) -> Result<(), NoMemory> {
-    if link >= links.len() {
-        return Ok(());
-    }
-    links[link].push(view)
-}
-
 /// The command for which a frame was sent.
 fn command_of(frame: &Option<FrameView>) -> Option<CommandName> {
     match frame {
@@ -219,8 +207,11 @@ impl<'a> Notes<'a> {
             return Ok(());
         }
         let link = link_of(frame.from(), frame.to(), count);
+        if link >= self.links.len() {
+            return Ok(());
+        }
         let view = self.shown(frame, met);
-        put_on(&mut self.links, link, view)
+        self.links[link].push(view)
     }
 
     /// The commands that are answered before any event.
