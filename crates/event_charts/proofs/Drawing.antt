@@ -1,15 +1,16 @@
--- The next event of those that are shown.
-use Rattle.std.proofs.Common.{◌≡◌, ◌∙◌, ℕ, ◌+◌, ◌<◌, suc, add-one, Bool, true, false, List, [], ◌∷◌, ◌++◌, Bor, length, take, drop, drop-cons, map, get_or, refl, sym, ap, subst, append_assoc}
-use Rattle.std.specs.Prelude.{All}
-use Rattle.std.proofs.lemmas.List.{get_or-map, length-map, map-append, take_more}
-use Rattle.dom_history.specs.declared.event.Sent.{Sent}
+-- What the steps of drawing a chart find.
+use Rattle.std.proofs.Common.{◌≡◌, ◌∙◌, ℕ, ◌<◌, suc, Bool, true, List, [], ◌∷◌, ◌++◌, Bor, length, map, get_or, refl, sym, ap, subst, append_assoc, arith}
+use Rattle.std.specs.Prelude.{All, Result, Ok, Err, OnOk}
+use Rattle.std.proofs.lemmas.List.{get_or-map, length-map}
+use Rattle.dom_history.specs.declared.plan.Fate.{Fate}
 use Rattle.journal_text.specs.Lines.{Names}
 use Rattle.lane_charts.specs.declared.chart.Arrow.{Arrow}
-use Rattle.lane_charts.specs.declared.chart.ChartRow.{ChartRow}
-use Rattle.event_views.specs.Runs.{Run, AreNamed}
-use Rattle.event_views.specs.declared.choice.Choice.{Choice}
+use Rattle.lane_charts.specs.declared.chart.Arrival.{Arrival}
+use Rattle.lane_charts.specs.declared.chart.Arrival.TheVariants.{Row}
+use Rattle.lane_charts.specs.Charts.{Drawing, with_arrow}
+use Rattle.event_views.specs.Runs.{AreNamed}
 use Rattle.event_views.specs.declared.run.EventView.{EventView}
-use Rattle.event_charts.specs.ChartsOfRuns.{arrows_at, arrows_from, place_if, row_of, takers, takes}
+use Rattle.event_charts.specs.ChartsOfRuns.{ends_of, is_late, with_arrows}
 use Rattle.event_charts.specs.LentViews.{lent_views}
 
 -- it has names
@@ -19,37 +20,27 @@ named-at names shown at x low is all =
     let there : get_or (lent_views shown) at x.now ≡ x.now = get_or-map seen shown at x x.now low ∙ ap seen (sym is) in
     subst (λ (v : EventView). Names names v.event) there (all at x.now (subst (λ n. at < n) (sym (length-map shown seen)) low))
 
--- it stands before those behind it
-pub next-shown : (shown : List (Bor EventView)) (at : ℕ) (x : Bor EventView) → at < length shown → x ≡ get_or shown at x → lent_views (drop at shown) ≡ x.now ∷ lent_views (drop (at + 1) shown)
-next-shown shown at x low is =
-    ap lent_views (drop-cons shown at x low ∙ (ap (λ (y : Bor EventView). y ∷ drop (suc at) shown) (sym is) ∙ ap (λ n. x ∷ drop n shown) (sym (add-one at))))
+-- places behind the first are among those that all are
+pub copies-within : (n : ℕ) (rows : List ℕ) (first : ℕ) (copies : List ℕ) → rows ≡ first ∷ copies → All (λ row. row < n) rows → All (λ row. row < n) copies
+copies-within n rows first copies are all k d low =
+    let whole : All (λ row. row < n) (first ∷ copies) = subst (All (λ row. row < n)) are all in
+    whole (suc k) d (omega (arith, low))
 
--- and behind those before it
-pub more-rows : (run : Run) (shown : List (Bor EventView)) (at : ℕ) (x : Bor EventView) → at < length shown → x ≡ get_or shown at x
-    → map (row_of run) (lent_views (take (at + 1) shown)) ≡ map (row_of run) (lent_views (take at shown)) ++ row_of run x.now ∷ []
-more-rows run shown at x low is =
-    let seen : Bor EventView → EventView = λ (v : Bor EventView). v.now in
-    ap (λ (vs : List (Bor EventView)). map (row_of run) (lent_views vs)) (take_more shown at x low ∙ ap (λ (y : Bor EventView). take at shown ++ y ∷ []) (sym is))
-    ∙ (ap (map (row_of run)) (map-append seen (take at shown) (x ∷ [])) ∙ map-append (row_of run) (lent_views (take at shown)) (x.now ∷ []))
+arrows-each : (arrow : Arrival × Bool → Arrow) (copies : List ℕ) → map (λ row. arrow (Row row, true)) copies ≡ map arrow (map (λ row. (Row row, true)) copies)
+arrows-each arrow [] = refl
+arrows-each arrow (row ∷ copies) = ap (λ (more : List Arrow). arrow (Row row, true) ∷ more) (arrows-each arrow copies)
 
-place-in-front : (b : Bool) (n : ℕ) (rows : List ℕ) → place_if b n rows ≡ place_if b n [] ++ rows
-place-in-front true n rows = refl
-place-in-front false n rows = refl
+-- an arrow to the first that took a frame, and then to the others
+pub sent-arrows : (arrow : Arrival × Bool → Arrow) (fate : Fate) (late : Bool) (first : ℕ) (copies : List ℕ) (start one all : Drawing) → late ≡ is_late fate
+    → one ≡ with_arrow start (arrow (Row first, late)) → all ≡ with_arrows one (map (λ row. arrow (Row row, true)) copies)
+    → all ≡ with_arrows start (map arrow (ends_of fate (first ∷ copies)))
+sent-arrows arrow fate late first copies start one all lates ones alls =
+    alls
+    ∙ (ap (λ (c : Drawing). with_arrows c (map (λ row. arrow (Row row, true)) copies)) (ones ∙ ap (λ b. with_arrow start (arrow (Row first, b))) lates)
+    ∙ ap (λ (arrows : List Arrow). record start { arrows = arrows })
+    (append_assoc start.arrows (arrow (Row first, is_late fate) ∷ []) (map (λ row. arrow (Row row, true)) copies)
+    ∙ ap (λ (more : List Arrow). start.arrows ++ (arrow (Row first, is_late fate) ∷ more)) (arrows-each arrow copies)))
 
--- whether it takes a frame
-pub next-taker : (rows all : List ℕ) (from : ℕ) (sent : Sent) (shown : List (Bor EventView)) (at : ℕ) (x : Bor EventView) → at < length shown → x ≡ get_or shown at x
-    → rows ++ takers at from sent (lent_views (drop at shown)) ≡ all
-    → (rows ++ place_if (takes from sent x.now) at []) ++ takers (at + 1) from sent (lent_views (drop (at + 1) shown)) ≡ all
-next-taker rows all from sent shown at x low is before =
-    append_assoc rows (place_if (takes from sent x.now) at []) (takers (at + 1) from sent (lent_views (drop (at + 1) shown)))
-    ∙ (ap (λ (ns : List ℕ). rows ++ ns)
-    (sym (place-in-front (takes from sent x.now) at (takers (at + 1) from sent (lent_views (drop (at + 1) shown)))) ∙ sym (ap (takers at from sent) (next-shown shown at x low is)))
-    ∙ before)
-
--- the arrows of its frame
-pub next-arrows : (choice : Choice) (run : Run) (views : List EventView) (arrows all : List Arrow) (shown : List (Bor EventView)) (at : ℕ) (x : Bor EventView) → at < length shown → x ≡ get_or shown at x
-    → arrows ++ arrows_from choice run views at (lent_views (drop at shown)) ≡ all
-    → (arrows ++ arrows_at choice run views at x.now) ++ arrows_from choice run views (at + 1) (lent_views (drop (at + 1) shown)) ≡ all
-next-arrows choice run views arrows all shown at x low is before =
-    append_assoc arrows (arrows_at choice run views at x.now) (arrows_from choice run views (at + 1) (lent_views (drop (at + 1) shown)))
-    ∙ (ap (λ (more : List Arrow). arrows ++ more) (sym (ap (arrows_from choice run views at) (next-shown shown at x low is))) ∙ before)
+pub on-ok : {T E : Type 0} (r : Result T E) (P Q : Type 0) → (P → Q) → OnOk r P → OnOk r Q
+on-ok (Ok x) P Q f is = f is
+on-ok (Err e) P Q f is = tt
