@@ -1,5 +1,5 @@
 use Rattle.std.proofs.Common.{◌≡◌, ◌∙◌, sym, ap, subst}
-use Rattle.std.specs.Prelude.{All, map, reverse}
+use Rattle.std.specs.Prelude.{All, map}
 use Rattle.uid_names.specs.Openings.{IsStart}
 use Rattle.dom_history.specs.NodeTexts.{AreNodeNames}
 use Rattle.journal_text.specs.Lines.{Names}

@@ -2,7 +2,7 @@ use Rattle.std.proofs.Common.{◌∷◌, ap}
 use Rattle.uid_names.specs.declared.ids.Place.{Place}
 use Rattle.script_runs.specs.Setups.{setup_of}
 use Rattle.script_runner.specs.Nodes.{made_shell}
-use Rattle.run_views.proofs.Walking.{done-next, few-done, never-none, refused, same-next}
+use Rattle.run_views.proofs.Walking.{done-next, few-done, never-none, same-next}
 use Rattle.run_views.proofs.views.view_of.Goals as goal
 
 pub step-requires : goal.step-requires
