@@ -1,0 +1,10 @@
+//! What a run counts: frames by link and kind with what became of them, what each node asked for and gave back, and how its commands went.
+#![tactic(auto)]
+
+pub mod commands;
+pub mod frames;
+pub mod nodes;
+
+pub use commands::{commands_of_kind, locks_refused, span_of, spans_of_kind};
+pub use frames::{Became, frames_noticed, frames_sent};
+pub use nodes::{pages_asked, pages_dropped, pages_sent_home};
