@@ -1,0 +1,2 @@
+pub mod ChartsOfRuns
+pub mod LentViews

@@ -1,0 +1,15 @@
+//! Charts of lanes: what happened in each of some lanes, from the top down, and arrows from one to another. A chart is drawn for
+//! a terminal, or as a picture.
+#![tactic(auto)]
+
+mod cells;
+pub mod chart;
+mod cuts;
+pub mod escape;
+pub mod laws;
+pub mod text;
+mod way;
+
+pub use chart::{Arrival, Arrow, Chart, ChartRow, MOST_LANES, MOST_ROWS};
+pub use escape::escaped;
+pub use text::draw_text;
