@@ -2,6 +2,8 @@
 #![tactic(auto)]
 
 mod asked;
+mod differing;
+mod lanes;
 mod reading;
 mod searching;
 mod showing;

@@ -1,28 +1,45 @@
-//! Standard input: a script, and a journal behind it.
+//! Standard input: a script, or a script and a journal behind it.
 use dom_io::{ReadEnd, Source, read_all};
 use dom_text::put_decimal;
+use event_views::RunView;
+use journal_check::{CheckFault, JOURNAL_BYTES};
+use node_core::RunFault;
+use run_views::{run_in_turns, run_of_journal};
 use script_reader::{Cause, Script, ScriptFault, read_script};
+use script_runner::parted::parted;
 use std::alloc::Global;
 use uid_names::{ByteList, NoMemory, SCRIPT_BYTES};
 
-/// What is said in place of an answer, and the status that says it; nothing is said where reading failed or memory was wanted.
+/// What is said, and the status that says it. Nothing is said where a read failed, a node came to the last tick or memory was wanted.
 #[derive(Drop, Debug)]
 pub(crate) struct Said {
     pub(crate) status: u8,
     pub(crate) text: Option<ByteList>,
 }
 
-impl From<NoMemory> for Said {
-    fn from(_error: NoMemory) -> Said {
+impl Said {
+    /// This text.
+    pub(crate) fn new(status: u8, text: ByteList) -> Said {
         Said {
-            status: 7,
-            text: None,
+            status,
+            text: Some(text),
         }
+    }
+
+    /// Nothing but the status.
+    pub(crate) fn nothing(status: u8) -> Said {
+        Said { status, text: None }
     }
 }
 
-/// What is said of a line, and why: the words of `domain`.
-pub(crate) fn line_text(alloc: Global, line: u64, why: &str) -> Result<ByteList, NoMemory> {
+impl From<NoMemory> for Said {
+    fn from(_error: NoMemory) -> Said {
+        Said::nothing(7)
+    }
+}
+
+/// What is said of a line, and why, in the words of `domain`.
+fn line_text(alloc: Global, line: u64, why: &str) -> Result<ByteList, NoMemory> {
     let mut text = ByteList::from_slice(alloc, b"line ")?;
     put_decimal(&mut text, line)?;
     text.extend(b": ")?;
@@ -33,35 +50,26 @@ pub(crate) fn line_text(alloc: Global, line: u64, why: &str) -> Result<ByteList,
 
 /// What is said of a bad line of a script.
 fn refusal(alloc: Global, line: u32, cause: Cause) -> Result<Said, NoMemory> {
-    Ok(Said {
-        status: 3,
-        text: Some(line_text(alloc, u64::from(line), cause.text())?),
-    })
+    let text = line_text(alloc, u64::from(line), cause.text())?;
+    Ok(Said::new(3, text))
 }
 
 /// All bytes of a source that may have so many.
-pub(crate) fn bytes_of<S: Source>(
-    alloc: Global,
-    source: &mut S,
-    limit: u32,
-) -> Result<ByteList, Said> {
+fn bytes_of<S: Source>(alloc: Global, source: &mut S, limit: u32) -> Result<ByteList, Said> {
     match read_all(alloc, source, limit) {
         Ok(bytes) => Ok(bytes),
         Err(ReadEnd::TooLong) => Err(refusal(alloc, 0, Cause::TooLong)?),
-        Err(ReadEnd::ReadFault) => Err(Said {
-            status: 4,
-            text: None,
-        }),
-        Err(ReadEnd::NoMemory) => Err(Said::from(NoMemory)),
+        Err(ReadEnd::ReadFault) => Err(Said::nothing(4)),
+        Err(ReadEnd::NoMemory) => Err(Said::nothing(7)),
     }
 }
 
 /// The script of these bytes.
-pub(crate) fn script_of(alloc: Global, bytes: &[u8]) -> Result<Script, Said> {
+fn script_of(alloc: Global, bytes: &[u8]) -> Result<Script, Said> {
     match read_script(alloc, bytes) {
         Ok(script) => Ok(script),
         Err(ScriptFault::Bad { line, cause }) => Err(refusal(alloc, line, cause)?),
-        Err(ScriptFault::NoMemory) => Err(Said::from(NoMemory)),
+        Err(ScriptFault::NoMemory) => Err(Said::nothing(7)),
     }
 }
 
@@ -69,4 +77,66 @@ pub(crate) fn script_of(alloc: Global, bytes: &[u8]) -> Result<Script, Said> {
 pub(crate) fn read_input<S: Source>(alloc: Global, source: &mut S) -> Result<Script, Said> {
     let bytes = bytes_of(alloc, source, SCRIPT_BYTES)?;
     script_of(alloc, bytes.bytes())
+}
+
+/// The run of a script in the turns of a number.
+fn run_of_turns(
+    alloc: Global,
+    script: &Script,
+    source: &[u8],
+    turns: u64,
+) -> Result<RunView, Said> {
+    match run_in_turns(alloc, script, source, turns) {
+        Ok(run) => Ok(run),
+        Err(RunFault::TickLimit(_)) => Err(Said::nothing(8)),
+        Err(RunFault::NoMemory) => Err(Said::nothing(7)),
+    }
+}
+
+/// The run of a script that has this journal.
+fn run_of_text(
+    alloc: Global,
+    script: &Script,
+    source: &[u8],
+    journal: &[u8],
+) -> Result<RunView, Said> {
+    match run_of_journal(alloc, script, source, journal) {
+        Ok(run) => Ok(run),
+        Err(CheckFault::No { line, cause }) => {
+            Err(Said::new(9, line_text(alloc, line, cause.text())?))
+        }
+        Err(CheckFault::NoMemory) => Err(Said::nothing(7)),
+    }
+}
+
+/// A script and its source, and a run of it.
+#[derive(Drop)]
+pub(crate) struct ReadRun {
+    pub(crate) run: RunView,
+    pub(crate) other: Option<RunView>,
+}
+
+/// The run of the script that a source has: that of the journal behind it, or that of the number where there is none; and that of another number, if one
+/// is given.
+pub(crate) fn read_runs<S: Source>(
+    alloc: Global,
+    source: &mut S,
+    turns: u64,
+    other: Option<u64>,
+) -> Result<ReadRun, Said> {
+    let bytes = bytes_of(alloc, source, JOURNAL_BYTES)?;
+    let (text, journal) = match parted(bytes.bytes()) {
+        Some((text, journal)) => (text, Some(journal)),
+        None => (bytes.bytes(), None),
+    };
+    let script = script_of(alloc, text)?;
+    let run = match journal {
+        Some(journal) => run_of_text(alloc, &script, text, journal)?,
+        None => run_of_turns(alloc, &script, text, turns)?,
+    };
+    let other = match other {
+        Some(turns) => Some(run_of_turns(alloc, &script, text, turns)?),
+        None => None,
+    };
+    Ok(ReadRun { run, other })
 }

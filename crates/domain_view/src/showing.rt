@@ -1,14 +1,16 @@
 //! Shows what is asked for.
 use crate::asked::Asked;
-use crate::reading::{Said, read_input};
-use crate::searching::explored;
+use crate::differing::differing;
+use crate::lanes::drawn;
+use crate::reading::{Said, read_input, read_runs};
+use crate::searching::{explored, found};
 use crate::words_asked::asked;
 use clap::Error;
 use clap::error::ErrorKind;
 use dom_io::{Sink, Source, write_all};
 use std::alloc::Global;
 use std::thread::Threads;
-use uid_names::{ByteList, NoMemory};
+use uid_names::NoMemory;
 
 /// Writes a text: the status, or 5 where a write failed.
 fn write_text<O: Sink>(out: &mut O, text: &[u8], status: u8) -> u8 {
@@ -46,26 +48,35 @@ fn write_error<O: Sink, N: Sink>(alloc: Global, error: &Error, out: &mut O, note
     }
 }
 
-/// What is said to what is asked.
-fn said_to<R: Threads + Sync, S: Source, N: Sink>(
+/// What is said of many numbers of turns, or of a run.
+fn said_to<R: Threads, S: Source, N: Sink>(
     rt: &R,
     alloc: Global,
     asked: &Asked,
     processors: usize,
-    tells: bool,
+    notes: Option<&mut N>,
     input: &mut S,
-    notes: &mut N,
 ) -> Result<Said, Said> {
     match asked {
+        Asked::Lanes(turns, shown) => {
+            let read = read_runs(alloc, input, *turns, None)?;
+            drawn(alloc, &read.run, shown)
+        }
+        Asked::Diff(turns, other) => {
+            let read = read_runs(alloc, input, *turns, Some(*other))?;
+            match &read.other {
+                Some(other) => differing(alloc, &read.run, other),
+                None => Ok(Said::nothing(0)),
+            }
+        }
         Asked::Explore(numbers) => {
             let script = read_input(alloc, input)?;
-            let notes = if tells { Some(notes) } else { None };
-            explored(rt, alloc, &script, *numbers, processors, notes)
+            explored(rt, alloc, &script, numbers, processors, notes)
         }
-        Asked::Find(_, _) => Err(Said {
-            status: 1,
-            text: None,
-        }),
+        Asked::Find(numbers, words) => {
+            let script = read_input(alloc, input)?;
+            found(rt, alloc, &script, words.items(), numbers, processors, notes)
+        }
     }
 }
 
@@ -81,7 +92,7 @@ fn said_to<R: Threads + Sync, S: Source, N: Sink>(
 /// - 7: there was no memory;
 /// - 8: a node came to the last tick;
 /// - 9: the journal is not that of a run of the script, and its line at fault was named with the cause.
-pub(crate) fn show<R: Threads + Sync, S: Source, O: Sink, N: Sink>(
+pub(crate) fn show<R: Threads, S: Source, O: Sink, N: Sink>(
     rt: &R,
     alloc: Global,
     words: &[String],
@@ -95,8 +106,8 @@ pub(crate) fn show<R: Threads + Sync, S: Source, O: Sink, N: Sink>(
         Ok(asked) => asked,
         Err(error) => return write_error(alloc, &error, out, notes),
     };
-    match said_to(rt, alloc, &asked, processors, tells, input, notes) {
-        Ok(said) => write_said(out, &said),
-        Err(said) => write_said(out, &said),
+    let told = if tells { Some(&mut *notes) } else { None };
+    match said_to(rt, alloc, &asked, processors, told, input) {
+        Ok(said) | Err(said) => write_said(out, &said),
     }
 }

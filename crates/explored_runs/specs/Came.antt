@@ -7,8 +7,8 @@ use Rattle.script_runner.specs.declared.run.Ran.{Ran}
 use Rattle.script_runner.specs.Reports.{RunOf}
 use Rattle.script_runner.specs.Faults.{ComesToLastTick}
 use Rattle.run_outcomes.specs.declared.outcome.OutcomeRow.{OutcomeRow}
-use Rattle.explored_runs.specs.declared.came.CameOf.{CameOf}
-use Rattle.explored_runs.specs.declared.came.CameOf.TheVariants.{Answers, LastTick, NoMemory}
+use Rattle.explored_counts.specs.declared.came.CameOf.{CameOf}
+use Rattle.explored_counts.specs.declared.came.CameOf.TheVariants.{Answers, LastTick, NoMemory}
 
 -- a process and its answers, as outcomes have them
 abbrev pub outcome_row : AnswerRow → OutcomeRow

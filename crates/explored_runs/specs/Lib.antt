@@ -1,3 +1,2 @@
 pub mod Came
-pub mod Seen
-pub mod Told
+pub mod Explored

@@ -2,23 +2,13 @@
 ghost use Rattle.std.specs.Prelude.{◌≡◌, map, IfOk};
 ghost use Rattle.explored_runs.specs.Came.{IsCameOf, IsOutcomeOf, outcome_row};
 
+use explored_counts::CameOf;
 use node_core::RunFault;
 use run_outcomes::{Outcome, OutcomeRow};
 use script_reader::Script;
 use script_runner::{AnswerRow, LAST_TICK, Ran, run_script_in_turns};
 use std::alloc::Global;
 use uid_names::{ByteList, ItemList, NoMemory};
-
-/// What came of a number of turns.
-#[derive(Drop, Debug)]
-pub enum CameOf {
-    /// The answers of all processes.
-    Answers(Outcome),
-    /// A node came to the last tick.
-    LastTick,
-    /// There was no memory.
-    NoMemory,
-}
 
 /// Copies of answers.
 fn copy_answers(alloc: Global, answers: &[ByteList]) -> Result<ItemList<ByteList>, NoMemory>

@@ -1,15 +1,12 @@
-//! What comes of a script in the turns of each of many numbers: its runs on all processors, and what is told of them.
+//! Runs a script in the turns of each of many numbers, on all processors.
 #![tactic(auto)]
 
+pub mod batches;
 pub mod came;
 pub mod exploring;
 pub mod laws;
-mod numbers;
-pub mod seen;
-mod texts;
+pub mod numbers;
 
-pub use came::{CameOf, came_of};
+pub use came::came_of;
 pub use exploring::explore;
 pub use numbers::came_of_numbers;
-pub use seen::{Explored, Missed};
-pub use texts::explored_text;

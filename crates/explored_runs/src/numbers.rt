@@ -1,9 +1,9 @@
 //! What came of each of many numbers, on several threads.
 ghost use Rattle.std.specs.Prelude.{◌≡◌, ◌+◌, ◌≤◌, ◌<◌, ◌^◌, length, IfOk};
-ghost use Rattle.std.specs.Thread.{IsSync};
 ghost use Rattle.explored_runs.specs.Came.{AreCameOf};
 
-use crate::came::{CameOf, came_of};
+use crate::came::came_of;
+use explored_counts::CameOf;
 use script_reader::Script;
 use std::alloc::Global;
 use std::thread::{Threads, join};
@@ -24,7 +24,7 @@ fn came_in_turn(alloc: Global, script: &Script, from: u64, to: u64) -> Result<Ve
 
 /// What came of each of the numbers from one up to another, which is none of them, in their order. They are run on as many threads as are asked
 /// for, of which each has as many of them.
-pub fn came_of_numbers<R: Threads + Sync>(
+pub fn came_of_numbers<R: Threads>(
     rt: &R,
     alloc: Global,
     script: &Script,
@@ -47,7 +47,7 @@ pub fn came_of_numbers<R: Threads + Sync>(
             ensures { IfOk result (λ list. AreCameOf script.entry.now from list.items × (from + length list.items ≡ middle)) }
         { came_in_turn(alloc, script, from, middle) },
         || -> Result<Vec<CameOf>, NoMemory>
-            requires { IsSync R.row × (middle ≤ to) }
+            requires { middle ≤ to }
             ensures { IfOk result (λ list. AreCameOf script.entry.now middle list.items × (middle + length list.items ≡ to)) }
         { came_of_numbers(rt, alloc, script, middle, to, threads - 1) },
     );

@@ -1,13 +1,12 @@
 -- A number is added where the outcome stands, or behind all.
-use Rattle.std.proofs.Common.{◌≡◌, ℕ, zero, suc, ◌+◌, ◌<◌, Bool, true, false, cond, List, [], ◌∷◌, length, get_or, slice_set, nat_lt, Option, Some, None, refl, arith, sym, ap, subst, ◌∙◌, count_by}
+use Rattle.std.proofs.Common.{◌≡◌, ℕ, zero, suc, ◌+◌, ◌<◌, Bool, true, false, List, [], ◌∷◌, length, get_or, slice_set, Some, None, refl, arith, ap, ◌∙◌, count_by}
 use Rattle.std.specs.List.{list_any, position}
 use Rattle.std.proofs.lemmas.List.Quantifiers.{position-Some}
 use Rattle.uid_names.proofs.ListLemmas.{by_cases, count_by-cons_passes, count_by-cons_fails, count_by-position_none}
 use Rattle.run_outcomes.specs.declared.outcome.OutcomeRow.{OutcomeRow}
 use Rattle.run_outcomes.specs.declared.tally.KeptOutcome.{KeptOutcome}
-use Rattle.run_outcomes.specs.declared.tally.TheConstants.{KEPT_OUTCOMES}
 use Rattle.run_outcomes.specs.Outcomes.{same_outcome}
-use Rattle.run_outcomes.specs.Tallies.{Tallied, noted, noted_in, is_kept, tallied, tallied_by}
+use Rattle.run_outcomes.specs.Tallies.{Tallied, noted, noted_in, is_kept, tallied}
 
 -- none passes where none is counted
 any-uncounted : {X : Type 0} (p : X → Bool) (xs : List X) → count_by p xs ≡ 0 → list_any p xs ≡ false
@@ -42,6 +41,6 @@ pub add-there : (number : ℕ) (outcome : List OutcomeRow) (t : Tallied) (at : �
 add-there number outcome t at was now place stands is =
     let tells = position-Some (λ k. same_outcome k.outcome outcome) t.rows at was place in
     let made : slice_set t.rows at now ≡ noted_in number outcome t.rows =
-        ap (λ x. slice_set t.rows at x) (is ∙ ap (noted number) stands) ∙ noted-at number outcome t.rows at was tells.0 tells.1 tells.2 in
+    ap (λ x. slice_set t.rows at x) (is ∙ ap (noted number) stands) ∙ noted-at number outcome t.rows at was tells.0 tells.1 tells.2 in
     let kept : is_kept outcome t.rows ≡ true = any-at (λ k. same_outcome k.outcome outcome) t.rows at was tells.0 tells.1 in
     rw kept (ap (λ rows. record { rows = rows; rest = t.rest; added = t.added + 1 }) made)

@@ -1,5 +1,5 @@
 -- A tally of all that was added, with one number more.
-use Rattle.std.proofs.Common.{◌≡◌, ℕ, zero, suc, ◌+◌, ◌<◌, ◌≤◌, Bool, true, false, not, cond, ◌||◌, List, [], ◌∷◌, ◌++◌, map, filter, length, take, nat_lt, count_by, min, refl, arith, sym, ap, subst, ◌∙◌, length-append, add-one}
+use Rattle.std.proofs.Common.{◌≡◌, ℕ, zero, suc, ◌+◌, ◌<◌, ◌≤◌, Bool, true, false, not, cond, ◌||◌, List, [], ◌∷◌, ◌++◌, map, length, take, nat_lt, min, refl, arith, sym, ap, subst, ◌∙◌, length-append, add-one}
 use Rattle.std.specs.List.{list_any}
 use Rattle.std.proofs.lemmas.Bool.Decides.{nat_tests}
 use Rattle.std.proofs.lemmas.List.{take-append-le, length-take, map-append}
@@ -8,8 +8,8 @@ use Rattle.run_outcomes.specs.declared.outcome.OutcomeRow.{OutcomeRow}
 use Rattle.run_outcomes.specs.declared.tally.KeptOutcome.{KeptOutcome}
 use Rattle.run_outcomes.specs.declared.tally.TheConstants.{KEPT_OUTCOMES}
 use Rattle.run_outcomes.specs.Outcomes.{same_outcome}
-use Rattle.run_outcomes.specs.Tallies.{Tallied, empty_tally, fresh_row, noted, noted_in, is_kept, tallied, tallied_by}
-use Rattle.run_outcomes.specs.Counts.{Gave, is_among, with_met, met, kept, numbers_of, least, row_of, count_beside, tally_of}
+use Rattle.run_outcomes.specs.Tallies.{Tallied, fresh_row, noted, noted_in, is_kept, tallied, tallied_by}
+use Rattle.run_outcomes.specs.Counts.{Gave, is_among, with_met, met, numbers_of, least, row_of, count_beside, tally_of}
 use Rattle.run_outcomes.proofs.Same.{outcome-same, outcome-own}
 
 module _ {X : Type 0} (p : X → Bool) where
@@ -229,7 +229,7 @@ module _ (room : ℕ) (g : Gave) (past : List Gave) where
       let none : is_kept g.outcome (map (row_of past) (take room (met past))) ≡ false = kept-among g.outcome past (take room (met past)) ∙ is in
       let fits : nat_lt (length (map (row_of past) (take room (met past)))) room ≡ true = rw (length-map (row_of past) (take room (met past))) (grind (arith, nat_tests)) in
       let fresh : row_of (g ∷ past) g.outcome ≡ fresh_row g.number g.outcome =
-          ap (λ ns. record { outcome = g.outcome; count = length ns; lowest = least ns }) (numbers-same g.outcome g past (outcome-own g.outcome) ∙ ap (λ ns. g.number ∷ ns) (numbers-none g.outcome (met past) past (met-in past) new)) in
+      ap (λ ns. record { outcome = g.outcome; count = length ns; lowest = least ns }) (numbers-same g.outcome g past (outcome-own g.outcome) ∙ ap (λ ns. g.number ∷ ns) (numbers-none g.outcome (met past) past (met-in past) new)) in
       tally-same _ _ _ _ _ _
       (ap (map (row_of (g ∷ past))) each
       ∙ (map-append (row_of (g ∷ past)) (met past) (g.outcome ∷ [])
@@ -249,9 +249,9 @@ module _ (room : ℕ) (g : Gave) (past : List Gave) where
   more-full is high =
       let long : room ≤ length (met past) = omega (arith, high, length-take room (met past)) in
       let each : take room (met (g ∷ past)) ≡ take room (met past) =
-          by_cases (is_among g.outcome (met past)) (take room (met (g ∷ past)) ≡ take room (met past))
-          (λ seen. ap (λ b. take room (with_met b g.outcome (met past))) seen)
-          (λ new. ap (λ b. take room (with_met b g.outcome (met past))) new ∙ take-append-le room (met past) (g.outcome ∷ []) long) in
+      by_cases (is_among g.outcome (met past)) (take room (met (g ∷ past)) ≡ take room (met past))
+      (λ seen. ap (λ b. take room (with_met b g.outcome (met past))) seen)
+      (λ new. ap (λ b. take room (with_met b g.outcome (met past))) new ∙ take-append-le room (met past) (g.outcome ∷ []) long) in
       let none : is_kept g.outcome (map (row_of past) (take room (met past))) ≡ false = kept-among g.outcome past (take room (met past)) ∙ is in
       let full : nat_lt (length (map (row_of past) (take room (met past)))) room ≡ false = rw (length-map (row_of past) (take room (met past))) (grind (arith, nat_tests)) in
       tally-same _ _ _ _ _ _

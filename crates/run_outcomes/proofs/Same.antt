@@ -1,11 +1,11 @@
 -- Outcomes that pass as the same are the same.
-use Rattle.std.proofs.Common.{◌≡◌, ◌↔◌, ℕ, Bool, true, false, ◌&&◌, List, [], ◌∷◌, refl, arith, sym, ap, subst, ◌∙◌}
+use Rattle.std.proofs.Common.{◌≡◌, ◌↔◌, Bool, true, List, [], ◌∷◌, refl, arith, ap, subst, ◌∙◌}
 use Rattle.std.specs.Cmp.Lexicographic.{pointwise}
 use Rattle.std.specs.Prelude.{bytes_eq}
 use Rattle.std.proofs.lemmas.Bool.Decides.{nat_tests}
 use Rattle.std.proofs.lemmas.Slice.Eq.{bytes_eq-Decides}
 use Rattle.uid_names.specs.Names.{ProcName, same_proc}
-use Rattle.uid_names.proofs.Passed.{left-true, right-true, equal}
+use Rattle.uid_names.proofs.Passed.{left-true, right-true}
 use Rattle.run_outcomes.specs.declared.outcome.OutcomeRow.{OutcomeRow}
 use Rattle.run_outcomes.specs.Outcomes.{same_answers, same_row, same_outcome}
 

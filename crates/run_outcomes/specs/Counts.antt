@@ -1,5 +1,5 @@
 -- What a tally says of all that was added: which outcomes were met, how many numbers gave each, and the lowest.
-use Rattle.std.specs.Prelude.{ℕ, ◌+◌, ◌<◌, min, Bool, true, false, not, cond, List, [], ◌∷◌, ◌++◌, length, take, map, filter, count_by}
+use Rattle.std.specs.Prelude.{ℕ, min, Bool, true, false, not, List, [], ◌∷◌, ◌++◌, length, take, map, filter, count_by}
 use Rattle.std.specs.List.{list_any}
 use Rattle.run_outcomes.specs.declared.outcome.OutcomeRow.{OutcomeRow}
 use Rattle.run_outcomes.specs.declared.tally.KeptOutcome.{KeptOutcome}

@@ -1,6 +1,6 @@
-use Rattle.std.proofs.Common.{◌≡◌, ◌∙◌, sym, subst, arith, rules, length}
+use Rattle.std.proofs.Common.{◌∙◌, sym, arith}
 use Rattle.std.proofs.lemmas.Option.{slice_get_within}
-use Rattle.run_outcomes.proofs.BestRows.{IsBest, best-next, best-stays}
+use Rattle.run_outcomes.proofs.BestRows.{best-next, best-stays}
 use Rattle.run_outcomes.proofs.tally.commonest.Goals as goal
 use Rattle.run_outcomes.proofs.tally.commonest.Goals.{then-is_commoner, else-is_commoner}
 

@@ -1,4 +1,4 @@
-use Rattle.std.proofs.Common.{◌≡◌, ◌∙◌, ◌+◌, List, sym, ap, subst, false, nat_lt, length, OnOk, Some, None}
+use Rattle.std.proofs.Common.{◌≡◌, ◌∙◌, List, sym, ap, subst, nat_lt, length, OnOk, Some, None}
 use Rattle.std.specs.List.{position}
 use Rattle.run_outcomes.specs.declared.tally.KeptOutcome.{KeptOutcome}
 use Rattle.run_outcomes.specs.declared.tally.TheConstants.{KEPT_OUTCOMES}
@@ -10,7 +10,7 @@ use Rattle.run_outcomes.proofs.tally.Tally.add.Goals as goal
 pub returns-in_default-clause-ok : goal.returns-in_default-clause-ok
 returns-in_default-clause-ok c =
     let t = c.args.self.now in
-    let rows_are : c.deref.result.now ≡ t.rows = c.deref.ensures.value ∙ sym (ap (λ (x : Tallied). x.rows) c.self.view_is) in
+    let rows_are : c.deref.result.now ≡ t.rows = c.deref.ensures.value ∙ ap (λ (x : Tallied). x.rows) c.self.view_is in
     let place = subst (λ (r : List KeptOutcome). position (λ k. same_outcome k.outcome c.args.outcome.now) r ≡ None) rows_are (sym c.place_of.ensures ∙ c.in_default.is) in
     let nowhere = is_kept-nowhere c.args.outcome.now t.rows place in
     subst (λ b. OnOk c.add_other.result (c.add_other.new.self ≡ tallied_by b (nat_lt (length t.rows) KEPT_OUTCOMES) c.args.number c.args.outcome.now t)) (sym nowhere) c.add_other.ensures.ok
@@ -21,4 +21,4 @@ returns-clause-ok c =
     let t : Tallied = record { rows = rows; rest = c.self.inside.rest; added = c.self.inside.added } in
     let place = subst (λ (r : List KeptOutcome). position (λ k. same_outcome k.outcome c.args.outcome.now) r ≡ Some c.in-Some.at) c.deref.ensures.value (sym c.place_of.ensures ∙ c.in-Some.is) in
     add-there c.args.number c.args.outcome.now t c.in-Some.at c.index_mut.result.now c.note.new.row place c.index_mut.ensures.value c.note.ensures
-    ∙ ap (tallied c.args.number c.args.outcome.now) (sym c.self.view_is)
+    ∙ ap (tallied c.args.number c.args.outcome.now) c.self.view_is

@@ -1,13 +1,11 @@
 -- What came of numbers, counted, and with more of them.
-use Rattle.std.specs.Prelude.{ℕ, ◌+◌, ◌≡◌, min, Option, Some, None, List, [], ◌∷◌, length}
-use Rattle.script_reader.specs.Scripts.{Content}
+use Rattle.std.specs.Prelude.{ℕ, ◌+◌, min, Option, Some, None, List, [], ◌∷◌}
 use Rattle.run_outcomes.specs.Tallies.{tallied, empty_tally}
 use Rattle.run_outcomes.specs.Counts.{Gave}
-use Rattle.explored_runs.specs.declared.came.CameOf.{CameOf}
-use Rattle.explored_runs.specs.declared.came.CameOf.TheVariants.{Answers, LastTick, NoMemory}
-use Rattle.explored_runs.specs.declared.seen.Missed.{Missed}
-use Rattle.explored_runs.specs.declared.seen.Explored.{Explored}
-use Rattle.explored_runs.specs.Came.{AreCameOf}
+use Rattle.explored_counts.specs.declared.came.CameOf.{CameOf}
+use Rattle.explored_counts.specs.declared.came.CameOf.TheVariants.{Answers, LastTick, NoMemory}
+use Rattle.explored_counts.specs.declared.seen.Missed.{Missed}
+use Rattle.explored_counts.specs.declared.seen.Explored.{Explored}
 
 abbrev pub empty_explored : Explored
 empty_explored = record { tally = empty_tally; last_tick = None; no_memory = None }
@@ -35,13 +33,6 @@ missed_count (Some m) = m.count
 -- how many numbers were added
 abbrev pub total_of : Explored → ℕ
 total_of e = e.tally.added + (missed_count e.last_tick + missed_count e.no_memory)
-
--- of a script in the turns of each number from one up to another, which is none of them, something came, and all of it is counted, by rising number
-pub record IsExplored (s : Content) (from to : ℕ) (e : Explored) : Type 0 where
-  pub came : List CameOf
-  pub are : AreCameOf s from came
-  pub all : from + length came ≡ to
-  pub counted : e ≡ explored_from from came empty_explored
 
 -- the numbers that gave answers, with them; the last one stands first
 abbrev pub gave_with : ℕ → CameOf → List Gave → List Gave

@@ -1,6 +1,6 @@
 //! What came of numbers, counted.
 ghost use Rattle.std.specs.Prelude.{◌≡◌, ◌+◌, ◌-◌, ◌<◌, ◌≤◌, ◌^◌, length, Some, OnOk};
-ghost use Rattle.explored_runs.specs.Seen.{empty_explored, missed_with, explored_with, explored_from, total_of, missed_count};
+ghost use Rattle.explored_counts.specs.Seen.{empty_explored, missed_with, explored_with, explored_from, total_of, missed_count};
 
 use crate::came::CameOf;
 use run_outcomes::Tally;

@@ -3,10 +3,10 @@ use Rattle.std.proofs.Common.{◌≡◌, ℕ, ◌+◌, List, [], ◌∷◌, refl
 use Rattle.run_outcomes.specs.Tallies.{Tallied, tallied}
 use Rattle.run_outcomes.specs.Counts.{Gave, tally_of}
 use Rattle.run_outcomes.proofs.Counted.{tally_of_more}
-use Rattle.explored_runs.specs.declared.came.CameOf.{CameOf}
-use Rattle.explored_runs.specs.declared.came.CameOf.TheVariants.{Answers, LastTick, NoMemory}
-use Rattle.explored_runs.specs.declared.seen.Explored.{Explored}
-use Rattle.explored_runs.specs.Seen.{empty_explored, explored_with, explored_from, gave_with, gave_from}
+use Rattle.explored_counts.specs.declared.came.CameOf.{CameOf}
+use Rattle.explored_counts.specs.declared.came.CameOf.TheVariants.{Answers, LastTick, NoMemory}
+use Rattle.explored_counts.specs.declared.seen.Explored.{Explored}
+use Rattle.explored_counts.specs.Seen.{empty_explored, explored_with, explored_from, gave_with, gave_from}
 
 tally-with : (number : ℕ) (came : CameOf) (e : Explored) (past : List Gave) → e.tally ≡ tally_of past → (explored_with number came e).tally ≡ tally_of (gave_with number came past)
 tally-with number (Answers outcome) e past is = ap (tallied number outcome) is ∙ sym (tally_of_more (record { number = number; outcome = outcome }) past)
