@@ -8,12 +8,7 @@ use std::alloc::Global;
 use uid_names::{ByteList, NoMemory};
 
 /// Puts the event of a place, as the journal has it, or that there is none.
-fn put_event(
-    alloc: Global,
-    to: &mut ByteList,
-    run: &RunView,
-    at: usize,
-) -> Result<(), NoMemory> {
+fn put_event(alloc: Global, to: &mut ByteList, run: &RunView, at: usize) -> Result<(), NoMemory> {
     let Some(view) = run.events().get(at) else {
         return to.extend(b"no event\n");
     };

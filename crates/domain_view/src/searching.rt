@@ -1,4 +1,7 @@
 //! What is told of many numbers of turns.
+ghost use Rattle.std.specs.Prelude.{◌≡◌, IfOk};
+ghost use Rattle.domain_view.specs.Searches.{SaysExplored, SaysFound, found_line};
+
 use crate::asked::Numbers;
 use crate::reading::Said;
 use dom_io::Sink;
@@ -28,17 +31,29 @@ pub(crate) fn explored<R: Threads, N: Sink>(
     numbers: &Numbers,
     processors: usize,
     notes: Option<&mut N>,
-) -> Result<Said, Said> {
+) -> Result<Said, Said>
+    ensures { IfOk result (SaysExplored script.now numbers.now.first numbers.now.end) }
+{
     let threads = threads_of(numbers, processors);
     let all = numbers.end - numbers.first;
-    let explored = explore(rt, alloc, script, numbers.first, numbers.end, threads, notes)?;
+    let explored = explore(
+        rt,
+        alloc,
+        script,
+        numbers.first,
+        numbers.end,
+        threads,
+        notes,
+    )?;
     let names = names_of(alloc, script.nodes())?;
     let text = explored_text(alloc, &names, &explored, all)?;
     Ok(Said::new(0, text))
 }
 
 /// A number and the line of its journal.
-fn found_text(alloc: Global, found: &Found) -> Result<ByteList, NoMemory> {
+fn found_text(alloc: Global, found: &Found) -> Result<ByteList, NoMemory>
+    ensures { IfOk result (λ text. text ≡ found_line found.now) }
+{
     let mut text = ByteList::from_slice(alloc, b"turns ")?;
     put_decimal(&mut text, found.number)?;
     text.extend(b": ")?;
@@ -56,9 +71,20 @@ pub(crate) fn found<R: Threads, N: Sink>(
     numbers: &Numbers,
     processors: usize,
     notes: Option<&mut N>,
-) -> Result<Said, Said> {
+) -> Result<Said, Said>
+    ensures { IfOk result (SaysFound script.now words.now numbers.now.first numbers.now.end) }
+{
     let threads = threads_of(numbers, processors);
-    match find(rt, alloc, script, words, numbers.first, numbers.end, threads, notes)? {
+    match find(
+        rt,
+        alloc,
+        script,
+        words,
+        numbers.first,
+        numbers.end,
+        threads,
+        notes,
+    )? {
         Some(found) => Ok(Said::new(0, found_text(alloc, &found)?)),
         None => Ok(Said::nothing(1)),
     }

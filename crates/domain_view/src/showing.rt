@@ -75,7 +75,15 @@ fn said_to<R: Threads, S: Source, N: Sink>(
         }
         Asked::Find(numbers, words) => {
             let script = read_input(alloc, input)?;
-            found(rt, alloc, &script, words.items(), numbers, processors, notes)
+            found(
+                rt,
+                alloc,
+                &script,
+                words.items(),
+                numbers,
+                processors,
+                notes,
+            )
         }
     }
 }

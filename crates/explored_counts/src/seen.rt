@@ -23,7 +23,7 @@ pub struct Explored {
 }
 
 /// One number more.
-fn missed(so_far: Option<Missed>, number: u64) -> Missed
+fn one_more_missed(so_far: Option<Missed>, number: u64) -> Missed
     requires { missed_count so_far < 2 ^ 64 - 1 }
     ensures { Some result ≡ missed_with number so_far }
 {
@@ -59,8 +59,8 @@ impl Explored {
     {
         match came {
             CameOf::Answers(outcome) => self.tally.add(alloc, number, outcome.items())?,
-            CameOf::LastTick => self.last_tick = Some(missed(self.last_tick, number)),
-            CameOf::NoMemory => self.no_memory = Some(missed(self.no_memory, number)),
+            CameOf::LastTick => self.last_tick = Some(one_more_missed(self.last_tick, number)),
+            CameOf::NoMemory => self.no_memory = Some(one_more_missed(self.no_memory, number)),
         }
         Ok(())
     }

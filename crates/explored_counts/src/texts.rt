@@ -53,7 +53,8 @@ fn put_count(to: &mut ByteList, count: u64, total: u64, lowest: u64) -> Result<(
     to.extend(b" of ")?;
     put_decimal(to, total)?;
     to.extend(b", the lowest ")?;
-    put_decimal(to, lowest)
+    put_decimal(to, lowest)?;
+    Ok(())
 }
 
 /// Puts what marks the commonest outcome.

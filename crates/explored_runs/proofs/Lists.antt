@@ -31,7 +31,7 @@ explored-batch s first next to was now more so_far are all counted = record {
   are = are-append s first so_far.came more so_far.are (subst (λ n. AreCameOf s n more) (sym so_far.all) are);
   all = omega (arith, so_far.all, all, length-append so_far.came more);
   counted = counted ∙ (ap (explored_from next more) so_far.counted
-  ∙ (ap (λ n. explored_from n more (explored_from first so_far.came empty_explored)) (sym so_far.all) ∙ sym (from-append first so_far.came more empty_explored)));
+      ∙ (ap (λ n. explored_from n more (explored_from first so_far.came empty_explored)) (sym so_far.all) ∙ sym (from-append first so_far.came more empty_explored)));
 }
 
 -- nothing was explored yet

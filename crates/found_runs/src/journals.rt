@@ -5,8 +5,8 @@ ghost use Rattle.script_runs.specs.Reports.{names_of as names_in};
 ghost use Rattle.journal_text.specs.Lines.{Names, journal};
 ghost use Rattle.found_runs.specs.Sought.{first_with, IsSought};
 
-use dom_text::cut;
 use dom_history::NodeNames;
+use dom_text::cut;
 use event_views::has_words;
 use journal_text::write_journal;
 use node_core::RunFault;
