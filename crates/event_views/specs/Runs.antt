@@ -1,5 +1,5 @@
 -- What is shown of a run.
-use Rattle.std.specs.Prelude.{ℕ, ◌≡◌, List, map, All}
+use Rattle.std.specs.Prelude.{ℕ, List, map, All}
 use Rattle.dom_history.specs.Events.{Happening}
 use Rattle.dom_history.specs.declared.plan.FateRow.{FateRow}
 use Rattle.journal_text.specs.Lines.{Names}

@@ -1,5 +1,5 @@
 -- What a frame says, and what a reply says with the request that it answers.
-use Rattle.std.specs.Prelude.{ℕ, Option, Some, None, Bool, true, false}
+use Rattle.std.specs.Prelude.{ℕ, Option, Some, None}
 use Rattle.uid_names.specs.Names.{ObjectName}
 use Rattle.uid_names.specs.declared.mode.Mode.{Mode}
 use Rattle.ring_messages.specs.Bodies.{kind_of}

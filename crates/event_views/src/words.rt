@@ -1,6 +1,7 @@
 //! The words of commands in the source of a script.
 ghost use Rattle.std.specs.Prelude.{◌≡◌, ◌<◌, ◌++◌, ◌∷◌, length, Option, Some, None, IfOk, OnOk, option_copied, map};
 ghost use Rattle.std.specs.Option.{option_map};
+ghost use Rattle.std.specs.List.{flat_map};
 ghost use Rattle.dom_text.specs.Lent.{owned, owned_token};
 ghost use Rattle.dom_text.specs.Spelled.{spelling, line_of};
 ghost use Rattle.dom_text.specs.Tokens.{tokens_of};
@@ -56,17 +57,27 @@ fn put_token(alloc: Global, to: &mut ByteList, token: &TokenRef<'_>) -> Result<(
     }
 }
 
+/// Puts tokens as they are written, each behind a space.
+fn put_behind(alloc: Global, to: &mut ByteList, tokens: &[TokenRef<'_>]) -> Result<(), NoMemory>
+    ensures { OnOk result (to.new ≡ to.old ++ flat_map (λ token. 32 ∷ spelling (owned_token token)) tokens.now) }
+{
+    for token in tokens {
+        to.extend(b" ")?;
+        put_token(alloc, to, token)?;
+    }
+    Ok(())
+}
+
 /// Tokens as they are written, one space apart.
 fn spelled(alloc: Global, tokens: &[TokenRef<'_>]) -> Result<ByteList, NoMemory>
     ensures { IfOk result (λ text. text ≡ line_of (owned tokens.now)) }
 {
     let mut text = ByteList::new(alloc);
-    for (i, token) in tokens.iter().enumerate() {
-        if i > 0 {
-            text.extend(b" ")?;
-        }
-        put_token(alloc, &mut text, token)?;
-    }
+    let Some((first, rest)) = tokens.split_first() else {
+        return Ok(text);
+    };
+    put_token(alloc, &mut text, first)?;
+    put_behind(alloc, &mut text, rest)?;
     Ok(text)
 }
 

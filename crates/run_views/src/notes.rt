@@ -78,11 +78,19 @@ pub(crate) struct Notes<'a> {
 }
 
 /// What a frame says that was sent, a reply with what its request said.
-fn said_in(frame: &Frame, met: Option<FrameView>) -> FrameSaid {
+fn said_in(frame: &Frame, met: &Option<FrameView>) -> FrameSaid {
     let said = said_of(frame);
     match met {
         Some(met) if !said.kind.is_request() => met.said.answered_by(said),
         _ => said,
+    }
+}
+
+/// The command for which a frame was sent.
+fn command_of(frame: &Option<FrameView>) -> Option<CommandName> {
+    match frame {
+        Some(frame) => frame.command,
+        None => None,
     }
 }
 
@@ -179,12 +187,12 @@ impl<'a> Notes<'a> {
     }
 
     /// A frame that was sent, as it is shown: a request for the command that its process is at, a reply for that of the request.
-    fn shown(&self, frame: &Frame, met: Option<FrameView>) -> FrameView {
+    fn shown(&self, frame: &Frame, met: &Option<FrameView>) -> FrameView {
         let said = said_in(frame, met);
         let command = if said.kind.is_request() {
             self.at(frame.caller())
         } else {
-            met.and_then(|met| met.command)
+            command_of(met)
         };
         FrameView { said, command }
     }
@@ -195,7 +203,7 @@ impl<'a> Notes<'a> {
         node: NodeId,
         to: NodeId,
         frame: &Frame,
-        met: Option<FrameView>,
+        met: &Option<FrameView>,
     ) -> Result<FrameView, NoMemory> {
         let view = self.shown(frame, met);
         let count = self.phases.len();

@@ -1,0 +1,3 @@
+pub mod FrameCounts
+pub mod NodeCounts
+pub mod CommandCounts

@@ -1,0 +1,23 @@
+-- Runs by rising place, and what names their nodes.
+use Rattle.std.proofs.Common.{◌≡◌, ◌∙◌, ◌<◌, ℕ, List, length, map, sym, ap, subst}
+use Rattle.std.specs.Prelude.{All, reverse}
+use Rattle.std.proofs.lemmas.List.{get_or-map, length-map, reverse-reverse}
+use Rattle.dom_history.specs.Events.{Happening}
+use Rattle.journal_text.specs.Lines.{Names}
+use Rattle.node_runs.specs.Setups.{Setup}
+use Rattle.node_runs.specs.Runs.{IsRun}
+use Rattle.recent_runs.specs.Recent.{IsRecent}
+use Rattle.run_journals.specs.RecentRuns.{IsRecentRun}
+use Rattle.event_views.specs.Runs.{AreNamed, events_of}
+use Rattle.event_views.specs.declared.run.EventView.{EventView}
+
+-- the events of a recent run by rising place, the last one first again
+pub recent-again : (s : Setup) (es events : List Happening) → IsRun s es → IsRecent s es → events ≡ reverse es → IsRecentRun s (reverse events)
+recent-again s es events run recent same = subst (IsRecentRun s) (sym (ap reverse same ∙ reverse-reverse es)) (record { run = run; recent = recent })
+
+-- the views of events whose nodes have names
+pub views-named : (names : List (List ℕ)) (views : List EventView) (events : List Happening) → events_of views ≡ events → All (Names names) events → AreNamed names views
+views-named names views events same named i d below =
+    let event = λ (v : EventView). v.event in
+    let all : All (Names names) (events_of views) = subst (All (Names names)) (sym same) named in
+    subst (Names names) (get_or-map event views i d d.event below) (all i d.event (subst (λ n. i < n) (sym (length-map views event)) below))
