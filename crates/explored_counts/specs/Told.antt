@@ -21,9 +21,13 @@ difference_line names d = codes "  " ++ process_text names d.proc ++ codes " " +
 abbrev pub difference_lines : List (List ℕ) → List Difference → List ℕ
 difference_lines names ds = flat_map (difference_line names) ds
 
--- how many of all numbers, and the lowest of them
+-- how many of all numbers
+abbrev pub share_text : ℕ → ℕ → List ℕ
+share_text count total = decimal count ++ codes " of " ++ decimal total
+
+-- the same, and the lowest of them
 abbrev pub count_text : ℕ → ℕ → ℕ → List ℕ
-count_text count total lowest = decimal count ++ codes " of " ++ decimal total ++ codes ", the lowest " ++ decimal lowest
+count_text count total lowest = share_text count total ++ codes ", lowest " ++ decimal lowest
 
 -- what marks the commonest outcome
 abbrev pub mark : Bool → List ℕ
@@ -53,7 +57,7 @@ IsOutcomesText names total (row ∷ rows) text = AreTold names total (row ∷ ro
 
 -- the numbers that gave outcomes that are not kept
 abbrev pub rest_text : ℕ → ℕ → List ℕ
-rest_text rest total = if nat_lt 0 rest then decimal rest ++ codes " of " ++ decimal total ++ codes ", each with another outcome than these\n" else []
+rest_text rest total = if nat_lt 0 rest then share_text rest total ++ codes ", each with another outcome than these\n" else []
 
 -- the numbers that gave no answers, for one cause
 abbrev pub missed_text : List ℕ → ℕ → Option Missed → List ℕ

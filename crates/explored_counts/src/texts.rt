@@ -1,6 +1,6 @@
 //! What is told of the runs of many numbers.
 ghost use Rattle.std.specs.Prelude.{◌≡◌, ◌++◌, codes, decimal, IfOk, OnOk};
-ghost use Rattle.explored_counts.specs.Told.{answer_text, difference_line, difference_lines, count_text, mark as mark_text, outcome_text, outcome_texts, IsOutcomesText, rest_text, missed_text, is_one as are_one, IsListed, IsTold};
+ghost use Rattle.explored_counts.specs.Told.{answer_text, difference_line, difference_lines, share_text, count_text, mark as mark_text, outcome_text, outcome_texts, IsOutcomesText, rest_text, missed_text, is_one as are_one, IsListed, IsTold};
 
 use crate::seen::{Explored, Missed};
 use dom_history::NodeNames;
@@ -45,16 +45,22 @@ fn put_differences(to: &mut ByteList, names: &NodeNames, all: &[Difference]) -> 
     Ok(())
 }
 
+/// Puts how many of all numbers.
+fn put_share(to: &mut ByteList, count: u64, total: u64) -> Result<(), NoMemory>
+    ensures { OnOk result (to.new ≡ to.old ++ share_text count total) }
+{
+    put_decimal(to, count)?;
+    to.extend(b" of ")?;
+    put_decimal(to, total)
+}
+
 /// Puts how many of all numbers, and the lowest.
 fn put_count(to: &mut ByteList, count: u64, total: u64, lowest: u64) -> Result<(), NoMemory>
     ensures { OnOk result (to.new ≡ to.old ++ count_text count total lowest) }
 {
-    put_decimal(to, count)?;
-    to.extend(b" of ")?;
-    put_decimal(to, total)?;
-    to.extend(b", the lowest ")?;
-    put_decimal(to, lowest)?;
-    Ok(())
+    put_share(to, count, total)?;
+    to.extend(b", lowest ")?;
+    put_decimal(to, lowest)
 }
 
 /// Puts what marks the commonest outcome.
@@ -127,9 +133,7 @@ fn put_rest(to: &mut ByteList, rest: u64, total: u64) -> Result<(), NoMemory>
     if rest == 0 {
         return Ok(());
     }
-    put_decimal(to, rest)?;
-    to.extend(b" of ")?;
-    put_decimal(to, total)?;
+    put_share(to, rest, total)?;
     to.extend(b", each with another outcome than these\n")
 }
 
