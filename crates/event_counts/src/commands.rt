@@ -1,6 +1,6 @@
 //! How commands went.
-ghost use Rattle.std.specs.Prelude.{◌≡◌, ◌++◌, ◌∷◌, [], count_by, position, nat_eq};
-ghost use Rattle.std.specs.List.{list_any, starts_with};
+ghost use Rattle.std.specs.Prelude.{◌≡◌, ◌<◌, length, count_by, IfSome};
+ghost use Rattle.std.specs.List.{list_any};
 ghost use Rattle.event_views.specs.Chosen.{names_command};
 ghost use Rattle.event_views.specs.Commands.{same_command};
 ghost use Rattle.event_counts.specs.CommandCounts.{begin_of, end_of, span as span_between, span_of as span_in, is_conflict as is_a_conflict, is_refused as is_refused_lock};
@@ -30,14 +30,16 @@ fn is_among(command: &CommandName, named: &[CommandName]) -> bool
 
 /// The index of the first event with which a command begins.
 fn begin(views: &[EventView], command: &CommandName) -> Option<usize>
-    ensures { result ≡ begin_of command.now views.now }
+    ensures value { result ≡ begin_of command.now views.now }
+    ensures bound { IfSome result (λ at. at < length views.now) }
 {
     views.iter().position(|view| is_named(command, &view.begun))
 }
 
 /// The index of the first event with which a command is answered.
 fn end(views: &[EventView], command: &CommandName) -> Option<usize>
-    ensures { result ≡ end_of command.now views.now }
+    ensures value { result ≡ end_of command.now views.now }
+    ensures bound { IfSome result (λ at. at < length views.now) }
 {
     views.iter().position(|view| is_among(command, view.answered.items()))
 }

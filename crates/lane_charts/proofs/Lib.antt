@@ -1,1 +1,3 @@
 pub mod Again
+pub mod Puts
+pub mod Lines

@@ -1,6 +1,10 @@
 pub mod Charts
 pub mod Escapes
 pub mod Readings
+pub mod Heads
 pub mod Ways
 pub mod TextCells
 pub mod TextCharts
+pub mod Layout
+pub mod Markup
+pub mod Pictures

@@ -1,7 +1,8 @@
 -- A chart as it is drawn for a terminal: a head, and then a block for each row, in their order.
-use Rattle.std.specs.Prelude.{ℕ, ◌+◌, ◌-◌, ◌*◌, ◌%◌, ◌==◌, min, max, nat_lt, Bool, true, false, ◌&&◌, List, [], ◌∷◌, ◌++◌, codes, length}
+use Rattle.std.specs.Prelude.{ℕ, ◌+◌, ◌-◌, ◌*◌, ◌==◌, min, max, Bool, true, false, ◌&&◌, List, [], ◌∷◌, ◌++◌, codes, length}
 use Rattle.std.specs.List.{flat_map}
 use Rattle.lane_charts.specs.Charts.{Drawing, lane_at}
+use Rattle.lane_charts.specs.Heads.{is_headed}
 use Rattle.lane_charts.specs.TextCells.{column_of, dash_of, head_of, lifeline, margin, repeated, shaft, shown, worded}
 use Rattle.lane_charts.specs.Ways.{way_of}
 use Rattle.lane_charts.specs.declared.chart.ChartRow.{ChartRow}
@@ -58,10 +59,7 @@ is_not_taken Never = true
 abbrev pub fails_at : ℕ → Arrow → Bool
 fails_at at arrow = (arrow.sender == at) && is_not_taken arrow.end
 
--- the names of the lanes once more, above each fiftieth row
-abbrev pub is_headed : ℕ → Bool
-is_headed at = nat_lt 0 at && ((at % 50) == 0)
-
+-- the names of the lanes once more
 abbrev pub names_if : Bool → ℕ → List (List ℕ) → List ℕ
 names_if false column lanes = []
 names_if true column lanes = names_line column lanes

@@ -2,14 +2,20 @@
 //! a terminal, or as a picture.
 #![tactic(auto)]
 
+mod arrows;
 mod cells;
 pub mod chart;
 mod cuts;
 pub mod escape;
+mod heads;
 pub mod laws;
+mod layout;
+mod markup;
+pub mod svg;
 pub mod text;
 mod way;
 
 pub use chart::{Arrival, Arrow, Chart, ChartRow, MOST_LANES, MOST_ROWS};
 pub use escape::escaped;
+pub use svg::draw_svg;
 pub use text::draw_text;

@@ -2,12 +2,13 @@
 ghost use Rattle.std.specs.Prelude.{◌≡◌, ◌<◌, ◌≤◌, ◌++◌, length, IfOk, OnOk};
 ghost use Rattle.std.specs.List.{flat_map};
 ghost use Rattle.lane_charts.specs.Charts.{IsArrowOf, IsRowOf, lane_at};
-ghost use Rattle.lane_charts.specs.TextCharts.{arrow_cells, arrow_if, arrow_line, fails_at, is_headed as is_headed_at, is_not_taken, is_taken_at, names_if, names_line, row_block, row_cells, row_line, text_in, text_of};
+ghost use Rattle.lane_charts.specs.TextCharts.{arrow_cells, arrow_if, arrow_line, fails_at, is_not_taken, is_taken_at, names_if, names_line, row_block, row_cells, row_line, text_in, text_of};
 
 use crate::cells::{
     column_width, put_lifelines, put_margin, put_repeated, put_shaft, put_shown, put_worded,
 };
 use crate::chart::{Arrival, Arrow, Chart, ChartRow};
+use crate::heads::is_headed;
 use crate::way::way_between;
 use std::alloc::Global;
 use uid_names::{ByteList, NoMemory};
@@ -61,13 +62,6 @@ fn put_block(
     put_taken(to, column, chart, at)?;
     put_row(alloc, to, column, chart.lanes().len(), row)?;
     put_failed(to, column, chart, at)
-}
-
-/// Whether the names of the lanes stand once more above the row of this index.
-fn is_headed(at: usize) -> bool
-    ensures { result ≡ is_headed_at at }
-{
-    0 < at && at.is_multiple_of(50)
 }
 
 /// The arrows that the row of this index takes.

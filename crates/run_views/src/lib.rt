@@ -8,4 +8,3 @@ mod views;
 
 pub use runs::{run_in_turns, run_of_journal};
 pub use views::views_of;
-

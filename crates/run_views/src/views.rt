@@ -138,10 +138,18 @@ pub fn views_of(
     let names = names_of(alloc, script.nodes())?;
     let procs = processes_of(alloc, script)?;
     let mut notes = Notes::new(alloc, script, procs.as_slice())?;
-    let mut pass = Pass::new(alloc, nodes_of(alloc, script)?)?;
+    let nodes = nodes_of(alloc, script)?;
+    let mut pass = Pass::new(alloc, nodes)?;
     let early = notes.early(alloc, pass.nodes())?;
     let views = view_all(alloc, script, &mut pass, &mut notes, events)?;
-    let commands = commands_of(alloc, script, source, &names, procs.as_slice(), pass.nodes())?;
+    let commands = commands_of(
+        alloc,
+        script,
+        source,
+        &names,
+        procs.as_slice(),
+        pass.nodes(),
+    )?;
     let objects = objects_of(alloc, script.objects())?;
     let plan = script.plan().copy(alloc)?;
     Ok(RunView::new(names, objects, plan, commands, early, views))

@@ -1,6 +1,6 @@
 use Rattle.std.proofs.Common.{◌∙◌}
 use Rattle.script_runs.specs.Setups.{setup_of}
-use Rattle.run_views.proofs.Runs.{recent-again}
+use Rattle.run_views.proofs.RisingRuns.{recent-again}
 use Rattle.run_views.proofs.runs.run_in_turns.Goals as goal
 
 pub views_of-requires-clause-run : goal.views_of-requires-clause-run

@@ -35,8 +35,8 @@ loop-event-preserved c =
     let behind = λ (x : Happening). take i events ++ x ∷ [] in
     let seen = c.in_ok-view.ensures (reverse (take i events)) c.loop-event.invariant.1 (comes-next s events i e c.an_initial_part_of_a_recent_run_is_one.ensures low c.event-item.is c.requires.few c.requires.run) in (
       ap events_of c.in_ok-push.ensures.ok
-      ∙ (map-append (λ (v : EventView). v.event) c.loop-event.views (view ∷ [])
-      ∙ (ap (λ (es : List Happening). es ++ view.event ∷ []) c.loop-event.invariant.0 ∙ (ap behind seen.event ∙ sym (take_more events i e low ∙ ap behind (sym c.event-item.is))))),
+          ∙ (map-append (λ (v : EventView). v.event) c.loop-event.views (view ∷ [])
+          ∙ (ap (λ (es : List Happening). es ++ view.event ∷ []) c.loop-event.invariant.0 ∙ (ap behind seen.event ∙ sym (take_more events i e low ∙ ap behind (sym c.event-item.is))))),
       subst (λ (es : List Happening). HasDone s c.view_of-view.new.pass es) (sym (reverse-more events i e low c.event-item.is)) seen.done,
     )
 
