@@ -4,7 +4,7 @@ use crate::reading::Said;
 use dom_text::decimal;
 use event_charts::chart_of;
 use event_views::{Choice, CommandName, RunView};
-use lane_charts::draw_text;
+use lane_charts::{draw_svg, draw_text};
 use std::alloc::Global;
 use uid_names::{ByteList, NoMemory, ProcId, Uid};
 
@@ -75,6 +75,9 @@ fn choice_of(alloc: Global, run: &RunView, shown: &Shown) -> Result<Choice, Said
 pub(crate) fn drawn(alloc: Global, run: &RunView, shown: &Shown) -> Result<Said, Said> {
     let choice = choice_of(alloc, run, shown)?;
     let chart = chart_of(alloc, run, &choice)?;
+    if shown.is_picture {
+        return Ok(Said::new(0, draw_svg(alloc, &chart)?));
+    }
     let width = usize::try_from(shown.width).unwrap_or(usize::MAX);
     Ok(Said::new(0, draw_text(alloc, &chart, width)?))
 }
