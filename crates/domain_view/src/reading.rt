@@ -1,4 +1,6 @@
 //! Standard input: a script, or a script and a journal behind it.
+ghost use Rattle.std.specs.Prelude.{◌≤◌, length, IfOk};
+
 use dom_io::{ReadEnd, Source, read_all};
 use dom_text::put_decimal;
 use event_views::RunView;
@@ -55,7 +57,9 @@ fn refusal(alloc: Global, line: u32, cause: Cause) -> Result<Said, NoMemory> {
 }
 
 /// All bytes of a source that may have so many.
-fn bytes_of<S: Source>(alloc: Global, source: &mut S, limit: u32) -> Result<ByteList, Said> {
+fn bytes_of<S: Source>(alloc: Global, source: &mut S, limit: u32) -> Result<ByteList, Said>
+    ensures { IfOk result (λ bytes. length bytes ≤ limit) }
+{
     match read_all(alloc, source, limit) {
         Ok(bytes) => Ok(bytes),
         Err(ReadEnd::TooLong) => Err(refusal(alloc, 0, Cause::TooLong)?),
@@ -99,7 +103,9 @@ fn run_of_text(
     script: &Script,
     source: &[u8],
     journal: &[u8],
-) -> Result<RunView, Said> {
+) -> Result<RunView, Said>
+    requires { length journal.now ≤ JOURNAL_BYTES }
+{
     match run_of_journal(alloc, script, source, journal) {
         Ok(run) => Ok(run),
         Err(CheckFault::No { line, cause }) => {
@@ -109,34 +115,66 @@ fn run_of_text(
     }
 }
 
-/// A script and its source, and a run of it.
+/// A run of a script, and another one, if one is asked for.
 #[derive(Drop)]
-pub(crate) struct ReadRun {
+pub(crate) struct ReadRuns {
     pub(crate) run: RunView,
     pub(crate) other: Option<RunView>,
 }
 
+/// The run of a script in the turns of another number, if one is given.
+fn other_run(
+    alloc: Global,
+    script: &Script,
+    source: &[u8],
+    turns: Option<u64>,
+) -> Result<Option<RunView>, Said> {
+    match turns {
+        Some(turns) => Ok(Some(run_of_turns(alloc, script, source, turns)?)),
+        None => Ok(None),
+    }
+}
+
+/// The runs of the script of these bytes in the turns of these numbers.
+fn runs_of_turns(
+    alloc: Global,
+    source: &[u8],
+    turns: u64,
+    other: Option<u64>,
+) -> Result<ReadRuns, Said> {
+    let script = script_of(alloc, source)?;
+    let run = run_of_turns(alloc, &script, source, turns)?;
+    let other = other_run(alloc, &script, source, other)?;
+    Ok(ReadRuns { run, other })
+}
+
+/// The run of the script of these bytes that has this journal, and that of a number.
+fn runs_of_journal(
+    alloc: Global,
+    source: &[u8],
+    journal: &[u8],
+    other: Option<u64>,
+) -> Result<ReadRuns, Said>
+    requires { length journal.now ≤ JOURNAL_BYTES }
+{
+    let script = script_of(alloc, source)?;
+    let run = run_of_text(alloc, &script, source, journal)?;
+    let other = other_run(alloc, &script, source, other)?;
+    Ok(ReadRuns { run, other })
+}
+
 /// The run of the script that a source has: that of the journal behind it, or that of the number where there is none; and that of another number, if one
 /// is given.
+#[tactic(auto, using(crate::proofs::Behind::behind_is_few))]
 pub(crate) fn read_runs<S: Source>(
     alloc: Global,
     source: &mut S,
     turns: u64,
     other: Option<u64>,
-) -> Result<ReadRun, Said> {
+) -> Result<ReadRuns, Said> {
     let bytes = bytes_of(alloc, source, JOURNAL_BYTES)?;
-    let (text, journal) = match parted(bytes.bytes()) {
-        Some((text, journal)) => (text, Some(journal)),
-        None => (bytes.bytes(), None),
+    let Some((text, journal)) = parted(bytes.bytes()) else {
+        return runs_of_turns(alloc, bytes.bytes(), turns, other);
     };
-    let script = script_of(alloc, text)?;
-    let run = match journal {
-        Some(journal) => run_of_text(alloc, &script, text, journal)?,
-        None => run_of_turns(alloc, &script, text, turns)?,
-    };
-    let other = match other {
-        Some(turns) => Some(run_of_turns(alloc, &script, text, turns)?),
-        None => None,
-    };
-    Ok(ReadRun { run, other })
+    runs_of_journal(alloc, text, journal, other)
 }

@@ -1,5 +1,5 @@
 //! What came of each of many numbers, on several threads.
-ghost use Rattle.std.specs.Prelude.{◌≡◌, ◌+◌, ◌≤◌, ◌<◌, ◌^◌, length, IfOk};
+ghost use Rattle.std.specs.Prelude.{◌≡◌, ◌+◌, ◌≤◌, ◌<◌, length, IfOk};
 ghost use Rattle.explored_runs.specs.Came.{AreCameOf};
 
 use crate::came::came_of;
@@ -47,7 +47,7 @@ pub fn came_of_numbers<R: Threads>(
             ensures { IfOk result (λ list. AreCameOf script.entry.now from list.items × (from + length list.items ≡ middle)) }
         { came_in_turn(alloc, script, from, middle) },
         || -> Result<Vec<CameOf>, NoMemory>
-            requires { middle ≤ to }
+            requires { (middle ≤ to) × (1 < threads) }
             ensures { IfOk result (λ list. AreCameOf script.entry.now middle list.items × (middle + length list.items ≡ to)) }
         { came_of_numbers(rt, alloc, script, middle, to, threads - 1) },
     );

@@ -32,9 +32,10 @@ pub fn find<R: Threads, N: Sink>(
     let mut next = first;
     while next < end {
         let to = batch_end(next, end, threads);
-        let found = found_of_numbers(rt, alloc, script, &names, words, next, to, threads)?;
-        if found.is_some() {
-            return Ok(found);
+        if let Some(found) = found_of_numbers(
+            rt, alloc, script, &names, words, next, to, threads,
+        )? {
+            return Ok(Some(found));
         }
         next = to;
         if let Some(notes) = &mut notes {

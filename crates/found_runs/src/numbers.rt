@@ -1,5 +1,5 @@
 //! Looks for a line in the journals of many numbers of turns, on several threads.
-ghost use Rattle.std.specs.Prelude.{◌≡◌, ◌≤◌, IfOk};
+ghost use Rattle.std.specs.Prelude.{◌≡◌, ◌≤◌, ◌<◌, IfOk};
 ghost use Rattle.script_runs.specs.Reports.{names_of as names_in};
 ghost use Rattle.found_runs.specs.Sought.{IsFound};
 
@@ -66,7 +66,7 @@ pub(crate) fn found_of_numbers<R: Threads>(
             ensures { IfOk result (IsFound script.entry.now words.entry.now from middle) }
         { found_in_turn(alloc, script, names, words, from, middle) },
         || -> Result<Option<Found>, NoMemory>
-            requires { (names.now ≡ names_in script.now) × (middle ≤ to) }
+            requires { (names.now ≡ names_in script.now) × (middle ≤ to) × (1 < threads) }
             ensures { IfOk result (IsFound script.entry.now words.entry.now middle to) }
         { found_of_numbers(rt, alloc, script, names, words, middle, to, threads - 1) },
     );

@@ -7,4 +7,4 @@ pub loop-number-init : goal.loop-number-init
 loop-number-init c = none-yet c.args.script.now c.args.words.now c.args.from
 
 pub loop-number-preserved : goal.loop-number-preserved
-loop-number-preserved c = none-push c.args.script.now c.args.words.now c.args.from c.loop-number.number c.loop-number.invariant ?
+loop-number-preserved c = none-push c.args.script.now c.args.words.now c.args.from c.loop-number.number c.loop-number.invariant c.in_default.ensures
