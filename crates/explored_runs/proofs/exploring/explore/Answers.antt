@@ -25,5 +25,5 @@ loop-next-preserved g c =
       explored-batch s c.args.first c.loop-next.next c.batch_end-to.result c.loop-next.explored c.add_all.new.self came so_far.0 c.in_ok-came.ensures.are c.in_ok-came.ensures.all added,
       omega arith,
       omega arith,
-      omega (arith, c.in_ok-add_all.ensures.total, ap length c.as_slice.ensures.value),
+      omega (arith, c.in_ok-add_all.ensures.total, ap length c.as_slice.ensures.value, c.in_ok-came.ensures.all, so_far.3),
     )
