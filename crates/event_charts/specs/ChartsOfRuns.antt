@@ -1,6 +1,5 @@
 -- The chart of a run's events: a lane for each node, a row for each event that is shown, and arrows from the row that sent a frame to each that took it.
 use Rattle.std.specs.Prelude.{ℕ, ◌+◌, ◌-◌, ◌==◌, ◌&&◌, Bool, true, false, Option, Some, None, List, [], ◌∷◌, ◌++◌, codes, decimal, length, map}
-use Rattle.dom_history.specs.Events.{Happening}
 use Rattle.dom_history.specs.Plans.{fate_of}
 use Rattle.dom_history.specs.declared.event.Sent.{Sent}
 use Rattle.dom_history.specs.declared.event.What.{What}
@@ -13,7 +12,9 @@ use Rattle.lane_charts.specs.declared.chart.Arrow.{Arrow}
 use Rattle.lane_charts.specs.declared.chart.Arrival.{Arrival}
 use Rattle.lane_charts.specs.declared.chart.Arrival.TheVariants.{Row, Lost, Never}
 use Rattle.event_views.specs.Runs.{Run}
+use Rattle.event_views.specs.Chosen.{is_sent_chosen}
 use Rattle.event_views.specs.Labels.{label_of, is_mark, sent_label, sent_title}
+use Rattle.event_views.specs.declared.choice.Choice.{Choice}
 use Rattle.event_views.specs.declared.run.EventView.{EventView}
 
 -- how many of the events are shown
@@ -72,24 +73,28 @@ arrows_sent run shown at v (Some sent) =
     map (arrow_of run at v.event.place.node sent v)
     (ends_of (fate_of run.plan v.event.place.node sent.to sent.index) (takers 0 v.event.place.node sent shown))
 
--- the arrows of the frame that the event at a place sent, if it sent one
-abbrev pub arrows_at : Run → List EventView → ℕ → EventView → List Arrow
-arrows_at run shown at v = arrows_sent run shown at v v.event.effects.sent
+abbrev pub arrows_if : Bool → List Arrow → List Arrow
+arrows_if true arrows = arrows
+arrows_if false arrows = []
+
+-- the arrows of the frame that the event at a place sent, if it sent one that is chosen
+abbrev pub arrows_at : Choice → Run → List EventView → ℕ → EventView → List Arrow
+arrows_at choice run shown at v = arrows_if (is_sent_chosen choice v) (arrows_sent run shown at v v.event.effects.sent)
 
 -- those of all that are shown, from a place on
-abbrev pub arrows_from : Run → List EventView → ℕ → List EventView → List Arrow
-arrows_from run shown at [] = []
-arrows_from run shown at (v ∷ views) = arrows_at run shown at v ++ arrows_from run shown (at + 1) views
+abbrev pub arrows_from : Choice → Run → List EventView → ℕ → List EventView → List Arrow
+arrows_from choice run shown at [] = []
+arrows_from choice run shown at (v ∷ views) = arrows_at choice run shown at v ++ arrows_from choice run shown (at + 1) views
 
 -- more arrows behind those of a chart
 abbrev pub with_arrows : Drawing → List Arrow → Drawing
 with_arrows c more = record c { arrows = c.arrows ++ more }
 
--- the chart of these events of a run
-abbrev pub chart_of : Run → List EventView → Drawing
-chart_of run shown = record {
+-- the chart of these events of a run, which are those that are chosen
+abbrev pub chart_of : Choice → Run → List EventView → Drawing
+chart_of choice run shown = record {
   title = title_of (length shown) (length run.events);
   lanes = run.names;
   rows = map (row_of run) shown;
-  arrows = arrows_from run shown 0 shown;
+  arrows = arrows_from choice run shown 0 shown;
 }

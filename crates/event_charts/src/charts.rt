@@ -1,18 +1,18 @@
 //! The chart of a run's events.
-ghost use Rattle.std.specs.Prelude.{◌≡◌, ◌<◌, ◌++◌, ◌∷◌, [], length, map, All, IfOk, OnOk};
+ghost use Rattle.std.specs.Prelude.{◌≡◌, ◌-◌, ◌<◌, ◌++◌, ◌∷◌, [], true, Some, length, map, All, IfOk, OnOk};
 ghost use Rattle.dom_history.specs.Events.{IsKindNumber};
 ghost use Rattle.journal_text.specs.Lines.{IsNamed, Names};
 ghost use Rattle.lane_charts.specs.Charts.{EndsAmong, with_row, with_arrow};
 ghost use Rattle.lane_charts.specs.declared.chart.Arrival.TheVariants.{Row};
 ghost use Rattle.event_views.specs.Runs.{AreNamed};
 ghost use Rattle.event_views.specs.Chosen.{chosen};
-ghost use Rattle.event_charts.specs.ChartsOfRuns.{title_of, row_of, takes_from as is_taken_from, takes as is_taken, takers as places_of_takers, is_late as is_late_fate, not_taken as became, arrow_of, arrows_sent, arrows_at, arrows_from, with_arrows, chart_of as chart_of_events};
+ghost use Rattle.event_charts.specs.ChartsOfRuns.{title_of, row_of, takes_from as is_taken_from, takes as is_taken, takers as places_of_takers, place_if, is_late as is_late_fate, not_taken as became, arrow_of, arrows_sent, arrows_at, arrows_from, with_arrows, chart_of as chart_of_events};
 ghost use Rattle.event_charts.specs.LentViews.{lent_views};
 
-use event_views::labels::{event_label, is_mark, sent_label, sent_title};
-use event_views::{Choice, EventView, RunView};
 use dom_history::{Fate, NodeNames, Sent, What};
 use dom_text::put_decimal;
+use event_views::labels::{event_label, is_mark, sent_label, sent_title};
+use event_views::{Choice, EventView, RunView};
 use lane_charts::{Arrival, Arrow, Chart, ChartRow};
 use std::alloc::Global;
 use uid_names::{ByteList, ItemList, NoMemory, NodeId};
@@ -109,6 +109,17 @@ fn takes(from: NodeId, sent: &Sent, view: &EventView) -> bool
         && takes_from(from, sent.index, &view.event.what())
 }
 
+/// Puts a place last, if that is asked.
+fn push_if(rows: &mut Vec<usize>, asked: bool, at: usize) -> Result<(), NoMemory>
+    ensures { OnOk result (rows.new.items ≡ rows.old.items ++ place_if asked at []) }
+{
+    if !asked {
+        return Ok(());
+    }
+    rows.push(at)?;
+    Ok(())
+}
+
 /// The places of those that take a frame which a node sent.
 fn takers(
     alloc: Global,
@@ -120,10 +131,8 @@ fn takers(
     ensures bound { IfOk result (λ rows. All (λ row. row < length shown.now) rows.items) }
 {
     let mut rows = Vec::new(alloc);
-    for (at, view) in shown.iter().enumerate() {
-        if takes(from, sent, view) {
-            rows.push(at)?;
-        }
+    for (at, &view) in shown.iter().enumerate() {
+        push_if(&mut rows, takes(from, sent, view), at)?;
     }
     Ok(rows)
 }
@@ -226,10 +235,11 @@ fn add_sent(
     add_copies(alloc, chart, run, at, view, sent, copies)
 }
 
-/// Puts the arrows last of the frame that the event of the row at a place sent, if it sent one.
+/// Puts the arrows last of the frame that the event of the row at a place sent, if it sent one that is chosen.
 fn add_arrows(
     alloc: Global,
     chart: &mut Chart,
+    choice: &Choice,
     run: &RunView,
     shown: &[&EventView],
     at: usize,
@@ -239,8 +249,11 @@ fn add_arrows(
     requires rows { length chart.old.rows ≡ length shown.now }
     requires at { at < length shown.now }
     requires named { Names run.now.names view.now.event }
-    ensures { OnOk result (chart.new ≡ with_arrows chart.old (arrows_at run.now (lent_views shown.now) at view.now)) }
+    ensures { OnOk result (chart.new ≡ with_arrows chart.old (arrows_at choice.now run.now (lent_views shown.now) at view.now)) }
 {
+    if !choice.is_sent_chosen(view) {
+        return Ok(());
+    }
     let Some(sent) = view.event.effects().sent else {
         return Ok(());
     };
@@ -259,7 +272,7 @@ fn add_all_rows(
     requires named { AreNamed run.now.names (lent_views shown.now) }
     ensures { OnOk result (chart.new ≡ record chart.old { rows = map (row_of run.now) (lent_views shown.now) }) }
 {
-    for view in shown {
+    for &view in shown {
         add_row(alloc, chart, run, view)?;
     }
     Ok(())
@@ -269,6 +282,7 @@ fn add_all_rows(
 fn add_all_arrows(
     alloc: Global,
     chart: &mut Chart,
+    choice: &Choice,
     run: &RunView,
     shown: &[&EventView],
 ) -> Result<(), NoMemory>
@@ -276,25 +290,25 @@ fn add_all_arrows(
     requires lanes { chart.old.lanes ≡ run.now.names }
     requires rows { length chart.old.rows ≡ length shown.now }
     requires named { AreNamed run.now.names (lent_views shown.now) }
-    ensures { OnOk result (chart.new ≡ record chart.old { arrows = arrows_from run.now (lent_views shown.now) 0 (lent_views shown.now) }) }
+    ensures { OnOk result (chart.new ≡ record chart.old { arrows = arrows_from choice.now run.now (lent_views shown.now) 0 (lent_views shown.now) }) }
 {
-    for (at, view) in shown.iter().enumerate() {
-        add_arrows(alloc, chart, run, shown, at, view)?;
+    for (at, &view) in shown.iter().enumerate() {
+        add_arrows(alloc, chart, choice, run, shown, at, view)?;
     }
     Ok(())
 }
 
 /// The chart of the events of a run that are chosen: a lane for each node, a row for each of these events, in order, and no other, and from each
-/// that sent a frame an arrow to each that took it; all but the first are copies, and so is one that is late. Where none of these took it, it ends
-/// nowhere.
+/// that sent a frame that is itself chosen an arrow to each that took it; all but the first are copies, and so is one that is late. A frame that was
+/// lost ends so, and one that none of these events took ends nowhere.
 pub fn chart_of(alloc: Global, run: &RunView, choice: &Choice) -> Result<Chart, NoMemory>
-    ensures { IfOk result (λ chart. chart ≡ chart_of_events run.now (chosen choice.now run.now.events)) }
+    ensures { IfOk result (λ chart. chart ≡ chart_of_events choice.now run.now (chosen choice.now run.now.events)) }
 {
     let views = run.events();
     let shown = shown_of(alloc, views, choice)?;
     let title = title(alloc, shown.len(), views.len())?;
     let mut chart = Chart::new(alloc, title, lanes_of(alloc, run.names())?)?;
     add_all_rows(alloc, &mut chart, run, shown.as_slice())?;
-    add_all_arrows(alloc, &mut chart, run, shown.as_slice())?;
+    add_all_arrows(alloc, &mut chart, choice, run, shown.as_slice())?;
     Ok(chart)
 }

@@ -62,6 +62,17 @@ is_chosen choice v =
     (is_from choice.from v.event.place.tick && is_to choice.to v.event.place.tick)
     && (is_about choice v && is_of_command choice.command v)
 
+-- the frame that an event sent is itself one that is chosen, or no object, page or command is
+abbrev pub is_sent_about : Choice → EventView → Bool
+is_sent_about choice v = (is_none choice.object && is_none choice.page) || says_so choice v.sent
+
+abbrev pub is_sent_for : Option CommandName → Option FrameView → Bool
+is_sent_for None frame = true
+is_sent_for (Some c) frame = sent_for c frame
+
+abbrev pub is_sent_chosen : Choice → EventView → Bool
+is_sent_chosen choice v = is_sent_about choice v && is_sent_for choice.command v.sent
+
 -- the events that are chosen, in order
 abbrev pub chosen : Choice → List EventView → List EventView
 chosen choice views = filter (is_chosen choice) views

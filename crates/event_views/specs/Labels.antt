@@ -1,5 +1,6 @@
 -- The words in which events and frames are shown.
 use Rattle.std.specs.Prelude.{ℕ, Bool, true, false, Option, Some, None, List, [], ◌∷◌, ◌++◌, codes, decimal, find, fold}
+use Rattle.std.specs.List.{flat_map}
 use Rattle.uid_names.specs.Names.{ObjectName, same_uid}
 use Rattle.uid_names.specs.Texts.{text_of}
 use Rattle.uid_names.specs.Modes.{mode_letter}
@@ -106,5 +107,13 @@ abbrev pub shown_what : List (List ℕ) → ℕ → What → List ℕ
 shown_what names node (Ready phase) = node_text names node ++ (codes " " ++ what_text names (Ready phase))
 shown_what names node what = what_text names what
 
+abbrev pub plain_label : Run → EventView → List ℕ
+plain_label run v = or_what (commands_label run v) (shown_what run.names v.event.place.node v.event.what)
+
+-- a page that was dropped
+abbrev pub drop_label : List VarRow → ObjectName × ℕ → List ℕ
+drop_label objects page = codes "; drop " ++ (object_text objects page.0 ++ (codes " " ++ decimal page.1))
+
+-- with the pages that the event dropped
 abbrev pub label_of : Run → EventView → List ℕ
-label_of run v = or_what (commands_label run v) (shown_what run.names v.event.place.node v.event.what)
+label_of run v = plain_label run v ++ flat_map (drop_label run.objects) v.event.effects.dropped

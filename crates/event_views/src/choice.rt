@@ -2,7 +2,7 @@
 ghost use Rattle.std.specs.Prelude.{◌≡◌, None};
 ghost use Rattle.std.specs.List.{list_any};
 ghost use Rattle.event_views.specs.Commands.{same_command};
-ghost use Rattle.event_views.specs.Chosen.{is_from as not_below, is_to as not_above, is_object as is_of_object, is_page as is_of_page, says_so as says_of, drops_so as drops_of, is_about as concerns, names_command as names, sent_for as is_sent_for, is_of as is_of_name, is_of_command as is_of_chosen, is_chosen as is_chosen_by};
+ghost use Rattle.event_views.specs.Chosen.{is_from as not_below, is_to as not_above, is_object as is_of_object, is_page as is_of_page, says_so as says_of, drops_so as drops_of, is_about as concerns, names_command as names, sent_for as is_for, is_of as is_of_name, is_of_command as is_of_chosen, is_sent_about as is_frame_about, is_sent_for as is_frame_for, is_sent_chosen as is_frame_chosen, is_chosen as is_chosen_by};
 
 use crate::command::CommandName;
 use crate::run::{EventView, FrameView};
@@ -70,7 +70,7 @@ fn names_command(command: &CommandName, named: &Option<CommandName>) -> bool
 }
 
 fn sent_for(command: &CommandName, frame: &Option<FrameView>) -> bool
-    ensures { result ≡ is_sent_for command.now frame.now }
+    ensures { result ≡ is_for command.now frame.now }
 {
     match frame {
         None => false,
@@ -158,6 +158,28 @@ impl Choice {
             None => true,
             Some(command) => is_of(command, view),
         }
+    }
+
+    fn is_sent_about(&self, view: &EventView) -> bool
+        ensures { result ≡ is_frame_about self.now view.now }
+    {
+        (self.object.is_none() && self.page.is_none()) || self.says_so(&view.sent)
+    }
+
+    fn is_sent_for(&self, frame: &Option<FrameView>) -> bool
+        ensures { result ≡ is_frame_for self.now.command frame.now }
+    {
+        match &self.command {
+            None => true,
+            Some(command) => sent_for(command, frame),
+        }
+    }
+
+    /// Whether the frame that an event sent is itself chosen: one of the object, of the page and for the command, each where it is said.
+    pub fn is_sent_chosen(&self, view: &EventView) -> bool
+        ensures { result ≡ is_frame_chosen self.now view.now }
+    {
+        self.is_sent_about(view) && self.is_sent_for(&view.sent)
     }
 
     /// Whether an event is chosen.

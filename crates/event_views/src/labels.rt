@@ -1,11 +1,12 @@
 //! The words in which events and frames are shown.
 ghost use Rattle.std.specs.Prelude.{◌≡◌, ◌++◌, IfOk, OnOk, decimal, option_copied, find};
+ghost use Rattle.std.specs.List.{flat_map};
 ghost use Rattle.uid_names.specs.Names.{same_uid};
 ghost use Rattle.dom_history.specs.Events.{IsKindNumber};
 ghost use Rattle.dom_history.specs.declared.event.What.TheVariants as events;
 ghost use Rattle.journal_text.specs.Lines.{kind_text, numbered_text, what_text};
 ghost use Rattle.event_views.specs.Commands.{command_text};
-ghost use Rattle.event_views.specs.Labels.{object_text, object_part, page_part, mode_part, said_text, sent_label as sent_label_of, sent_title as sent_title_of, command_in, words_behind, answer_behind, answer_of, begun_text, answered_text, with_part, begun_label, commands_label, is_mark as is_drawn_across, shown_what, label_of};
+ghost use Rattle.event_views.specs.Labels.{object_text, object_part, page_part, mode_part, said_text, sent_label as sent_label_of, sent_title as sent_title_of, command_in, words_behind, answer_behind, answer_of, begun_text, answered_text, with_part, begun_label, commands_label, is_mark as is_drawn_across, shown_what, plain_label, drop_label, label_of};
 
 use crate::command::{CommandName, CommandView, put_command};
 use crate::run::{EventView, FrameView, RunView};
@@ -314,9 +315,28 @@ fn what_shown(
     Ok(text)
 }
 
-/// The label of an event: the commands that begin and are answered with it, or what it is where none does.
-pub fn event_label(alloc: Global, run: &RunView, view: &EventView) -> Result<ByteList, NoMemory>
-    ensures { IfOk result (λ text. text ≡ label_of run.now view.now) }
+fn put_drop(to: &mut ByteList, objects: &[VarRow], uid: Uid, page: u32) -> Result<(), NoMemory>
+    ensures { OnOk result (to.new ≡ to.old ++ drop_label objects.now (uid, page)) }
+{
+    to.extend(b"; drop ")?;
+    put_object(to, objects, uid)?;
+    to.extend(b" ")?;
+    put_decimal(to, page as u64)
+}
+
+/// Puts pages that were dropped behind a label.
+fn put_drops(to: &mut ByteList, objects: &[VarRow], pages: &[(Uid, u32)]) -> Result<(), NoMemory>
+    ensures { OnOk result (to.new ≡ to.old ++ flat_map (drop_label objects.now) pages.now) }
+{
+    for (uid, page) in pages {
+        put_drop(to, objects, *uid, *page)?;
+    }
+    Ok(())
+}
+
+/// The commands that begin and are answered with an event, or what it is where none does.
+fn plain_text(alloc: Global, run: &RunView, view: &EventView) -> Result<ByteList, NoMemory>
+    ensures { IfOk result (λ text. text ≡ plain_label run.now view.now) }
 {
     let text = commands_text(alloc, run, view)?;
     if !text.bytes().is_empty() {
@@ -324,4 +344,18 @@ pub fn event_label(alloc: Global, run: &RunView, view: &EventView) -> Result<Byt
     }
     let node = view.event.place().node;
     what_shown(alloc, run.names(), node, &view.event.what())
+}
+
+/// The label of an event: the commands that begin and are answered with it, or what it is where none does, and behind that the pages that it
+/// dropped.
+pub fn event_label(alloc: Global, run: &RunView, view: &EventView) -> Result<ByteList, NoMemory>
+    ensures { IfOk result (λ text. text ≡ label_of run.now view.now) }
+{
+    let mut text = plain_text(alloc, run, view)?;
+    put_drops(
+        &mut text,
+        run.objects(),
+        view.event.effects().dropped.items(),
+    )?;
+    Ok(text)
 }

@@ -15,10 +15,10 @@ pub(crate) fn processes_of(alloc: Global, script: &Script) -> Result<Vec<ProcId>
     for place in 0..PROCESSES {
         let number = (place % NODE_PROCESSES) as u8 + 1;
         let Some(node) = NodeId::new((place / NODE_PROCESSES) as u8 + 1) else {
-            unreachable!()
+            continue;
         };
         let Some(proc) = ProcId::new(node, number) else {
-            unreachable!()
+            continue;
         };
         if !script.places_of(proc).is_empty() {
             procs.push(proc)?;
@@ -59,6 +59,7 @@ fn command_at(
     alloc: Global,
     proc: ProcId,
     at: usize,
+    index: u32,
     phase: u32,
     words: &[ByteList],
     answers: &[ByteList],
@@ -69,10 +70,7 @@ fn command_at(
     };
     let answer = copy_at(alloc, answers, at)?;
     Ok(CommandView {
-        name: CommandName {
-            proc,
-            index: at as u32 + 1,
-        },
+        name: CommandName { proc, index },
         phase,
         words,
         answer,
@@ -92,9 +90,11 @@ fn add_commands(
     let process = process_text(alloc, names, proc)?;
     let words = words_of(alloc, source, process.bytes())?;
     let rows = script.commands();
+    let mut index: u32 = 0;
     for (at, place) in script.places_of(proc).iter().enumerate() {
+        index = index.saturating_add(1);
         if let Some(row) = rows.get(*place as usize) {
-            to.push(command_at(alloc, proc, at, row.phase, words.items(), answers)?)?;
+            to.push(command_at(alloc, proc, at, index, row.phase, words.items(), answers)?)?;
         }
     }
     Ok(())

@@ -1,4 +1,6 @@
 //! What is noted as the events of a run go by.
+ghost use Rattle.std.specs.Prelude.{◌≤◌, vec_len};
+
 use crate::commands::shell_at;
 use aegis_shell::Shell;
 use dom_history::What;
@@ -9,7 +11,7 @@ use page_store::BlockPages;
 use ring_messages::Frame;
 use script_reader::Script;
 use std::alloc::Global;
-use uid_names::{ItemList, NoMemory, NodeId, ProcId};
+use uid_names::{ItemList, MAX_NODES, NoMemory, NodeId, ProcId};
 
 /// A process: how many of its commands were answered, and whether the next one has begun.
 #[derive(Clone, Copy)]
@@ -75,6 +77,7 @@ pub(crate) struct Notes<'a> {
     courses: Vec<Course>,
     phases: Vec<u32>,
     links: Vec<ItemList<FrameView>>,
+    ghost few: { vec_len phases ≤ 8 },
 }
 
 /// What a frame says that was sent, a reply with what its request said.
@@ -109,7 +112,7 @@ impl<'a> Notes<'a> {
                 begun: false,
             })?;
         }
-        let count = script.nodes().len();
+        let count = script.nodes().len().min(MAX_NODES as usize);
         let phases = Vec::from_elem(alloc, 1, count)?;
         let mut links = Vec::new(alloc);
         for _link in 0..count * count {
@@ -144,7 +147,7 @@ impl<'a> Notes<'a> {
 
     /// The phase of a command, if the script has it.
     fn phase_of(&self, command: CommandName) -> Option<u32> {
-        let at = command.index as usize - 1;
+        let at = (command.index as usize).checked_sub(1)?;
         let place = *self.script.places_of(command.proc).get(at)?;
         Some(self.script.commands().get(place as usize)?.phase)
     }
@@ -187,7 +190,7 @@ impl<'a> Notes<'a> {
     }
 
     /// A frame that was sent, as it is shown: a request for the command that its process is at, a reply for that of the request.
-    fn shown(&self, frame: &Frame, met: &Option<FrameView>) -> FrameView {
+    pub(crate) fn shown(&self, frame: &Frame, met: &Option<FrameView>) -> FrameView {
         let said = said_in(frame, met);
         let command = if said.kind.is_request() {
             self.at(frame.caller())
@@ -197,20 +200,18 @@ impl<'a> Notes<'a> {
         FrameView { said, command }
     }
 
-    /// Notes the frame that an event of a node sent.
-    pub(crate) fn send(
-        &mut self,
-        node: NodeId,
-        to: NodeId,
-        frame: &Frame,
-        met: &Option<FrameView>,
-    ) -> Result<FrameView, NoMemory> {
-        let view = self.shown(frame, met);
+    /// Notes a frame that was sent, as it is shown, on its link.
+    pub(crate) fn send(&mut self, frame: &Frame, met: &Option<FrameView>) -> Result<(), NoMemory> {
         let count = self.phases.len();
-        if is_among(node, count) && is_among(to, count) {
-            self.links[link_of(node, to, count)].push(view)?;
+        if !is_among(frame.from(), count) || !is_among(frame.to(), count) {
+            return Ok(());
         }
-        Ok(view)
+        let link = link_of(frame.from(), frame.to(), count);
+        if link >= self.links.len() {
+            return Ok(());
+        }
+        let view = self.shown(frame, met);
+        self.links[link].push(view)
     }
 
     /// The commands that are answered before any event.

@@ -43,7 +43,8 @@ fn note_sent(
     let Some(frame) = pass.frame(node, sent.to, sent.index) else {
         return Ok(None);
     };
-    Ok(Some(notes.send(node, sent.to, frame, met)?))
+    notes.send(frame, met)?;
+    Ok(Some(notes.shown(frame, met)))
 }
 
 /// The view of the event that comes next, which the pass does.

@@ -37,7 +37,7 @@ loop-event-preserved c =
       ap events_of c.in_ok-push.ensures.ok
           ∙ (map-append (λ (v : EventView). v.event) c.loop-event.views (view ∷ [])
           ∙ (ap (λ (es : List Happening). es ++ view.event ∷ []) c.loop-event.invariant.0 ∙ (ap behind seen.event ∙ sym (take_more events i e low ∙ ap behind (sym c.event-item.is))))),
-      subst (λ (es : List Happening). HasDone s c.view_of-view.new.pass es) (sym (reverse-more events i e low c.event-item.is)) seen.done,
+      subst (λ (es : List Happening). HasDone s c.view_of.new.pass es) (sym (reverse-more events i e low c.event-item.is)) seen.done,
     )
 
 pub returns : goal.returns

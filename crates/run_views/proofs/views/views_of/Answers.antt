@@ -18,8 +18,8 @@ use Rattle.run_views.proofs.views.views_of.Goals as goal
 pub names_of-requires : goal.names_of-requires
 names_of-requires c = subst (λ rows. AreNodeNames (map (λ n. n.name) rows)) (sym c.nodes.ensures.value) (node_names c.args.script.now c.nodes.ensures.content)
 
-pub new-requires : goal.new-requires
-new-requires c =
+pub new-requires-2 : goal.new-requires-2
+new-requires-2 c =
     let s = c.args.script.now in
     let can : CanRun s = record { content = c.nodes.ensures.content; start = subst IsStart c.opening.ensures.value c.nodes-start.ensures.start } in
     let given = given-nodes s can c.in_ok-nodes.nodes.items c.in_ok-nodes.ensures s.plan refl (names_in s) refl in
@@ -33,8 +33,8 @@ view_all-requires-clause-first c =
     let setup = c.scripts_set_nodes_up.ensures s can.content can.start in
     record { world = first_world (setup_of s); stands = c.in_ok-pass.ensures (made_shell s) (setup_of s) setup given.nodes_are; done = refl }
 
-pub new-requires-2 : goal.new-requires-2
-new-requires-2 c =
+pub new-requires-3 : goal.new-requires-3
+new-requires-3 c =
     let s = c.args.script.now in
     let same : c.in_ok-names.names ≡ names_in s = c.in_ok-names.ensures ∙ ap (λ rows. map (λ n. n.name) rows) c.nodes.ensures.value in
     record { named = subst (λ names. AreNamed names c.in_ok-views.views) (sym same) (views-named (names_in s) c.in_ok-views.views c.args.events.now c.in_ok-views.ensures c.requires.named) }

@@ -1,3 +1,0 @@
-pub mod FrameCounts
-pub mod NodeCounts
-pub mod CommandCounts
