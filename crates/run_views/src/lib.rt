@@ -2,6 +2,7 @@
 #![tactic(auto)]
 
 mod commands;
+mod links;
 mod notes;
 mod runs;
 mod views;

@@ -2,6 +2,7 @@
 ghost use Rattle.std.specs.Prelude.{◌≤◌, vec_len};
 
 use crate::commands::shell_at;
+use crate::links::SentFrames;
 use aegis_shell::Shell;
 use dom_history::What;
 use event_views::{CommandName, FrameSaid, FrameView, said_of};
@@ -11,7 +12,7 @@ use page_store::BlockPages;
 use ring_messages::Frame;
 use script_reader::Script;
 use std::alloc::Global;
-use uid_names::{ItemList, MAX_NODES, NoMemory, NodeId, ProcId};
+use uid_names::{FrameKind, ItemList, MAX_NODES, NoMemory, NodeId, ProcId};
 
 /// A process: how many of its commands were answered, and whether the next one has begun.
 #[derive(Clone, Copy)]
@@ -76,7 +77,7 @@ pub(crate) struct Notes<'a> {
     script: &'a Script,
     courses: Vec<Course>,
     phases: Vec<u32>,
-    links: Vec<ItemList<FrameView>>,
+    links: Vec<SentFrames>,
     ghost few: { vec_len phases ≤ 8 },
 }
 
@@ -116,7 +117,7 @@ impl<'a> Notes<'a> {
         let phases = Vec::from_elem(alloc, 1, count)?;
         let mut links = Vec::new(alloc);
         for _link in 0..count * count {
-            links.push(ItemList::new(alloc))?;
+            links.push(SentFrames::new(alloc))?;
         }
         Ok(Notes {
             script,
@@ -129,11 +130,10 @@ impl<'a> Notes<'a> {
     /// The frame of this number on a link.
     fn frame(&self, from: NodeId, to: NodeId, index: u64) -> Option<FrameView> {
         let count = self.phases.len();
-        if !is_among(from, count) || !is_among(to, count) || index == 0 {
+        if !is_among(from, count) || !is_among(to, count) {
             return None;
         }
-        let frames = self.links.get(link_of(from, to, count))?;
-        frames.items().get((index - 1) as usize).copied()
+        self.links.get(link_of(from, to, count))?.at(index)
     }
 
     /// The frame that an event of a node takes or is told of.
@@ -189,14 +189,24 @@ impl<'a> Notes<'a> {
         None
     }
 
-    /// A frame that was sent, as it is shown: a request for the command that its process is at, a reply for that of the request.
-    pub(crate) fn shown(&self, frame: &Frame, met: &Option<FrameView>) -> FrameView {
-        let said = said_in(frame, met);
-        let command = if said.kind.is_request() {
+    /// The command for which a frame of this kind was sent: a request for that which its process is at, a reply for that of the request.
+    fn sent_for(
+        &self,
+        kind: FrameKind,
+        frame: &Frame,
+        met: &Option<FrameView>,
+    ) -> Option<CommandName> {
+        if kind.is_request() {
             self.at(frame.caller())
         } else {
             command_of(met)
-        };
+        }
+    }
+
+    /// A frame that was sent, as it is shown.
+    pub(crate) fn shown(&self, frame: &Frame, met: &Option<FrameView>) -> FrameView {
+        let said = said_in(frame, met);
+        let command = self.sent_for(said.kind, frame, met);
         FrameView { said, command }
     }
 
@@ -210,8 +220,20 @@ impl<'a> Notes<'a> {
         if link >= self.links.len() {
             return Ok(());
         }
-        let view = self.shown(frame, met);
-        self.links[link].push(view)
+        let FrameSaid {
+            kind,
+            uid,
+            page,
+            mode,
+        } = said_in(frame, met);
+        let command = self.sent_for(kind, frame, met);
+        let said = FrameSaid {
+            kind,
+            uid,
+            page,
+            mode,
+        };
+        self.links[link].put(FrameView { said, command })
     }
 
     /// The commands that are answered before any event.
