@@ -2,7 +2,6 @@
 #![tactic(auto)]
 
 mod asked;
-mod counting;
 mod differing;
 mod lanes;
 mod reading;
