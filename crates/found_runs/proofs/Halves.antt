@@ -1,6 +1,7 @@
 -- The lowest number of two ranges that follow one another.
 use Rattle.std.proofs.Common.{◌≡◌, ℕ, ◌+◌, ◌<◌, ◌≤◌, List, Option, Some, None, true, false, refl, arith, subst, sym, suc}
-use Rattle.std.specs.Prelude.{nat_lt, option_or}
+use Rattle.std.specs.Prelude.{nat_lt}
+use Rattle.std.specs.Option.{option_or}
 use Rattle.std.proofs.lemmas.Bool.Decides.{nat_tests}
 use Rattle.uid_names.proofs.ListLemmas.{by_cases}
 use Rattle.script_reader.specs.Scripts.{Content}
@@ -43,4 +44,17 @@ found-append s words from middle to (Some f) other low high first second = recor
   high = omega (arith, first.high, high);
   line = first.line;
   lower = first.lower;
+}
+
+-- what is found at a number before which none has it
+pub found_now : (s : Content) (words : List (List ℕ)) (from to number : ℕ) (line : List ℕ) → from ≤ number → number < to → IsSought s words number (Some line) → HasNone s words from number → IsLowest s words from to (record { number = number; line = line })
+found_now s words from to number line low high is none = record { low = low; high = high; line = is; lower = none }
+
+-- what is found in a batch behind one without is found in all
+pub found_here : (s : Content) (words : List (List ℕ)) (first next to end : ℕ) (found : Found) → first ≤ next → to ≤ end → HasNone s words first next → IsLowest s words next to found → IsLowest s words first end found
+found_here s words first next to end found low high none is = record {
+  low = omega (arith, low, is.low);
+  high = omega (arith, high, is.high);
+  line = is.line;
+  lower = none-append s words first next found.number none is.lower;
 }

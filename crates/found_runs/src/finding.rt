@@ -14,6 +14,7 @@ use uid_names::{ByteList, NoMemory};
 /// The lowest number from the first up to the end, which is none of them, in whose turns the script has a journal that has a line with these words in
 /// order, and the first such line; None where there is none. The numbers are run on so many threads; after each batch of them it is told how many were,
 /// if it is to be.
+#[tactic(auto, using(crate::proofs::Halves::found_here))]
 pub fn find<R: Threads, N: Sink>(
     rt: &R,
     alloc: Global,
@@ -32,9 +33,8 @@ pub fn find<R: Threads, N: Sink>(
     let mut next = first;
     while next < end {
         let to = batch_end(next, end, threads);
-        if let Some(found) = found_of_numbers(
-            rt, alloc, script, &names, words, next, to, threads,
-        )? {
+        let sought = found_of_numbers(rt, alloc, script, &names, words, next, to, threads)?;
+        if let Some(found) = sought {
             return Ok(Some(found));
         }
         next = to;

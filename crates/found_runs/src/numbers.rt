@@ -19,6 +19,7 @@ pub struct Found {
 
 /// The lowest of the numbers from one up to another, which is none of them, whose journal has a line with these words; they are run one after
 /// another.
+#[tactic(auto, using(crate::proofs::Halves::found_now))]
 fn found_in_turn(
     alloc: Global,
     script: &Script,
@@ -32,7 +33,8 @@ fn found_in_turn(
     ensures { IfOk result (IsFound script.now words.now from to) }
 {
     for number in from..to {
-        if let Some(line) = line_of(alloc, script, names, words, number)? {
+        let sought = line_of(alloc, script, names, words, number)?;
+        if let Some(line) = sought {
             return Ok(Some(Found { number, line }));
         }
     }

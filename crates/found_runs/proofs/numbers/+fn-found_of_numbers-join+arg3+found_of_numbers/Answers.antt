@@ -2,7 +2,7 @@ use Rattle.std.proofs.Common.{◌≡◌, ◌+◌, ◌-◌, ◌/◌, ◌≤◌, s
 use Rattle.std.proofs.lemmas.Grind.{common_steps}
 use Rattle.found_runs.specs.Sought.{IsFound}
 use Rattle.found_runs.proofs.Halves.{found-append}
-use Rattle.found_runs.proofs.numbers.+found_of_numbers+fn-found_of_numbers-join+arg3.Goals as goal
+use Rattle.found_runs.proofs.numbers.+fn-found_of_numbers-join+arg3+found_of_numbers.Goals as goal
 
 pub returns : goal.returns
 returns g t c =
