@@ -14,7 +14,6 @@ use uid_names::{ByteList, NoMemory};
 /// The lowest number from the first up to the end, which is none of them, in whose turns the script has a journal that has a line with these words in
 /// order, and the first such line; None where there is none. The numbers are run on so many threads; after each batch of them it is told how many were,
 /// if it is to be.
-#[tactic(auto, using(crate::proofs::Halves::found_here))]
 pub fn find<R: Threads, N: Sink>(
     rt: &R,
     alloc: Global,

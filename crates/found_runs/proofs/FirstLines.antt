@@ -1,6 +1,5 @@
 -- The first line of the journal of a run.
 use Rattle.std.proofs.Common.{◌≡◌, ℕ, List, Option, Some, None, ap, ◌∙◌, inl}
-use Rattle.std.specs.Prelude.{Result, Ok, Err, IfOk}
 use Rattle.script_reader.specs.Scripts.{Content}
 use Rattle.script_reader.specs.Grammar.{raw_lines}
 use Rattle.journal_text.specs.Lines.{journal}
@@ -13,8 +12,3 @@ use Rattle.found_runs.specs.Sought.{first_with, IsSought}
 pub sought-in-run : (s : Content) (words names : List (List ℕ)) (number : ℕ) (ran : Ran) (line : Option (List ℕ)) → RunOf s (Some number) last_tick ran → names ≡ names_of s → line ≡ first_with words (raw_lines (journal names ran.events)) → IsSought s words number line
 sought-in-run s words names number ran (Some line) run named is = record { ran = ran; run = run; first = is ∙ ap (λ (n : List (List ℕ)). first_with words (raw_lines (journal n ran.events))) named }
 sought-in-run s words names number ran None run named is = inl (record { ran = ran; run = run; first = is ∙ ap (λ (n : List (List ℕ)). first_with words (raw_lines (journal n ran.events))) named })
-
--- what follows of a value, where there is one
-pub ok-then : {T E : Type 0} (r : Result T E) (P Q : T → Type 0) → IfOk r P → ((x : T) → P x → Q x) → IfOk r Q
-ok-then (Ok x) P Q has next = next x has
-ok-then (Err e) P Q has next = tt
