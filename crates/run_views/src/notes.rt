@@ -227,13 +227,7 @@ impl<'a> Notes<'a> {
             mode,
         } = said_in(frame, met);
         let command = self.sent_for(kind, frame, met);
-        let said = FrameSaid {
-            kind,
-            uid,
-            page,
-            mode,
-        };
-        self.links[link].put(FrameView { said, command })
+        self.links[link].put(kind, uid, page, mode, command)
     }
 
     /// The commands that are answered before any event.
