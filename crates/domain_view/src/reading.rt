@@ -1,5 +1,5 @@
 //! Standard input: a script, or a script and a journal behind it.
-ghost use Rattle.std.specs.Prelude.{◌≤◌, length, IfOk};
+ghost use Rattle.std.specs.Prelude.{◌≡◌, ◌≤◌, length, Some, None, IfOk};
 
 use dom_io::{ReadEnd, Source, read_all};
 use dom_text::put_decimal;
@@ -21,7 +21,9 @@ pub(crate) struct Said {
 
 impl Said {
     /// This text.
-    pub(crate) fn new(status: u8, text: ByteList) -> Said {
+    pub(crate) fn new(status: u8, text: ByteList) -> Said
+        ensures { result ≡ record { status = status; text = Some text } }
+    {
         Said {
             status,
             text: Some(text),
@@ -29,7 +31,9 @@ impl Said {
     }
 
     /// Nothing but the status.
-    pub(crate) fn nothing(status: u8) -> Said {
+    pub(crate) fn nothing(status: u8) -> Said
+        ensures { result ≡ record { status = status; text = None } }
+    {
         Said { status, text: None }
     }
 }
