@@ -1,0 +1,11 @@
+//! The outcomes of the runs of a script: which were met, how often each, and in what two differ.
+#![tactic(auto)]
+
+pub mod difference;
+pub mod laws;
+pub mod outcome;
+pub mod tally;
+
+pub use difference::{Difference, differences};
+pub use outcome::{Outcome, OutcomeRow, is_same_outcome};
+pub use tally::{KEPT_OUTCOMES, KeptOutcome, Tally, commonest};
