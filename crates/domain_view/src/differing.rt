@@ -42,8 +42,8 @@ fn diff_text(alloc: Global, first: &RunView, second: &RunView) -> Result<ByteLis
     let Some(at) = diff.parting else {
         return ByteList::from_slice(alloc, b"the same\n");
     };
-    let mut text = ByteList::from_slice(alloc, b"event ")?;
-    put_decimal(&mut text, at as u64)?;
+    let mut text = ByteList::from_slice(alloc, b"line ")?;
+    put_decimal(&mut text, at.saturating_add(1) as u64)?;
     text.extend(b"\n  ")?;
     put_event(alloc, &mut text, first, at)?;
     text.extend(b"  ")?;
