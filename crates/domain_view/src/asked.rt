@@ -29,6 +29,8 @@ pub(crate) struct Shown {
 pub(crate) enum Asked {
     /// The events of a run as lanes; the number picks the run where no journal does.
     Lanes(u64, Shown),
+    /// What a run counts.
+    Counts(u64),
     /// Where a run differs from that of another number.
     Diff(u64, u64),
     /// What comes of each of these numbers.

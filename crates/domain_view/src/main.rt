@@ -2,6 +2,7 @@
 #![tactic(auto)]
 
 mod asked;
+mod counting;
 mod differing;
 mod lanes;
 mod reading;

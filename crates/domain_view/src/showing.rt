@@ -1,5 +1,6 @@
 //! Shows what is asked for.
 use crate::asked::Asked;
+use crate::counting::counted;
 use crate::differing::differing;
 use crate::lanes::drawn;
 use crate::reading::{Said, read_input, read_runs};
@@ -61,6 +62,10 @@ fn said_to<R: Threads, S: Source, N: Sink>(
         Asked::Lanes(turns, shown) => {
             let read = read_runs(alloc, input, *turns, None)?;
             drawn(alloc, &read.run, shown)
+        }
+        Asked::Counts(turns) => {
+            let read = read_runs(alloc, input, *turns, None)?;
+            counted(alloc, &read.run)
         }
         Asked::Diff(turns, other) => {
             let read = read_runs(alloc, input, *turns, Some(*other))?;

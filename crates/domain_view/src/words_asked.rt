@@ -92,6 +92,15 @@ fn diff_command<'a>(alloc: Global) -> Result<Command<'a>, Error> {
     Ok(command)
 }
 
+fn counts_command<'a>(alloc: Global) -> Result<Command<'a>, Error> {
+    let command = Command::new(alloc, "counts")
+        .about(
+            "Counts a run: its frames by link and kind, the pages that each node asked for, dropped and sent home, and how many events its commands took",
+        )
+        .arg(turns(alloc))?;
+    Ok(command)
+}
+
 /// Adds the words for numbers of turns.
 fn with_numbers<'a>(alloc: Global, command: Command<'a>) -> Result<Command<'a>, Error> {
     let command = command
@@ -134,7 +143,8 @@ fn program<'a>(alloc: Global) -> Result<Command<'a>, Error> {
         .subcommand(lanes_command(alloc)?)?
         .subcommand(explore_command(alloc)?)?
         .subcommand(find_command(alloc)?)?
-        .subcommand(diff_command(alloc)?)?;
+        .subcommand(diff_command(alloc)?)?
+        .subcommand(counts_command(alloc)?)?;
     Ok(command)
 }
 
@@ -196,6 +206,10 @@ fn asked_by(
     if name == "lanes" {
         let turns = said(matches, "turns").unwrap_or(0);
         return Ok(Some(Asked::Lanes(turns, shown(alloc, matches)?)));
+    }
+    if name == "counts" {
+        let turns = said(matches, "turns").unwrap_or(0);
+        return Ok(Some(Asked::Counts(turns)));
     }
     if name == "diff" {
         let turns = said(matches, "turns").unwrap_or(0);
