@@ -7,7 +7,7 @@ use Rattle.std.proofs.lemmas.Option.{none-some, same_Some}
 use Rattle.std.proofs.lemmas.Slice.Eq.{bytes_eq-Decides}
 use Rattle.uid_names.proofs.Passed.{equal}
 use Rattle.dom_text.specs.Cuts.{cut_at, with_front}
-use Rattle.dir_records.specs.Paths.{is_node_name}
+use Rattle.dom_text.specs.NameWords.{is_name}
 use Rattle.dir_records.specs.Wholes.{before}
 use Rattle.acl_rules.specs.Entries.{IsEntry, IsWho, entry_of, entry_with, line_of, who_of, who_text, with_letters, with_rights, with_subject}
 use Rattle.acl_rules.specs.Lists.{IsList, entries_among, entries_in, entries_of, if_few, lines_of, list_of, list_text, onto_line}
@@ -44,13 +44,13 @@ IsWhoOf word who = IsWho who × (who_text who ≡ word)
 who-of : (word : List ℕ) → IfSome (who_of word) (IsWhoOf word)
 who-of word = by_each (bytes_eq word (codes "%")) refl
   where
-    by_name : (t : Bool) → is_node_name word ≡ t → IfSome (cond t (Some (Named word)) None) (IsWhoOf word)
+    by_name : (t : Bool) → is_name word ≡ t → IfSome (cond t (Some (Named word)) None) (IsWhoOf word)
     by_name true e = (e, refl)
     by_name false e = tt
 
-    by_each : (t : Bool) → bytes_eq word (codes "%") ≡ t → IfSome (cond t (Some Each) (cond (is_node_name word) (Some (Named word)) None)) (IsWhoOf word)
+    by_each : (t : Bool) → bytes_eq word (codes "%") ≡ t → IfSome (cond t (Some Each) (cond (is_name word) (Some (Named word)) None)) (IsWhoOf word)
     by_each true e = (tt, sym ((bytes_eq-Decides word (codes "%")).0 e))
-    by_each false e = by_name (is_node_name word) refl
+    by_each false e = by_name (is_name word) refl
 
 -- and so is the entry of a line
 abbrev IsEntryOf : List ℕ → Entry → Type 0

@@ -9,7 +9,7 @@ use Rattle.uid_names.proofs.Passed.{le-passes}
 use Rattle.uid_names.specs.NameTexts.{is_name_byte}
 use Rattle.dom_text.specs.Cuts.{Lacks}
 use Rattle.dom_text.proofs.Cutting.{cut_at-found}
-use Rattle.dir_records.specs.Paths.{is_node_name}
+use Rattle.dom_text.specs.NameWords.{is_name}
 use Rattle.dir_records.specs.Wholes.{before}
 use Rattle.acl_rules.specs.Entries.{IsEntry, IsWho, entry_of, line_of, who_of, who_text, with_letters, with_rights, with_subject, entry_with}
 use Rattle.acl_rules.specs.Lists.{IsList, entries_in, if_few, list_of, list_text}
@@ -36,7 +36,7 @@ record IsWord (name : List ℕ) : Type 0 where
   few : nat_le (length name) 32 ≡ true
   bytes : list_all is_name_byte name ≡ true
 
-word-is : (name : List ℕ) → is_node_name name ≡ true → IsWord name
+word-is : (name : List ℕ) → is_name name ≡ true → IsWord name
 word-is name is =
     let whole = and_parts (nat_le 1 (length name)) (nat_le (length name) 32 && list_all is_name_byte name) is in
     let rest = and_parts (nat_le (length name) 32) (list_all is_name_byte name) whole.1 in

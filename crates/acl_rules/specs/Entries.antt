@@ -1,7 +1,7 @@
 -- The entries of access lists, and how they are written.
 use Rattle.std.specs.Prelude.{◌≡◌, ℕ, true, if◌then◌else◌, Option, Some, None, List, ◌∷◌, ◌++◌, bytes_eq, codes}
 use Rattle.dom_text.specs.Cuts.{cut_at}
-use Rattle.dir_records.specs.Paths.{is_node_name}
+use Rattle.dom_text.specs.NameWords.{is_name}
 use Rattle.acl_rules.specs.RightTexts.{rights_of, rights_text}
 use Rattle.acl_rules.specs.declared.entry.Entry.{Entry}
 use Rattle.acl_rules.specs.declared.entry.Who.{Who}
@@ -10,7 +10,7 @@ use Rattle.acl_rules.specs.declared.rights.Rights.{Rights}
 
 -- whom a word stands for: `%` for everybody, a name for the one of that name
 abbrev pub who_of : List ℕ → Option Who
-who_of word = if bytes_eq word (codes "%") then Some Each else if is_node_name word then Some (Named word) else None
+who_of word = if bytes_eq word (codes "%") then Some Each else if is_name word then Some (Named word) else None
 
 -- a line is cut at its space, and what stands before that at its dot
 abbrev pub entry_with : Option Who → Option Who → Rights → Option Entry
@@ -44,7 +44,7 @@ line_of e = (who_text e.person ++ 46 ∷ who_text e.project) ++ 32 ∷ rights_te
 -- its names are names
 abbrev pub IsWho : Who → Type 0
 IsWho Each = Unit {0}
-IsWho (Named name) = is_node_name name ≡ true
+IsWho (Named name) = is_name name ≡ true
 
 pub record IsEntry (e : Entry) : Type 0 where
   pub person : IsWho e.person

@@ -1,22 +1,16 @@
 //! The entries of access lists.
 ghost use Rattle.std.specs.Prelude.{◌≡◌, ◌≤◌, length, IfOk};
-ghost use Rattle.std.specs.List.{list_all};
-ghost use Rattle.uid_names.specs.NameTexts.{is_name_byte as may_stand_in_name};
-ghost use Rattle.dir_records.specs.Paths.{is_node_name};
 ghost use Rattle.acl_rules.specs.Entries.{who_of, entry_of};
 ghost use Rattle.acl_rules.specs.declared.entry.TheConstants.{MOST_ENTRIES};
 
 use crate::rights::{Rights, read_rights};
-use dom_text::cut;
+use dom_text::{cut, is_name};
 use std::alloc::Global;
 use std::marker::Model;
 use uid_names::{ByteList, NoMemory};
 
 /// The most entries of a list.
 pub const MOST_ENTRIES: usize = 128;
-
-/// The most bytes of a name.
-const NAME_BYTES: usize = 32;
 
 /// Whom a part of an entry stands for.
 #[derive(Drop, Debug)]
@@ -69,30 +63,6 @@ impl AccessList {
     {
         self.entries.as_slice()
     }
-}
-
-/// Whether this byte may stand in a name.
-fn is_name_byte(byte: u8) -> bool
-    ensures { result ≡ may_stand_in_name byte }
-{
-    matches!(byte, b'a'..=b'z' | b'A'..=b'Z' | b'0'..=b'9' | b'_' | b'$')
-}
-
-/// Whether each byte may stand there.
-fn are_name_bytes(word: &[u8]) -> bool
-    ensures { result ≡ list_all may_stand_in_name word.now }
-{
-    word.iter().all(|b| is_name_byte(*b))
-}
-
-/// Whether a word is a name.
-fn is_name(word: &[u8]) -> bool
-    ensures { result ≡ is_node_name word.now }
-{
-    if word.is_empty() || word.len() > NAME_BYTES {
-        return false;
-    }
-    are_name_bytes(word)
 }
 
 /// Whom a word stands for; None where it is neither `%` nor a name.

@@ -14,7 +14,7 @@ use Rattle.aegis_shell.specs.Operations.{ops_of, first_of}
 use Rattle.aegis_shell.specs.Plans.{Talks, Writes, makes, is_long, talk_plan, plan_of}
 use Rattle.aegis_shell.specs.Standing.{site_of}
 use Rattle.aegis_shell.specs.States.{Goes, Comes, on_turn, talk_goes, may_be, on_talk, begins, begins_by}
-use Rattle.command_talks.specs.Commands.{talks, is_sound, talk_of}
+use Rattle.command_talks.specs.Commands.{talks, is_sound, talk_for}
 use Rattle.command_talks.specs.Ranges.{IsRanged}
 use Rattle.command_talks.specs.Talks.{Turn, Goes as Asks, talk_asks}
 use Rattle.aegis_shell.specs.Work.{Part}
@@ -47,7 +47,7 @@ talked part working uid command t short sound =
     ∙ ap (λ b. cond b Talks (Writes [])) sound)
 
 pub talk_begins : (part : Part) (working : Working) (uid : Option ObjectName) (command : Command) → talks command ≡ true → is_long part working command ≡ false → IsRanged command
-    → talk_goes (talk_of (site_of part) working.dir command) None ≡ begins part working uid command
+    → talk_goes (talk_for part.guard (site_of part) working.dir command) None ≡ begins part working uid command
 talk_begins part working uid command t short ranged = sym (ap (begins_by part working command) (talked part working uid command t short (ranged_sound command ranged)))
 
 -- the one that tells the working directory

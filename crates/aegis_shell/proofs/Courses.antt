@@ -13,7 +13,7 @@ use Rattle.dom_history.specs.declared.op.Reply.TheVariants.{Fine, Locks}
 use Rattle.dom_history.specs.declared.op.Want.TheVariants.{Done}
 use Rattle.dom_history.specs.Follows.{Heard}
 use Rattle.script_reader.specs.declared.command.Command.{Command}
-use Rattle.script_reader.specs.declared.command.Command.TheVariants.{Bind, Crf, Crd, Crl, Dlf, Catf, Lnf, Apf, Cpf, Ld, Wd, Llkob}
+use Rattle.script_reader.specs.declared.command.Command.TheVariants.{Wd, Llkob}
 use Rattle.script_reader.specs.Scripts.{Content, IsContent}
 use Rattle.script_reader.specs.Variables.{declared_object}
 use Rattle.command_talks.specs.Dialogues.{Dialogue, Ends as Finished, Asks as Asking}
@@ -24,8 +24,8 @@ use Rattle.aegis_shell.specs.Work.{Job, Part, part_of, jobs_of, object_of, is_of
 use Rattle.aegis_shell.specs.Ranges.{IsJob, AreJobs}
 use Rattle.aegis_shell.specs.Operations.{ops_of}
 use Rattle.aegis_shell.specs.Outcomes.{standing_after, lock_texts}
-use Rattle.command_talks.specs.Commands.{dialogue_of}
-use Rattle.aegis_shell.specs.Plans.{Plan, Makes, Talks, Lists, Writes, makes, plan_of}
+use Rattle.command_talks.specs.Commands.{dialogue_for}
+use Rattle.aegis_shell.specs.Plans.{Plan, Makes, Talks, Lists, Writes, makes, talk_plan, plan_of}
 use Rattle.aegis_shell.specs.RangeTests.{is_op}
 use Rattle.aegis_shell.specs.Standing.{Standing, site_of, first_standing}
 use Rattle.aegis_shell.specs.AnswerTexts.{is_done, together, so_far}
@@ -35,7 +35,7 @@ use Rattle.aegis_shell.proofs.Parts.{jobs_ranged}
 use Rattle.aegis_shell.proofs.Stages.{out_of_range, in_range_none, in_range_some}
 
 -- phases that were passed stay passed when more is told
-phases-more : (n : ℕ) (told rest more : Told) → behind_phases n told ≡ Some rest → behind_phases n (told ++ more) ≡ Some (rest ++ more)
+pub phases-more : (n : ℕ) (told rest more : Told) → behind_phases n told ≡ Some rest → behind_phases n (told ++ more) ≡ Some (rest ++ more)
 phases-more zero told rest more is = let same : told ≡ rest = cc in ap (λ (t : Told). Some (t ++ more)) same
 phases-more (suc n) [] rest more is = cc
 phases-more (suc n) (x ∷ told) rest more is = phases-more n told rest more is
@@ -99,9 +99,9 @@ listed-more names home last text (Some (Locks rows others) ∷ told) rest more o
     (listed-more names home (last_row rows) grown told rest more outcome) is
 listed-more names home last text (Some reply ∷ told) rest more outcome is = ends-more (Replied reply) outcome told rest more is
 
-plan-more : (part : Part) (at : Standing) (command : Command) (plan : Plan) (told rest more : Told) (outcome : Outcome) → carry part at command plan told ≡ Ends outcome rest → carry part at command plan (told ++ more) ≡ Ends outcome (rest ++ more)
+pub plan-more : (part : Part) (at : Standing) (command : Command) (plan : Plan) (told rest more : Told) (outcome : Outcome) → carry part at command plan told ≡ Ends outcome rest → carry part at command plan (told ++ more) ≡ Ends outcome (rest ++ more)
 plan-more part at command (Makes list) told rest more outcome is = carried-more Fine list told rest more outcome is
-plan-more part at command Talks told rest more outcome is = talked-more (dialogue_of (site_of part) at.working.dir command) told rest more outcome is
+plan-more part at command Talks told rest more outcome is = talked-more (dialogue_for part.guard (site_of part) at.working.dir command) told rest more outcome is
 plan-more part at command (Lists home) told rest more outcome is = listed-more part.names home None _ told rest more outcome is
 plan-more part at command (Writes text) told rest more outcome is = ends-more (Written text) outcome told rest more is
 
@@ -181,19 +181,9 @@ short_count (op ∷ (next ∷ (third ∷ more))) short = elim short [ ]
 
 -- a command without names is planned by its operations
 plain_plan : (part : Part) (working : Working) (uid : Option ObjectName) (command : Command) → is_of_names command ≡ false → plan_of part working uid command ≡ makes (ops_of part.node command uid)
-plain_plan part working uid (Bind var path) plain = cc
-plain_plan part working uid (Crf path room) plain = cc
-plain_plan part working uid (Crd path) plain = cc
-plain_plan part working uid (Crl path target) plain = cc
-plain_plan part working uid (Dlf path) plain = cc
-plain_plan part working uid (Catf path) plain = cc
-plain_plan part working uid (Lnf path) plain = cc
-plain_plan part working uid (Apf path text) plain = cc
-plain_plan part working uid (Cpf path target) plain = cc
-plain_plan part working uid (Ld path) plain = cc
 plain_plan part working uid (Wd path) plain = cc
 plain_plan part working uid (Llkob node) plain = cc
-plain_plan part working uid command plain = refl
+plain_plan part working uid command plain = ap (λ b. cond b (talk_plan part working command) (makes (ops_of part.node command uid))) plain
 
 makes-ends : (part : Part) (at : Standing) (command : Command) (list : Option (List Op)) (told : Told) → AreShort list → 2 ≤ length told → HasEnded (carry part at command (makes list) told) told 2
 makes-ends part at command None told short enough = record { outcome = Written _; rest = told; ends = refl; took = omega arith }

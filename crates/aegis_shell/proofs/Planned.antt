@@ -14,9 +14,9 @@ use Rattle.aegis_shell.specs.Work.{Part}
 use Rattle.aegis_shell.specs.declared.working.Working.{Working}
 use Rattle.aegis_shell.proofs.Counts.{IsShort, AreShort, ops_short}
 use Rattle.aegis_shell.proofs.Stages.{Leads, stepped}
-use Rattle.command_talks.specs.Commands.{talks, is_sound, dialogue_of, talk_of}
+use Rattle.command_talks.specs.Commands.{talks, is_sound, dialogue_for, talk_for}
 use Rattle.command_talks.specs.Talks.{talk_turn}
-use Rattle.command_talks.proofs.Talking.{talk_starts}
+use Rattle.command_talks.proofs.Talking.{starts_for}
 
 -- a plan is one of a command that has such operations, or such a dialogue
 abbrev pub IsPlanned : Option (List Op) → Command → Plan → Type 0
@@ -51,7 +51,7 @@ plan_leads part at list command (Makes (op ∷ rest)) h = record { ops = op ∷ 
 plan_leads part at list command Talks h =
     let site = site_of part in
     let dir = at.working.dir in
-    stepped part.names list (carry part at command Talks) (talk_turn (talk_of site dir command) None) (dialogue_of site dir command) (talk_starts site dir command h.0 h.1) (λ told. refl)
+    stepped part.names list (carry part at command Talks) (talk_turn (talk_for part.guard site dir command) None) (dialogue_for part.guard site dir command) (starts_for part.guard site dir command h.0 h.1) (λ told. refl)
 plan_leads part at list command (Lists home) h = λ told. refl
 plan_leads part at list command (Writes text) h = λ told. refl
 

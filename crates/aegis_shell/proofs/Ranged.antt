@@ -38,7 +38,7 @@ use Rattle.aegis_shell.specs.Ranges.{IsJob, AreJobs}
 use Rattle.aegis_shell.specs.Operations.{page_rest, behind, loads, loads_if, stores, stores_if, on_object, ops_of}
 use Rattle.aegis_shell.specs.AnswerTexts.{is_done, together, path_too_long}
 use Rattle.aegis_shell.specs.Outcomes.{bound_by, bind_if, lock_texts, standing_after}
-use Rattle.command_talks.specs.Commands.{talks, is_sound, dialogue_of}
+use Rattle.command_talks.specs.Commands.{talks, is_sound, dialogue_for}
 use Rattle.aegis_shell.specs.Plans.{Plan, Makes, Talks, Lists, Writes, makes, is_long, plan_of}
 use Rattle.aegis_shell.specs.RangeTests.{is_op, is_row, is_uid}
 use Rattle.aegis_shell.specs.Standing.{Standing, site_of, first_standing}
@@ -199,7 +199,7 @@ plan_ranged part working uid command own named h =
 
 course_in_range : (part : Part) (at : Standing) (command : Command) (plan : Plan) (told : Told) → IsRangedPlan plan → IsRangedCourse (carry part at command plan told)
 course_in_range part at command (Makes list) told h = carried_ranged Fine list told h
-course_in_range part at command Talks told h = talked_ranged (dialogue_of (site_of part) at.working.dir command) told
+course_in_range part at command Talks told h = talked_ranged (dialogue_for part.guard (site_of part) at.working.dir command) told
 course_in_range part at command (Lists home) told h = listed_ranged part.names home None _ told h tt
 course_in_range part at command (Writes text) told h = tt
 

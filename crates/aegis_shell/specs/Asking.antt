@@ -13,7 +13,7 @@ use Rattle.dom_history.specs.declared.op.Want.TheVariants.{Do, Phase, Done}
 use Rattle.dom_history.specs.Follows.{Heard}
 use Rattle.script_reader.specs.declared.command.Command.{Command}
 use Rattle.script_reader.specs.Scripts.{Content}
-use Rattle.command_talks.specs.Commands.{dialogue_of}
+use Rattle.command_talks.specs.Commands.{dialogue_for}
 use Rattle.command_talks.specs.Dialogues.{Dialogue, Ends as Over, Asks as Asking}
 use Rattle.command_talks.specs.declared.outcome.Outcome.{Outcome}
 use Rattle.command_talks.specs.declared.outcome.Outcome.TheVariants.{Replied, Written}
@@ -98,7 +98,7 @@ list_locks names home after text (last ∷ told) = Ends (Replied (so_far last)) 
 -- how far a command of this plan comes
 abbrev pub carry : Part → Standing → Command → Plan → Told → Course
 carry part at command (Makes list) told = carry_out Fine list told
-carry part at command Talks told = converse (dialogue_of (site_of part) at.working.dir command) told
+carry part at command Talks told = converse (dialogue_for part.guard (site_of part) at.working.dir command) told
 carry part at command (Lists home) told = list_locks part.names home None (codes "ok") told
 carry part at command (Writes text) told = Ends (Written text) told
 

@@ -59,6 +59,7 @@ abbrev pub result_text : List (List ℕ) → NameResult → List ℕ
 result_text names (results.Found at) = codes "ok"
 result_text names (results.Added u) = codes "ok"
 result_text names results.Removed = codes "ok"
+result_text names (results.Under p) = codes "ok"
 result_text names (results.Rows rows) = codes "ok" ++ row_texts rows
 result_text names results.Nodes = codes "ok" ++ node_texts names
 result_text names results.NoName = codes "no name"

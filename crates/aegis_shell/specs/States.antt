@@ -20,7 +20,7 @@ use Rattle.aegis_shell.specs.Work.{Job, Part, object_of}
 use Rattle.aegis_shell.specs.Standing.{Standing, site_of, first_working}
 use Rattle.aegis_shell.specs.Operations.{ops_of, first_of, second_of}
 use Rattle.aegis_shell.specs.Plans.{Plan, Makes, Talks, Lists, Writes, plan_of}
-use Rattle.command_talks.specs.Commands.{talk_of}
+use Rattle.command_talks.specs.Commands.{talk_for}
 use Rattle.command_talks.specs.Talks as turns
 use Rattle.command_talks.specs.Talks.{talk_asks, talk_turn}
 use Rattle.aegis_shell.specs.RangeTests.{is_op}
@@ -74,7 +74,7 @@ talk_goes talk last = on_turn (talk_turn talk last)
 abbrev pub begins_by : Part → Working → Command → Plan → Going
 begins_by part working command (Makes []) = Comes (Replied Fine)
 begins_by part working command (Makes (op ∷ list)) = Goes First
-begins_by part working command Talks = talk_goes (talk_of (site_of part) working.dir command) None
+begins_by part working command Talks = talk_goes (talk_for part.guard (site_of part) working.dir command) None
 begins_by part working command (Lists home) = Goes (Listing home None (codes "ok"))
 begins_by part working command (Writes text) = Comes (Written text)
 

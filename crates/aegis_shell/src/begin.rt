@@ -122,7 +122,7 @@ pub fn begin(
     if is_too_long(alloc, work, working, command)? {
         return written(alloc, b"path too long");
     }
-    match machine_for(alloc, work.site(), working.dir, command)? {
+    match machine_for(alloc, work.guard(), work.site(), working.dir, command)? {
         Some(machine) => turn_of(alloc, machine, None),
         None => begin_alone(alloc, work, working, command, object),
     }

@@ -136,7 +136,8 @@ fn result_text(alloc: Global, names: &NodeNames, come: &NameResult) -> Result<By
         NameResult::Rows(rows) => return rows_text(alloc, rows.items()),
         NameResult::Nodes => return nodes_text(alloc, names.items()),
         NameResult::Store(reply) => return answer_text(alloc, names, reply),
-        NameResult::Found(_) | NameResult::Added(_) | NameResult::Removed => b"ok",
+        NameResult::Found(_) | NameResult::Under(_) | NameResult::Added(_) | NameResult::Removed =>
+            b"ok",
         NameResult::NoName => b"no name",
         NameResult::NameExists => b"name exists",
         NameResult::NotDir => b"not a directory",

@@ -4,13 +4,14 @@ ghost use Rattle.std.specs.Option.{option_copied};
 ghost use Rattle.dom_history.specs.NodeTexts.{AreNodeNames};
 ghost use Rattle.script_reader.specs.Variables.{declared_object};
 ghost use Rattle.aegis_shell.specs.Bindings.{object_at};
-ghost use Rattle.aegis_shell.specs.Work.{variable as variable_of, object_in, object_of as object_of_job, job_of, jobs_of, part_of};
+ghost use Rattle.aegis_shell.specs.Work.{variable as variable_of, object_in, object_of as object_of_job, job_of, jobs_of, nobody, subject_of, subject_in, guard_of, part_of};
 ghost use Rattle.aegis_shell.specs.Ranges.{AreJobs};
 
 use crate::bindings::Bindings;
+use command_talks::Subject;
 use dom_history::NodeNames;
 use naming_tree::Site;
-use script_reader::{Command, CommandRow, NodeRow, Script};
+use script_reader::{Command, CommandRow, NodeRow, Script, SubjectRow};
 use std::alloc::Global;
 use std::marker::Model;
 use uid_names::{ByteList, NoMemory, NodeId, ProcId, Uid};
@@ -132,10 +133,53 @@ fn jobs(alloc: Global, script: &Script, proc: ProcId) -> Result<Vec<Job<'_>>, No
     Ok(jobs)
 }
 
+/// Who the process of a line is.
+fn subject_said(alloc: Global, row: &SubjectRow) -> Result<Subject, NoMemory>
+    ensures { IfOk result (λ who. who ≡ subject_of row.now) }
+{
+    Ok(Subject {
+        person: row.person.copy(alloc)?,
+        project: row.project.copy(alloc)?,
+    })
+}
+
+/// Who a process without a line is.
+fn no_subject(alloc: Global) -> Result<Subject, NoMemory>
+    ensures { IfOk result (λ who. who ≡ nobody) }
+{
+    Ok(Subject {
+        person: ByteList::from_slice(alloc, b"user")?,
+        project: ByteList::from_slice(alloc, b"none")?,
+    })
+}
+
+/// Who a process is.
+fn subject(alloc: Global, rows: &[SubjectRow], proc: ProcId) -> Result<Subject, NoMemory>
+    ensures { IfOk result (λ who. who ≡ subject_in rows.now proc) }
+{
+    for row in rows {
+        if row.proc.is(proc) {
+            return subject_said(alloc, row);
+        }
+    }
+    no_subject(alloc)
+}
+
+/// Who a process is, where access lists are in force.
+fn guard(alloc: Global, script: &Script, proc: ProcId) -> Result<Option<Subject>, NoMemory>
+    ensures { IfOk result (λ who. who ≡ guard_of script.now proc) }
+{
+    if !script.access() {
+        return Ok(None);
+    }
+    Ok(Some(subject(alloc, script.subjects(), proc)?))
+}
+
 /// A process's part of a script, whose commands it borrows.
 #[derive(Drop)]
 pub struct Work<'a> {
     site: Site,
+    guard: Option<Subject>,
     jobs: Vec<Job<'a>>,
 }
 
@@ -146,7 +190,7 @@ impl<'a> Model for Work<'a> {
 
     ghost Value = { Part };
 
-    ghost view = { λ w. record { node = w.site.own; names = w.site.names; jobs = w.jobs.items } };
+    ghost view = { λ w. record { node = w.site.own; names = w.site.names; guard = w.guard; jobs = w.jobs.items } };
 
     ghost invariant = { λ w. AreJobs w.jobs.items × (length w.jobs.items < 2 ^ 32) };
 }
@@ -159,12 +203,13 @@ impl<'a> Work<'a> {
         ensures { IfOk result (λ work. work ≡ part_of script.now proc) }
     {
         let names = names(alloc, script.nodes())?;
+        let guard = guard(alloc, script, proc)?;
         let jobs = jobs(alloc, script, proc)?;
         let site = Site {
             own: proc.node(),
             names,
         };
-        Ok(Work { site, jobs })
+        Ok(Work { site, guard, jobs })
     }
 
     /// The process's node.
@@ -186,6 +231,13 @@ impl<'a> Work<'a> {
         ensures { result.now ≡ site_of self.now }
     {
         &self.site
+    }
+
+    /// Who the process is, where access lists are in force.
+    pub fn guard(&self) -> &Option<Subject>
+        ensures { result.now ≡ self.now.guard }
+    {
+        &self.guard
     }
 
     /// The process's commands, in order.

@@ -15,9 +15,10 @@ use Rattle.script_reader.specs.declared.command.Command.{Command}
 use Rattle.script_reader.specs.declared.command.Command.TheVariants.{Bind, New, Wd}
 use Rattle.naming_tree.specs.declared.step.NameResult.TheVariants.{Found}
 use Rattle.naming_tree.specs.declared.step.Walked.TheVariants.{At}
-use Rattle.command_talks.specs.Commands.{dialogue_of}
+use Rattle.command_talks.specs.Commands.{dialogue_for}
 use Rattle.command_talks.specs.Dialogues.{Dialogue, Asks as Asking, Ends as Over}
 use Rattle.command_talks.specs.Ranges.{IsRanged}
+use Rattle.command_talks.specs.declared.check.Subject.{Subject}
 use Rattle.command_talks.specs.declared.outcome.Outcome.{Outcome}
 use Rattle.command_talks.specs.declared.outcome.Outcome.TheVariants.{Came, Replied}
 use Rattle.command_talks.proofs.Begun.{ranged_sound}
@@ -56,20 +57,20 @@ goes-plainly d told asks fits = record { same = goes-same d told asks fits; come
 
 -- so it is at a command of a script, where each command in its ranges asks in those of operations
 abbrev pub CommandsAsk : Type 0
-CommandsAsk = (site : Site) (dir : ObjectName) (command : Command) → IsSite site → IsName dir → IsRanged command → AsksInRange IsNamedOutcome (dialogue_of site dir command)
+CommandsAsk = (who : Option Subject) (site : Site) (dir : ObjectName) (command : Command) → IsSite site → IsName dir → IsRanged command → AsksInRange IsNamedOutcome (dialogue_for who site dir command)
 
 module _ (ask : CommandsAsk) (s : Content) (p : ProcName) (content : IsContent s) (own : IsNodeNumber p.node) where
   site-is : IsSite (site_of (part_of s p))
   site-is = let all = length-map s.nodes (λ n. n.name) in let few = content.draft.few_nodes in record { own = own; few = omega (arith, all, few) }
 
-  job-unguarded : (job : Job) → IsJob job → IsUnguarded (site_of (part_of s p)) job.command
+  job-unguarded : (job : Job) → IsJob job → IsUnguarded (part_of s p).guard (site_of (part_of s p)) job.command
   job-unguarded job is = record {
     sound = ranged_sound job.command is.command;
-    plain = λ dir named told fits. goes-plainly (dialogue_of (site_of (part_of s p)) dir job.command) told (ask (site_of (part_of s p)) dir job.command site-is named is.command) fits;
+    plain = λ dir named told fits. goes-plainly (dialogue_for (part_of s p).guard (site_of (part_of s p)) dir job.command) told (ask (part_of s p).guard (site_of (part_of s p)) dir job.command site-is named is.command) fits;
   }
 
-  pub jobs-unguarded : All (λ (job : Job). IsUnguarded (site_of (part_of s p)) job.command) (jobs_of s p)
-  jobs-unguarded = All-weaker IsJob (λ (job : Job). IsUnguarded (site_of (part_of s p)) job.command) job-unguarded (jobs_of s p) (jobs_ranged s (declared_object s.objects) p content)
+  pub jobs-unguarded : All (λ (job : Job). IsUnguarded (part_of s p).guard (site_of (part_of s p)) job.command) (jobs_of s p)
+  jobs-unguarded = All-weaker IsJob (λ (job : Job). IsUnguarded (part_of s p).guard (site_of (part_of s p)) job.command) job-unguarded (jobs_of s p) (jobs_ranged s (declared_object s.objects) p content)
 
 -- what has a name is bound, entered, and listed behind
 pub bound-plainly : (command : Command) (outcome : Outcome) → IsNamedOutcome outcome → bound_by command outcome ≡ plainly_bound command outcome

@@ -11,3 +11,4 @@ pub mod Streams
 pub mod Files
 pub mod Talks
 pub mod Guards
+pub mod Checking

@@ -1,7 +1,6 @@
 -- What is asked of names by their paths is in the ranges of operations.
 use Rattle.std.proofs.Common.{ℕ, true, Option, Some, None, IfSome, List}
 use Rattle.uid_names.specs.Names.{ObjectName, IsName}
-use Rattle.uid_names.specs.Rooms.{IsRoom}
 use Rattle.uid_names.specs.declared.mode.ObjKind.{ObjKind}
 use Rattle.uid_names.specs.declared.mode.ObjKind.TheVariants as kinds
 use Rattle.dir_records.specs.Directories.{rows_in}
@@ -9,23 +8,21 @@ use Rattle.dir_records.specs.LastNames.{last_of}
 use Rattle.dir_records.specs.Paths.{route_of}
 use Rattle.dir_records.specs.declared.path.Route.{Route}
 use Rattle.dir_records.specs.declared.row.DirRow.{DirRow}
-use Rattle.naming_tree.specs.Additions.{IsText, add_at}
 use Rattle.naming_tree.specs.Dialogues.{Dialogue, Ends}
-use Rattle.naming_tree.specs.NamePaths.{add_name, added_alone, addition, by_parent, drop_name, if_directory, in_directory, list_dir, listed, listing, on_last, removed_alone}
-use Rattle.naming_tree.specs.Removals.{drop_at}
-use Rattle.naming_tree.specs.Sessions.{reading}
+use Rattle.naming_tree.specs.NamePaths.{added_alone, alone_for, by_parent, if_directory, in_directory, listed, listing_at, on_last, reached, removed_alone, to_parent}
 use Rattle.naming_tree.specs.Walks.{along, follow, most_links, start_at}
+use Rattle.naming_tree.specs.declared.purpose.Purpose.{Purpose}
+use Rattle.naming_tree.specs.declared.purpose.Purpose.TheVariants.{Adds, Drops}
 use Rattle.naming_tree.specs.declared.site.Site.{Site}
 use Rattle.naming_tree.specs.declared.step.NameResult.{NameResult}
 use Rattle.naming_tree.specs.declared.step.Walked.{Walked}
 use Rattle.naming_tree.specs.declared.step.Walked.TheVariants.{At, Root}
 use Rattle.command_ranges.specs.Naming.{IsNamedResult, IsNamedWalked}
 use Rattle.command_ranges.specs.Talking.{IsSite}
-use Rattle.command_ranges.proofs.Changes.{add_at-names, drop_at-names}
 use Rattle.command_ranges.proofs.Names.{AsksNames, reading-names}
 use Rattle.command_ranges.proofs.Paths.{IsLast, IsOfComponents, last-is, route-is}
 use Rattle.command_ranges.proofs.Records.{IsComponent}
-use Rattle.command_ranges.proofs.Walks.{along-most, start-named, start-walks, walking-names}
+use Rattle.command_ranges.proofs.Walks.{along-most, start-named, start-walks}
 
 -- a directory, and nothing else
 kind-asks : (kind : ObjKind) (d : Dialogue) → AsksNames d → AsksNames (if_directory kind d)
@@ -37,9 +34,8 @@ listed-named : (rows : Option (List DirRow)) → IsNamedResult (listed rows)
 listed-named None = tt
 listed-named (Some rows) = tt
 
-listing-names : (w : Walked) → IsNamedWalked w → AsksNames (listing w)
-listing-names Root named = tt
-listing-names (At u kind within) named = kind-asks kind (reading u (λ bytes. Ends (listed (rows_in bytes)))) (reading-names u (λ bytes. Ends (listed (rows_in bytes))) named.0 (λ all. listed-named (rows_in all)))
+pub listing-names : (u : ObjectName) → IsName u → AsksNames (listing_at u)
+listing-names u named = reading-names u (λ bytes. Ends (listed (rows_in bytes))) named (λ all. listed-named (rows_in all))
 
 -- what is done with the last name of a path, in its directory
 abbrev AsksAtLast : (List ℕ → ObjectName → Dialogue) → Type 0
@@ -57,10 +53,11 @@ removed-alone : (start : Option Walked) → IsNamedResult (removed_alone start)
 removed-alone None = tt
 removed-alone (Some here) = tt
 
-module _ (site : Site) (is : IsSite site) where
-  pub list-names : (path : List ℕ) (working : ObjectName) → IsName working → AsksNames (list_dir site path working)
-  list-names path working named = walking-names site is true listing listing-names path working named
+alone-for : (purpose : Purpose) (start : Option Walked) → IsNamedResult (alone_for purpose start)
+alone-for Adds start = added-alone start
+alone-for Drops start = removed-alone start
 
+module _ (site : Site) (is : IsSite site) where
   module _ (alone : Option Walked → NameResult) (ends : (start : Option Walked) → IsNamedResult (alone start)) (next : List ℕ → ObjectName → Dialogue) (on : AsksAtLast next) where
     last-names : (parts : Option (List (List ℕ) × List ℕ)) (start : Option Walked) → IfSome parts IsLast → IfSome start IsNamedWalked → AsksNames (on_last site parts start alone next)
     last-names None start form named = ends start
@@ -73,11 +70,6 @@ module _ (site : Site) (is : IsSite site) where
     by_parent-names None working forms named = tt
     by_parent-names (Some route) working forms named = last-names (last_of route.names) (start_at site working route.start) (last-is route.names forms) (start-named site is working route.start named)
 
-  pub add-names : (path : List ℕ) (working : ObjectName) (kind : ObjKind) (room : ℕ) (text : Option (List ℕ)) → IsName working → IsRoom room → IsText kind text → AsksNames (add_name site path working kind room text)
-  add-names path working kind room text named range path_text =
-      by_parent-names added_alone added-alone (λ name parent. add_at parent (addition kind room text name))
-      (λ name form parent own. add_at-names parent (addition kind room text name) own (record { room = range; text = path_text }) form) (route_of path) working (route-is path) named
-
-  pub drop-names : (path : List ℕ) (working : ObjectName) → IsName working → AsksNames (drop_name site path working)
-  drop-names path working named =
-      by_parent-names removed_alone removed-alone (λ name parent. drop_at parent name) (λ name form parent own. drop_at-names parent name own) (route_of path) working (route-is path) named
+  pub reach-names : (path : List ℕ) (working : ObjectName) (purpose : Purpose) → IsName working → AsksNames (to_parent site path working purpose)
+  reach-names path working purpose named =
+      by_parent-names (alone_for purpose) (alone-for purpose) reached (λ name form u own. (own, form)) (route_of path) working (route-is path) named

@@ -1,13 +1,14 @@
 -- What commands come to has names, and how it is taken where nobody tests that.
-use Rattle.std.specs.Prelude.{ℕ, Option, Some, None, List, [], ◌∷◌, IfSome}
+use Rattle.std.specs.Prelude.{◌≡◌, ℕ, true, Option, Some, None, List, [], ◌∷◌, IfSome}
 use Rattle.uid_names.specs.Names.{ObjectName, ProcName, IsName}
 use Rattle.uid_names.specs.declared.lock_row.LockRow.{LockRow}
 use Rattle.dom_history.specs.Ranges.{IsNamedReply, IsRowName}
 use Rattle.dom_history.specs.declared.op.Reply.TheVariants.{Made}
+use Rattle.dir_records.specs.Components.{is_component}
 use Rattle.script_reader.specs.declared.command.Command.{Command}
 use Rattle.script_reader.specs.declared.command.Command.TheVariants.{New, Bind}
 use Rattle.naming_tree.specs.declared.step.NameResult.{NameResult}
-use Rattle.naming_tree.specs.declared.step.NameResult.TheVariants.{Added, Found}
+use Rattle.naming_tree.specs.declared.step.NameResult.TheVariants.{Added, Found, Under}
 use Rattle.naming_tree.specs.declared.step.Walked.{Walked}
 use Rattle.naming_tree.specs.declared.step.Walked.TheVariants.{At, Root}
 use Rattle.naming_tree.specs.declared.step.Within.{Within}
@@ -19,10 +20,11 @@ abbrev pub IsNamedWalked : Walked → Type 0
 IsNamedWalked Root = Unit {0}
 IsNamedWalked (At u kind within) = IsName u × IfSome within (λ (w : Within). IsName w.dir)
 
--- and so do those that a command on names came to
+-- and so do those that a command on names came to; a name that is to stand in a directory can
 abbrev pub IsNamedResult : NameResult → Type 0
 IsNamedResult (Found at) = IsNamedWalked at
 IsNamedResult (Added u) = IsName u
+IsNamedResult (Under p) = IsName p.dir × (is_component p.name ≡ true)
 IsNamedResult _ = Unit {0}
 
 -- and those that any command came to

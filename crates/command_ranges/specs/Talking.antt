@@ -1,13 +1,14 @@
 -- How a command goes without the guards of a shell, and that no guard acts.
-use Rattle.std.specs.Prelude.{◌≡◌, ◌≤◌, true, Some, None, [], ◌∷◌, length}
+use Rattle.std.specs.Prelude.{◌≡◌, ◌≤◌, true, Option, Some, None, [], ◌∷◌, length}
 use Rattle.uid_names.specs.Names.{ObjectName, IsName}
 use Rattle.uid_names.specs.declared.limits.TheConstants.{MAX_NODES}
 use Rattle.dom_history.specs.Ranges.{IsNodeNumber, IsOp}
 use Rattle.dom_history.specs.declared.op.Reply.TheVariants.{Fine}
 use Rattle.script_reader.specs.declared.command.Command.{Command}
 use Rattle.naming_tree.specs.declared.site.Site.{Site}
-use Rattle.command_talks.specs.Commands.{dialogue_of, is_sound}
+use Rattle.command_talks.specs.Commands.{dialogue_for, is_sound}
 use Rattle.command_talks.specs.Dialogues.{Dialogue, Asks as Asking, Ends as Over}
+use Rattle.command_talks.specs.declared.check.Subject.{Subject}
 use Rattle.command_talks.specs.declared.outcome.Outcome.TheVariants.{Replied}
 use Rattle.aegis_shell.specs.Asking.{Asks, Course, Ends, Told, converse}
 use Rattle.command_ranges.specs.Naming.{IsNamedOutcome}
@@ -43,6 +44,6 @@ pub record GoesPlainly (d : Dialogue) (told : Told) : Type 0 where
   pub comes : ComesNamed (plainly d told)
 
 -- no guard of the shell acts at a command: it is sound, and goes plainly from any working directory
-pub record IsUnguarded (site : Site) (command : Command) : Type 0 where
+pub record IsUnguarded (who : Option Subject) (site : Site) (command : Command) : Type 0 where
   pub sound : is_sound command ≡ true
-  pub plain : (dir : ObjectName) → IsName dir → (told : Told) → FitsTold (dialogue_of site dir command) told → GoesPlainly (dialogue_of site dir command) told
+  pub plain : (dir : ObjectName) → IsName dir → (told : Told) → FitsTold (dialogue_for who site dir command) told → GoesPlainly (dialogue_for who site dir command) told

@@ -1,6 +1,7 @@
 pub mod Machines
 pub mod Streams
 pub mod Copies
+pub mod CheckReads
 pub mod Sims
 pub mod Talking
 pub mod Readies

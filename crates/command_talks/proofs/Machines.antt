@@ -12,8 +12,7 @@ use Rattle.mapped_streams.specs.Dialogues as streams
 use Rattle.mapped_streams.specs.States.{left, rest, IsStreaming}
 use Rattle.mapped_streams.specs.Turns.{stood_after as stream_after}
 use Rattle.mapped_streams.proofs.Turning.{IsOn, on_next}
-use Rattle.command_talks.specs.FileTalks.{stream_asks}
-use Rattle.command_talks.specs.NameTalks.{asked_at}
+use Rattle.command_talks.specs.FileTalks.{asked_at, stream_asks}
 
 module _ {S : Type 0} (asks : S → Option Op) (go : S → Option Reply → Turn S) where
   -- a machine asks, where it stands, what it said

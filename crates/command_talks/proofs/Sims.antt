@@ -1,28 +1,40 @@
 -- The machine of a command stands where its dialogue does.
-use Rattle.std.proofs.Common.{◌≡◌, lit≤, ℕ, Bool, true, false, Option, Some, None, [], refl, ap, ◌∙◌, sym, subst, arith}
+use Rattle.std.proofs.Common.{◌≡◌, lit≤, ℕ, Bool, true, false, Option, Some, None, List, [], refl, ap, ◌∙◌, sym, subst, arith}
 use Rattle.std.specs.Prelude.{is_some}
 use Rattle.uid_names.specs.Names.{ObjectName}
 use Rattle.uid_names.specs.Rooms.{IsLength, IsRoom}
+use Rattle.uid_names.specs.declared.mode.ObjKind.{ObjKind}
 use Rattle.uid_names.specs.declared.mode.ObjKind.TheVariants as kinds
+use Rattle.dir_records.specs.Directories.{directory_of, row_named}
+use Rattle.dir_records.specs.Records.{Slot}
+use Rattle.dir_records.specs.declared.row.DirRow.{DirRow}
 use Rattle.dom_history.specs.declared.op.Op.{Op}
 use Rattle.dom_history.specs.declared.op.Reply.{Reply}
 use Rattle.dom_history.specs.declared.op.Reply.TheVariants.{Fine, Size, At as MappedAt}
 use Rattle.dom_history.specs.Fitting.{Fits, is_length_reply, is_map_reply}
 use Rattle.dom_history.proofs.Fitting.{size-fits, at-fits}
 use Rattle.naming_tree.specs.declared.by_path.ByPath.{ByPath}
+use Rattle.naming_tree.specs.declared.changing.Change.TheVariants as changes
+use Rattle.naming_tree.specs.declared.purpose.Purpose.TheVariants as purposes
 use Rattle.naming_tree.specs.declared.walking.Walking.{Walking}
-use Rattle.naming_tree.specs.declared.step.Walked.{Walked}
-use Rattle.naming_tree.specs.declared.step.Walked.TheVariants.{Root, At}
 use Rattle.naming_tree.specs.declared.step.NameResult.{NameResult}
-use Rattle.naming_tree.specs.declared.step.NameResult.TheVariants.{Found, Added, Store}
+use Rattle.naming_tree.specs.declared.step.NameResult.TheVariants.{Under, Added, BadDir, Store}
+use Rattle.naming_tree.specs.declared.step.Within.{Within}
+use Rattle.naming_tree.specs.Additions.{add_at, IsText as IsLinkText}
+use Rattle.naming_tree.specs.ByPaths.{to_parent_of, by_path_after, by_path_asks}
+use Rattle.naming_tree.specs.Changing.{changing_of, changing_after, changing_asks}
 use Rattle.naming_tree.specs.Dialogues.{NameStep}
-use Rattle.naming_tree.specs.ByPaths.{add_name_of, by_path_after, by_path_asks}
 use Rattle.naming_tree.specs.Dialogues as names
-use Rattle.naming_tree.specs.NamePaths.{add_name}
+use Rattle.naming_tree.specs.ListsAt.{listing_of, listing_after, listing_asks}
+use Rattle.naming_tree.specs.NamePaths.{addition, listing_at, to_parent}
+use Rattle.naming_tree.specs.Removals.{drop_at}
+use Rattle.naming_tree.specs.Sayings.{SaysAs}
 use Rattle.dir_records.specs.Paths.{route_of}
 use Rattle.naming_tree.specs.Turns.{FitsAsked, Turn}
 use Rattle.naming_tree.specs.Walking.{walking_after, walking_asks}
-use Rattle.naming_tree.proofs.ByPathsLeft.{add_heard}
+use Rattle.naming_tree.proofs.ByPathsLeft.{parent_heard}
+use Rattle.naming_tree.proofs.ChangingsLeft.{addition_says, removal_says}
+use Rattle.naming_tree.proofs.ListsLeft.{list_at_heard}
 use Rattle.mapped_streams.specs.declared.gathered.Gathered.TheVariants.{All, Lines}
 use Rattle.mapped_streams.specs.declared.step.StreamResult.{StreamResult}
 use Rattle.mapped_streams.specs.declared.step.StreamResult.TheVariants as results
@@ -36,20 +48,30 @@ use Rattle.mapped_streams.specs.States.{left, streaming_of, IsStreaming}
 use Rattle.mapped_streams.specs.Streams.{read_all, count_lines, append, copy}
 use Rattle.mapped_streams.specs.Works.{IsText}
 use Rattle.mapped_streams.proofs.Turning.{IsOn}
-use Rattle.command_talks.specs.Dialogues.{Dialogue, Ends, Asks, asked, told, led_on, streamed, closing}
-use Rattle.command_talks.specs.FileTalks.{file_asks, file_turn, over_turn, stream_turn, stream_told, closes, copied, add_turn, begin_add, lock_turn, length_turn, map_turn, open_turn, first_outcome, closed_turn, close_turn, errand_turn, found_turn, seek_turn, opening_op}
-use Rattle.command_talks.specs.Files.{on_found, on_file, room_for, shutting, on_copied, on_added, copy_open, map_source, measure_source, copy_from}
+use Rattle.command_talks.specs.Arriving.{file_in, directory_in}
+use Rattle.command_talks.specs.Checks.{bad_list, check_for, check_of, checked_by, denied, list_name, of_bad, of_text, on_directory, on_kind, on_row, on_slots, on_text, on_verdict}
+use Rattle.command_talks.specs.Dialogues.{Dialogue, Ends, Asks, asked, told, led_on, came, streamed, closing}
+use Rattle.command_talks.specs.FileTalks.{file_asks, file_turn, over_turn, stream_turn, stream_told, named_turn, named_told, closes, copied, came_turn, read_turn, count_turn, append_turn, copy_turn, list_turn, arrived, file_sought, place_sought, add_turn, remove_turn, added_turn, fill_turn, sought_turn, fails_turn, read_stream, check_stream, check_told, verdict_turn, text_turn, kind_turn, row_turn, slots_turn, directory_turn, look_turn, checked_turn, guarded_turn, seek_told, reach_told, begin_fill, lock_turn, length_turn, map_turn, open_turn, first_outcome, closed_turn, close_turn, opening_op}
+use Rattle.command_talks.specs.Files.{on_arrival, on_file, on_place, room_for, shutting, on_copied, on_added, filling, copy_open, map_source, measure_source, copy_from, behind, fails_of, guarded}
+use Rattle.command_talks.specs.Intentions.{Intended}
 use Rattle.command_talks.specs.Sources.{Sourced, Targeted, source_of, mapped, unmapped, closers, close_op}
+use Rattle.command_talks.specs.declared.arriving.Arrival.{Arrival}
+use Rattle.command_talks.specs.declared.arriving.Arrival.TheVariants.{There, Else}
+use Rattle.command_talks.specs.declared.check.Check.{Check}
+use Rattle.command_talks.specs.declared.check.Subject.{Subject}
+use Rattle.command_talks.specs.declared.check.Verdict.{Verdict}
+use Rattle.command_talks.specs.declared.check.Verdict.TheVariants.{Passes, IsBad, Denies}
 use Rattle.command_talks.specs.declared.errand.Errand.{Errand}
+use Rattle.command_talks.specs.declared.file_talk.Pending.{Pending}
 use Rattle.command_talks.specs.declared.errand.Errand.TheVariants as errands
 use Rattle.command_talks.specs.declared.file_talk.FileTalk.{FileTalk}
-use Rattle.command_talks.specs.declared.file_talk.FileTalk.TheVariants.{Seeks, Reads, Counts, Appends, Opens, Adds, Copies, Closes}
+use Rattle.command_talks.specs.declared.file_talk.FileTalk.TheVariants.{Seeks, Reaches, LooksUp, ReadsList, Lists, Changes, Reads, Counts, Appends, Opens, Adds, Copies, Closes}
 use Rattle.command_talks.specs.declared.file_talk.FileTurn.{FileTurn}
 use Rattle.command_talks.specs.declared.file_talk.FileTurn.TheVariants.{Goes, Comes}
 use Rattle.command_talks.specs.declared.file_talk.Opening.{Opening}
 use Rattle.command_talks.specs.declared.file_talk.Opening.TheVariants.{Lock, Length, Map}
 use Rattle.command_talks.specs.declared.outcome.Outcome.{Outcome}
-use Rattle.command_talks.specs.declared.outcome.Outcome.TheVariants.{Came, Streamed}
+use Rattle.command_talks.specs.declared.outcome.Outcome.TheVariants.{Came, Streamed, Written}
 use Rattle.command_talks.proofs.Machines.{NameOn, name_begun, name_told, name_asked, stream_begun, stream_told_on, stream_asked}
 
 -- a machine of a name that asks, where what follows its result is this
@@ -66,24 +88,19 @@ pub record StreamSim (after : StreamResult → Dialogue) (m : Option Streaming) 
   pub on : IsOn m (names.Asks op next)
   pub is : d ≡ Asks op (λ reply. led_on (next reply) after)
 
--- what an errand does at its file
-abbrev pub at_file : Errand → ObjectName → Dialogue
-at_file errands.Read u = led_on (read_all u) streamed
-at_file errands.Count u = led_on (count_lines u) streamed
-at_file (errands.Append text) u = led_on (append u text) streamed
-at_file (errands.Copy target) u = copy_from target.site target.dir target.path u
-
+-- an errand whose parts are such
 abbrev pub IsErrand : Errand → Type 0
-IsErrand errands.Read = Unit {0}
-IsErrand errands.Count = Unit {0}
 IsErrand (errands.Append text) = IsText text
 IsErrand (errands.Copy target) = is_some (route_of target.path) ≡ true
+IsErrand (errands.Add what) = IsRoom what.room × IsLinkText what.kind what.text
+IsErrand (errands.Fill s) = IsMapped s.at
+IsErrand _ = Unit {0}
 
 -- what is left of a copy whose source is opened, or closed
 abbrev pub open_left : Sourced → Opening → Targeted → Dialogue
-open_left s Lock target = copy_from target.site target.dir target.path s.uid
-open_left s Length target = measure_source target.site target.dir target.path s.uid
-open_left s Map target = map_source target.site target.dir target.path s.uid s.at.length
+open_left s Lock target = copy_from target s.uid
+open_left s Length target = measure_source target s.uid
+open_left s Map target = map_source target s.uid s.at.length
 
 abbrev pub close_left : Sourced → Option Outcome → Dialogue
 close_left s None = shutting (closers s) (Streamed results.Fine)
@@ -96,12 +113,17 @@ pub record OpenSim (s : Sourced) (stage : Opening) (target : Targeted) (d : Dial
 
 -- a machine stands where a dialogue does that asks
 abbrev pub FileSim : FileTalk → Dialogue → Type 0
-FileSim (Seeks walk errand) d = IsErrand errand × NameSim walking_asks walking_after (on_file (at_file errand)) walk d
+FileSim (Seeks walk errand guard) d = IsErrand errand × NameSim walking_asks walking_after (guarded guard errand) walk d
+FileSim (Reaches m errand guard) d = IsErrand errand × NameSim by_path_asks by_path_after (guarded guard errand) m d
+FileSim (LooksUp m p) d = IsErrand p.errand × StreamSim (on_directory p.who p.check (fails_of p.errand) (behind p.errand p.come)) m d
+FileSim (ReadsList m p) d = IsErrand p.errand × StreamSim (on_text p.who p.check (fails_of p.errand) (behind p.errand p.come)) m d
+FileSim (Lists m) d = NameSim listing_asks listing_after came m d
+FileSim (Changes m) d = NameSim changing_asks changing_after came m d
 FileSim (Reads m) d = StreamSim streamed m d
 FileSim (Counts m) d = StreamSim streamed m d
 FileSim (Appends m) d = StreamSim streamed m d
 FileSim (Opens s stage target) d = OpenSim s stage target d
-FileSim (Adds s m) d = IsMapped s.at × NameSim by_path_asks by_path_after (on_added (closers s) s.at) m d
+FileSim (Adds s m) d = IsMapped s.at × NameSim changing_asks changing_after (on_added (closers s) s.at) m d
 FileSim (Copies s m) d = StreamSim (on_copied (closers s)) m d
 FileSim (Closes s outcome) d = d ≡ close_left s outcome
 
@@ -124,6 +146,24 @@ close_asks s outcome = close_asks_if s.fresh s outcome
 closes_on : (s : Sourced) (outcome : Option Outcome) → TurnOn (Some (closes s outcome)) (close_left s outcome)
 closes_on s outcome = (close_asks s outcome, refl)
 
+-- a machine of a name, by what its result leads to
+module _ {S : Type 0} (asks : S → Option Op) (go : S → Option Reply → Turn S) (make : Option S → FileTalk) (over : NameResult → Option FileTurn) (further : NameResult → Dialogue)
+    (same : (m : Option S) (d : Dialogue) → NameSim asks go further m d → FileSim (make m) d) (ends : (result : NameResult) → TurnOn (over result) (further result)) where
+  name_goes : (left : names.Dialogue) (step : Option NameStep) (m : Option S) → step ≡ Some (names.says left) → NameOn asks go m left → TurnOn (named_turn make over step m) (led_on left further)
+  name_goes (names.Ends result) step m e on = subst (λ (x : Option NameStep). TurnOn (named_turn make over x m) (further result)) (sym e) (ends result)
+  name_goes (names.Asks op next) step m e on =
+      let d = Asks op (λ reply. led_on (next reply) further) in
+      subst (λ (x : Option NameStep). TurnOn (named_turn make over x m) d) (sym e) (refl, same m d (record { op = op; next = next; on = on; is = refl }))
+
+  pub name_starts : (made : Option S) (whole : names.Dialogue) → SaysAs asks go made whole → TurnOn (named_told asks go make over made None) (led_on whole further)
+  name_starts made whole tells = let begun = name_begun asks go made whole tells in name_goes whole _ _ begun.0 begun.1
+
+  name_next : (m : Option S) (d : Dialogue) (reply : Reply) → NameSim asks go further m d → FitsAsked (asked d) (Some reply) → TurnOn (named_told asks go make over m (Some reply)) (told d reply)
+  name_next m d reply h fits =
+      let fitting : Fits h.op reply = subst (λ (x : Dialogue). FitsAsked (asked x) (Some reply)) h.is fits in
+      let next = name_told asks go m (names.Asks h.op h.next) reply h.on fitting in
+      subst (λ (x : Dialogue). TurnOn (named_told asks go make over m (Some reply)) (told x reply)) (sym h.is) (name_goes (h.next reply) _ _ next.0 next.1)
+
 -- a stream, by what its result leads to
 module _ (further : StreamResult → Dialogue) (make : Option Streaming → FileTalk) (same : (m : Option Streaming) (d : Dialogue) → StreamSim further m d → FileSim (make m) d)
     (over : (m : Option Streaming) (result : StreamResult) → TurnOn (Some (over_turn (make m) result)) (further result)) where
@@ -142,6 +182,28 @@ module _ (further : StreamResult → Dialogue) (make : Option Streaming → File
       let next = stream_told_on m (names.Asks h.op h.next) reply h.on fitting in
       subst (λ (x : Dialogue). TurnOn (stream_told make m (Some reply)) (told x reply)) (sym h.is) (stream_goes (h.next reply) _ _ next.0 next.1)
 
+-- a stream of a check, by what its result leads to
+module _ (further : StreamResult → Dialogue) (make : Option Streaming → FileTalk) (over : StreamResult → Option FileTurn) (same : (m : Option Streaming) (d : Dialogue) → StreamSim further m d → FileSim (make m) d)
+    (ends : (result : StreamResult) → TurnOn (over result) (further result)) where
+  check_goes : (left : streams.Dialogue) (step : Option StreamStep) (m : Option Streaming) → step ≡ Some (names.says left) → IsOn m left → TurnOn (check_stream make over step m) (led_on left further)
+  check_goes (names.Ends result) step m e on = subst (λ (x : Option StreamStep). TurnOn (check_stream make over x m) (further result)) (sym e) (ends result)
+  check_goes (names.Asks op next) step m e on =
+      let d = Asks op (λ reply. led_on (next reply) further) in
+      subst (λ (x : Option StreamStep). TurnOn (check_stream make over x m) d) (sym e) (refl, same m d (record { op = op; next = next; on = on; is = refl }))
+
+  check_next : (m : Option Streaming) (d : Dialogue) (reply : Reply) → StreamSim further m d → FitsAsked (asked d) (Some reply) → TurnOn (check_told make over m (Some reply)) (told d reply)
+  check_next m d reply h fits =
+      let fitting : Fits h.op reply = subst (λ (x : Dialogue). FitsAsked (asked x) (Some reply)) h.is fits in
+      let next = stream_told_on m (names.Asks h.op h.next) reply h.on fitting in
+      subst (λ (x : Dialogue). TurnOn (check_told make over m (Some reply)) (told x reply)) (sym h.is) (check_goes (h.next reply) _ _ next.0 next.1)
+
+  -- an object that is read whole for one
+  check_starts : (u : ObjectName) → TurnOn (check_told make over (read_stream u) None) (led_on (read_all u) further)
+  check_starts u =
+      let s = streaming_of u (works.Read 0 (All [])) in
+      let begun = stream_begun s (record { work = tt; stage = tt }) in
+      check_goes (left s) _ _ begun.0 begun.1
+
 -- behind a copy of bytes the source is closed
 copied_on : (s : Sourced) (result : StreamResult) → TurnOn (Some (closes s (copied result))) (on_copied (closers s) result)
 copied_on s results.Fine = closes_on s None
@@ -151,32 +213,20 @@ copy_starts : (s : Sourced) (v : ObjectName) → IsMapped s.at → TurnOn (strea
 copy_starts s v m = stream_starts (on_copied (closers s)) (λ m. Copies s m) (λ m d same. same) (λ m result. copied_on s result) (streaming_of v (works.Copy s.at 0 None)) (record { work = (m, tt); stage = tt })
 
 -- the target of a copy
-added_on : (s : Sourced) (m : Option ByPath) (result : NameResult) → IsMapped s.at → TurnOn (add_turn s (Some (names.says (names.Ends result))) m) (on_added (closers s) s.at result)
-added_on s m (Added v) at = copy_starts s v at
-added_on s m result at = closes_on s (Some (Came result))
-
-add_goes : (s : Sourced) (left : names.Dialogue) (step : Option NameStep) (m : Option ByPath) → step ≡ Some (names.says left) → IsMapped s.at → NameOn by_path_asks by_path_after m left → TurnOn (add_turn s step m) (led_on left (on_added (closers s) s.at))
-add_goes s (names.Ends result) step m e at on = subst (λ (x : Option NameStep). TurnOn (add_turn s x m) (on_added (closers s) s.at result)) (sym e) (added_on s m result at)
-add_goes s (names.Asks op next) step m e at on =
-    let d = Asks op (λ reply. led_on (next reply) (on_added (closers s) s.at)) in
-    subst (λ (x : Option NameStep). TurnOn (add_turn s x m) d) (sym e) (refl, (at, record { op = op; next = next; on = on; is = refl }))
-
-add_next : (s : Sourced) (m : Option ByPath) (d : Dialogue) (reply : Reply) → FileSim (Adds s m) d → FitsAsked (asked d) (Some reply) → TurnOn (file_turn (Adds s m) (Some reply)) (told d reply)
-add_next s m d reply h fits =
-    let fitting : Fits h.1.op reply = subst (λ (x : Dialogue). FitsAsked (asked x) (Some reply)) h.1.is fits in
-    let next = name_told by_path_asks by_path_after m (names.Asks h.1.op h.1.next) reply h.1.on fitting in
-    subst (λ (x : Dialogue). TurnOn (file_turn (Adds s m) (Some reply)) (told x reply)) (sym h.1.is) (add_goes s (h.1.next reply) _ _ next.0 h.0 next.1)
+added_on : (s : Sourced) (result : NameResult) → IsMapped s.at → TurnOn (added_turn s result) (on_added (closers s) s.at result)
+added_on s (Added v) at = copy_starts s v at
+added_on s result at = closes_on s (Some (Came result))
 
 -- the room of a copy is one
 pub room_is_one : (n : ℕ) → IsLength n → IsRoom (room_for n)
 room_is_one n long = (omega arith, omega (arith, long))
 
-add_starts : (s : Sourced) (target : Targeted) → is_some (route_of target.path) ≡ true → IsMapped s.at → TurnOn (begin_add s target) (copy_open target.site target.dir target.path (closers s) s.at)
-add_starts s target path at =
-    let room = room_for s.at.length in
-    let tells = add_heard target.site target.path target.dir kinds.File room None path (room_is_one s.at.length at.long) tt in
-    let begun = name_begun by_path_asks by_path_after (add_name_of target.site (route_of target.path) target.dir kinds.File room None) (add_name target.site target.path target.dir kinds.File room None) tells in
-    add_goes s (add_name target.site target.path target.dir kinds.File room None) _ _ begun.0 at begun.1
+fill_on : (s : Sourced) (result : NameResult) → IsMapped s.at → TurnOn (fill_turn s result) (filling s result)
+fill_on s (Under p) at =
+    let a = addition kinds.File (room_for s.at.length) None p.name in
+    name_starts changing_asks changing_after (λ m. Adds s m) (added_turn s) (on_added (closers s) s.at) (λ m d sim. (at, sim)) (λ result. added_on s result at)
+    (Some (changing_of p.dir (changes.Add a))) (add_at p.dir a) (addition_says p.dir a (record { room = room_is_one s.at.length at.long; text = tt }))
+fill_on s result at = closes_on s (Some (Came result))
 
 -- the source is opened
 lock_on : (s : Sourced) (target : Targeted) (reply : Reply) → is_some (route_of target.path) ≡ true → IsLength s.at.length → TurnOn (lock_turn s target reply) (told (open_left s Lock target) reply)
@@ -186,21 +236,6 @@ lock_on s target reply path long = refl
 length_on : (s : Sourced) (target : Targeted) (reply : Reply) → is_some (route_of target.path) ≡ true → is_length_reply reply ≡ true → TurnOn (length_turn s target reply) (told (open_left s Length target) reply)
 length_on s target (Size n) path fits = (refl, record { path = path; long = size-fits n fits; is = refl })
 length_on s target reply path fits = closes_on (source_of s.uid) (Some (Came (Store reply)))
-
-map_on : (s : Sourced) (target : Targeted) (reply : Reply) → is_some (route_of target.path) ≡ true → IsLength s.at.length → is_map_reply reply ≡ true → TurnOn (map_turn s target reply) (told (open_left s Map target) reply)
-map_on s target (MappedAt address fresh) path long fits = let start = at-fits address fresh fits in add_starts (mapped s address fresh) target path (record { long = long; at = start.0; below = start.1 })
-map_on s target reply path long fits = closes_on (source_of s.uid) (Some (Came (Store reply)))
-
-open_on : (s : Sourced) (stage : Opening) (target : Targeted) (reply : Reply) → is_some (route_of target.path) ≡ true → IsLength s.at.length → FitsAsked (asked (open_left s stage target)) (Some reply)
-    → TurnOn (open_turn s stage target (Some reply)) (told (open_left s stage target) reply)
-open_on s Lock target reply path long fits = lock_on s target reply path long
-open_on s Length target reply path long fits = length_on s target reply path fits
-open_on s Map target reply path long fits = map_on s target reply path long fits
-
-open_next : (s : Sourced) (stage : Opening) (target : Targeted) (d : Dialogue) (reply : Reply) → OpenSim s stage target d → FitsAsked (asked d) (Some reply) → TurnOn (open_turn s stage target (Some reply)) (told d reply)
-open_next s stage target d reply h fits =
-    subst (λ (x : Dialogue). TurnOn (open_turn s stage target (Some reply)) (told x reply)) (sym h.is)
-    (open_on s stage target reply h.path h.long (subst (λ (x : Dialogue). FitsAsked (asked x) (Some reply)) h.is fits))
 
 -- and closed
 closed_on : (fresh : Bool) (s : Sourced) (outcome : Option Outcome) (reply : Reply)
@@ -215,45 +250,157 @@ closed_on false s (Some outcome) reply = refl
 close_next : (s : Sourced) (outcome : Option Outcome) (d : Dialogue) (reply : Reply) → d ≡ close_left s outcome → TurnOn (close_turn s outcome (Some reply)) (told d reply)
 close_next s outcome d reply is = subst (λ (x : Dialogue). TurnOn (close_turn s outcome (Some reply)) (told x reply)) (sym is) (closed_on s.fresh s outcome reply)
 
--- an errand at its file
-errand_on : (errand : Errand) (u : ObjectName) → IsErrand errand → TurnOn (errand_turn errand u) (at_file errand u)
-errand_on errands.Read u h = stream_starts streamed (λ m. Reads m) (λ m d same. same) (λ m result. refl) (streaming_of u (works.Read 0 (All []))) (record { work = tt; stage = tt })
-errand_on errands.Count u h = stream_starts streamed (λ m. Counts m) (λ m d same. same) (λ m result. refl) (streaming_of u (works.Read 0 (Lines 0))) (record { work = omega arith; stage = tt })
-errand_on (errands.Append text) u h = stream_starts streamed (λ m. Appends m) (λ m d same. same) (λ m result. refl) (streaming_of u (works.Append text (Some Before))) (record { work = h; stage = tt })
-errand_on (errands.Copy target) u h = (refl, record { path = h; long = lit≤ tt; is = refl })
+-- a walk has led to an object such as is asked for, or to something else
+arrived_on : (begin : ObjectName → Option FileTurn) (further : ObjectName → Dialogue) → ((u : ObjectName) → TurnOn (begin u) (further u)) → (found : Arrival) → TurnOn (arrived begin found) (on_arrival further found)
+arrived_on begin further each (There u) = each u
+arrived_on begin further each (Else outcome) = refl
 
-found_on : (errand : Errand) (at : Walked) → IsErrand errand → TurnOn (found_turn errand at) (on_found (at_file errand) at)
-found_on errand Root h = refl
-found_on errand (At u kinds.File within) h = errand_on errand u h
-found_on errand (At u kinds.Directory within) h = refl
-found_on errand (At u kinds.Link within) h = refl
-found_on errand (At u kinds.Mail within) h = refl
+file_on : (begin : ObjectName → Option FileTurn) (further : ObjectName → Dialogue) → ((u : ObjectName) → TurnOn (begin u) (further u)) → (result : NameResult) → TurnOn (file_sought begin result) (on_file further result)
+file_on begin further each result = arrived_on begin further each (file_in result)
 
-sought_on : (errand : Errand) (walk : Option Walking) (result : NameResult) → IsErrand errand → TurnOn (seek_turn errand (Some (names.says (names.Ends result))) walk) (on_file (at_file errand) result)
-sought_on errand walk (Found at) h = found_on errand at h
-sought_on errand walk result h = refl
+-- or to a directory of a name
+place_on : (begin : Within → Option FileTurn) (further : Within → Dialogue) → ((p : Within) → TurnOn (begin p) (further p)) → (result : NameResult) → TurnOn (place_sought begin result) (on_place further result)
+place_on begin further each (Under p) = each p
+place_on begin further each result = refl
 
-pub seek_goes : (errand : Errand) (left : names.Dialogue) (step : Option NameStep) (walk : Option Walking) → step ≡ Some (names.says left) → IsErrand errand → NameOn walking_asks walking_after walk left
-    → TurnOn (seek_turn errand step walk) (led_on left (on_file (at_file errand)))
-seek_goes errand (names.Ends result) step walk e h on = subst (λ (x : Option NameStep). TurnOn (seek_turn errand x walk) (on_file (at_file errand) result)) (sym e) (sought_on errand walk result h)
-seek_goes errand (names.Asks op next) step walk e h on =
-    let d = Asks op (λ reply. led_on (next reply) (on_file (at_file errand))) in
-    subst (λ (x : Option NameStep). TurnOn (seek_turn errand x walk) d) (sym e) (refl, (h, record { op = op; next = next; on = on; is = refl }))
+-- what is done there begins
+reads_on : (u : ObjectName) → TurnOn (read_turn u) (led_on (read_all u) streamed)
+reads_on u = stream_starts streamed (λ m. Reads m) (λ m d same. same) (λ m result. refl) (streaming_of u (works.Read 0 (All []))) (record { work = tt; stage = tt })
 
-seek_next : (walk : Option Walking) (errand : Errand) (d : Dialogue) (reply : Reply) → FileSim (Seeks walk errand) d → FitsAsked (asked d) (Some reply) → TurnOn (file_turn (Seeks walk errand) (Some reply)) (told d reply)
-seek_next walk errand d reply h fits =
-    let fitting : Fits h.1.op reply = subst (λ (x : Dialogue). FitsAsked (asked x) (Some reply)) h.1.is fits in
-    let next = name_told walking_asks walking_after walk (names.Asks h.1.op h.1.next) reply h.1.on fitting in
-    subst (λ (x : Dialogue). TurnOn (file_turn (Seeks walk errand) (Some reply)) (told x reply)) (sym h.1.is) (seek_goes errand (h.1.next reply) _ _ next.0 h.0 next.1)
+counts_on : (u : ObjectName) → TurnOn (count_turn u) (led_on (count_lines u) streamed)
+counts_on u = stream_starts streamed (λ m. Counts m) (λ m d same. same) (λ m result. refl) (streaming_of u (works.Read 0 (Lines 0))) (record { work = omega arith; stage = tt })
+
+appends_on : (text : List ℕ) → IsText text → (u : ObjectName) → TurnOn (append_turn text u) (led_on (append u text) streamed)
+appends_on text h u = stream_starts streamed (λ m. Appends m) (λ m d same. same) (λ m result. refl) (streaming_of u (works.Append text (Some Before))) (record { work = h; stage = tt })
+
+copies_on : (target : Targeted) → is_some (route_of target.path) ≡ true → (u : ObjectName) → TurnOn (copy_turn target u) (copy_from target u)
+copies_on target h u = (refl, record { path = h; long = lit≤ tt; is = refl })
+
+lists_on : (u : ObjectName) → TurnOn (list_turn u) (led_on (listing_at u) came)
+lists_on u = name_starts listing_asks listing_after (λ m. Lists m) came_turn came (λ m d sim. sim) (λ result. refl) (Some (listing_of u)) (listing_at u) (list_at_heard u)
+
+add_on : (what : Intended) → IsRoom what.room → IsLinkText what.kind what.text → (p : Within) → TurnOn (add_turn what p) (led_on (add_at p.dir (addition what.kind what.room what.text p.name)) came)
+add_on what room text p =
+    let a = addition what.kind what.room what.text p.name in
+    name_starts changing_asks changing_after (λ m. Changes m) came_turn came (λ m d sim. sim) (λ result. refl) (Some (changing_of p.dir (changes.Add a))) (add_at p.dir a)
+    (addition_says p.dir a (record { room = room; text = text }))
+
+remove_on : (p : Within) → TurnOn (remove_turn p) (led_on (drop_at p.dir p.name) came)
+remove_on p = name_starts changing_asks changing_after (λ m. Changes m) came_turn came (λ m d sim. sim) (λ result. refl) (Some (changing_of p.dir (changes.Remove p.name))) (drop_at p.dir p.name) (removal_says p.dir p.name)
+
+-- the way on from each walk
+sought_on : (errand : Errand) → IsErrand errand → (result : NameResult) → TurnOn (sought_turn errand result) (behind errand result)
+sought_on errands.Bind h result = refl
+sought_on errands.Enter h result = refl
+sought_on errands.List h result = arrived_on list_turn (λ u. led_on (listing_at u) came) lists_on (directory_in result)
+sought_on errands.Read h result = file_on read_turn (λ u. led_on (read_all u) streamed) reads_on result
+sought_on errands.Count h result = file_on count_turn (λ u. led_on (count_lines u) streamed) counts_on result
+sought_on (errands.Append text) h result = file_on (append_turn text) (λ u. led_on (append u text) streamed) (appends_on text h) result
+sought_on (errands.Copy target) h result = file_on (copy_turn target) (copy_from target) (copies_on target h) result
+sought_on (errands.Add what) h result = place_on (add_turn what) (λ p. led_on (add_at p.dir (addition what.kind what.room what.text p.name)) came) (add_on what h.0 h.1) result
+sought_on errands.Remove h result = place_on remove_turn (λ p. led_on (drop_at p.dir p.name) came) remove_on result
+sought_on (errands.Fill s) h result = fill_on s result h
+
+-- a check that stops an errand
+fails_on : (errand : Errand) (outcome : Outcome) → TurnOn (fails_turn errand outcome) (fails_of errand outcome)
+fails_on errands.Bind outcome = refl
+fails_on errands.Enter outcome = refl
+fails_on errands.List outcome = refl
+fails_on errands.Read outcome = refl
+fails_on errands.Count outcome = refl
+fails_on (errands.Append text) outcome = refl
+fails_on (errands.Copy target) outcome = refl
+fails_on (errands.Add what) outcome = refl
+fails_on errands.Remove outcome = refl
+fails_on (errands.Fill s) outcome = closes_on s (Some outcome)
+
+module _ (p : Pending) (h : IsErrand p.errand) where
+  verdict_on : (verdict : Verdict) → TurnOn (verdict_turn p verdict) (on_verdict (fails_of p.errand) (behind p.errand p.come) verdict)
+  verdict_on Passes = sought_on p.errand h p.come
+  verdict_on IsBad = fails_on p.errand (Written bad_list)
+  verdict_on (Denies k) = fails_on p.errand (Written (denied k))
+
+  text_on : (result : StreamResult) → TurnOn (text_turn p result) (on_text p.who p.check (fails_of p.errand) (behind p.errand p.come) result)
+  text_on (results.Bytes text) = verdict_on (of_text p.who p.check text)
+  text_on (results.Store reply) = fails_on p.errand (Came (Store reply))
+  text_on result = fails_on p.errand (Streamed result)
+
+  list_on : (kind : ObjKind) (u : ObjectName) → TurnOn (kind_turn p kind u) (on_kind p.who p.check (fails_of p.errand) (behind p.errand p.come) kind u)
+  list_on kinds.File u = check_starts (on_text p.who p.check (fails_of p.errand) (behind p.errand p.come)) (λ m. ReadsList m p) (text_turn p) (λ m d sim. (h, sim)) text_on u
+  list_on kind u = verdict_on (of_bad p.check.lenient)
+
+  row_on : (row : Option DirRow) → TurnOn (row_turn p row) (on_row p.who p.check (fails_of p.errand) (behind p.errand p.come) row)
+  row_on None = sought_on p.errand h p.come
+  row_on (Some row) = list_on row.kind row.uid
+
+  slots_on : (slots : Option (List Slot)) → TurnOn (slots_turn p slots) (on_slots p.who p.check (fails_of p.errand) (behind p.errand p.come) slots)
+  slots_on None = fails_on p.errand (Came BadDir)
+  slots_on (Some slots) = row_on (row_named list_name slots)
+
+  directory_on : (result : StreamResult) → TurnOn (directory_turn p result) (on_directory p.who p.check (fails_of p.errand) (behind p.errand p.come) result)
+  directory_on (results.Bytes bytes) = slots_on (directory_of bytes)
+  directory_on (results.Store reply) = fails_on p.errand (Came (Store reply))
+  directory_on result = fails_on p.errand (Streamed result)
+
+  look_on : TurnOn (look_turn p) (led_on (read_all p.check.dir) (on_directory p.who p.check (fails_of p.errand) (behind p.errand p.come)))
+  look_on = check_starts (on_directory p.who p.check (fails_of p.errand) (behind p.errand p.come)) (λ m. LooksUp m p) (directory_turn p) (λ m d sim. (h, sim)) directory_on p.check.dir
+
+-- the check of an errand, and the errand
+checked_on : (errand : Errand) → IsErrand errand → (result : NameResult) (asked : Option (Subject × Check)) → TurnOn (checked_turn asked errand result) (checked_by asked (fails_of errand) (behind errand result))
+checked_on errand h result None = sought_on errand h result
+checked_on errand h result (Some (who, check)) = look_on (record { who = who; check = check; errand = errand; come = result }) h
+
+guarded_on : (guard : Option Subject) (errand : Errand) → IsErrand errand → (result : NameResult) → TurnOn (guarded_turn guard errand result) (guarded guard errand result)
+guarded_on guard errand h result = checked_on errand h result (check_for guard (check_of errand result))
+
+-- a walk begins
+pub seek_starts : (errand : Errand) (guard : Option Subject) (made : Option Walking) (whole : names.Dialogue) → IsErrand errand → SaysAs walking_asks walking_after made whole → TurnOn (seek_told errand guard made None) (led_on whole (guarded guard errand))
+seek_starts errand guard made whole h tells =
+    name_starts walking_asks walking_after (λ m. Seeks m errand guard) (guarded_turn guard errand) (guarded guard errand) (λ m d sim. (h, sim)) (guarded_on guard errand h) made whole tells
+
+pub reach_starts : (errand : Errand) (guard : Option Subject) (made : Option ByPath) (whole : names.Dialogue) → IsErrand errand → SaysAs by_path_asks by_path_after made whole → TurnOn (reach_told errand guard made None) (led_on whole (guarded guard errand))
+reach_starts errand guard made whole h tells =
+    name_starts by_path_asks by_path_after (λ m. Reaches m errand guard) (guarded_turn guard errand) (guarded guard errand) (λ m d sim. (h, sim)) (guarded_on guard errand h) made whole tells
+
+-- the source of a copy is open
+fill_starts : (s : Sourced) (target : Targeted) → is_some (route_of target.path) ≡ true → IsMapped s.at → TurnOn (begin_fill s target) (copy_open target s)
+fill_starts s target path at =
+    reach_starts (errands.Fill s) target.guard (to_parent_of target.site (route_of target.path) target.dir purposes.Adds) (to_parent target.site target.path target.dir purposes.Adds) at
+    (parent_heard target.site target.path target.dir purposes.Adds path)
+
+map_on : (s : Sourced) (target : Targeted) (reply : Reply) → is_some (route_of target.path) ≡ true → IsLength s.at.length → is_map_reply reply ≡ true → TurnOn (map_turn s target reply) (told (open_left s Map target) reply)
+map_on s target (MappedAt address fresh) path long fits = let start = at-fits address fresh fits in fill_starts (mapped s address fresh) target path (record { long = long; at = start.0; below = start.1 })
+map_on s target reply path long fits = closes_on (source_of s.uid) (Some (Came (Store reply)))
+
+open_on : (s : Sourced) (stage : Opening) (target : Targeted) (reply : Reply) → is_some (route_of target.path) ≡ true → IsLength s.at.length → FitsAsked (asked (open_left s stage target)) (Some reply)
+    → TurnOn (open_turn s stage target (Some reply)) (told (open_left s stage target) reply)
+open_on s Lock target reply path long fits = lock_on s target reply path long
+open_on s Length target reply path long fits = length_on s target reply path fits
+open_on s Map target reply path long fits = map_on s target reply path long fits
+
+open_next : (s : Sourced) (stage : Opening) (target : Targeted) (d : Dialogue) (reply : Reply) → OpenSim s stage target d → FitsAsked (asked d) (Some reply) → TurnOn (open_turn s stage target (Some reply)) (told d reply)
+open_next s stage target d reply h fits =
+    subst (λ (x : Dialogue). TurnOn (open_turn s stage target (Some reply)) (told x reply)) (sym h.is)
+    (open_on s stage target reply h.path h.long (subst (λ (x : Dialogue). FitsAsked (asked x) (Some reply)) h.is fits))
 
 -- a machine that is told what fits goes on as its dialogue does
 pub file_next : (talk : FileTalk) (d : Dialogue) (reply : Reply) → FileSim talk d → FitsAsked (asked d) (Some reply) → TurnOn (file_turn talk (Some reply)) (told d reply)
-file_next (Seeks walk errand) d reply h fits = seek_next walk errand d reply h fits
+file_next (Seeks walk errand guard) d reply h fits =
+    name_next walking_asks walking_after (λ m. Seeks m errand guard) (guarded_turn guard errand) (guarded guard errand) (λ m d sim. (h.0, sim)) (guarded_on guard errand h.0) walk d reply h.1 fits
+file_next (Reaches m errand guard) d reply h fits =
+    name_next by_path_asks by_path_after (λ m. Reaches m errand guard) (guarded_turn guard errand) (guarded guard errand) (λ m d sim. (h.0, sim)) (guarded_on guard errand h.0) m d reply h.1 fits
+file_next (LooksUp m p) d reply h fits =
+    check_next (on_directory p.who p.check (fails_of p.errand) (behind p.errand p.come)) (λ m. LooksUp m p) (directory_turn p) (λ m d sim. (h.0, sim)) (directory_on p h.0) m d reply h.1 fits
+file_next (ReadsList m p) d reply h fits =
+    check_next (on_text p.who p.check (fails_of p.errand) (behind p.errand p.come)) (λ m. ReadsList m p) (text_turn p) (λ m d sim. (h.0, sim)) (text_on p h.0) m d reply h.1 fits
+file_next (Lists m) d reply h fits = name_next listing_asks listing_after (λ m. Lists m) came_turn came (λ m d sim. sim) (λ result. refl) m d reply h fits
+file_next (Changes m) d reply h fits = name_next changing_asks changing_after (λ m. Changes m) came_turn came (λ m d sim. sim) (λ result. refl) m d reply h fits
 file_next (Reads m) d reply h fits = stream_next streamed (λ m. Reads m) (λ m d same. same) (λ m result. refl) m d reply h fits
 file_next (Counts m) d reply h fits = stream_next streamed (λ m. Counts m) (λ m d same. same) (λ m result. refl) m d reply h fits
 file_next (Appends m) d reply h fits = stream_next streamed (λ m. Appends m) (λ m d same. same) (λ m result. refl) m d reply h fits
 file_next (Opens s stage target) d reply h fits = open_next s stage target d reply h fits
-file_next (Adds s m) d reply h fits = add_next s m d reply h fits
+file_next (Adds s m) d reply h fits =
+    name_next changing_asks changing_after (λ m. Adds s m) (added_turn s) (on_added (closers s) s.at) (λ m d sim. (h.0, sim)) (λ result. added_on s result h.0) m d reply h.1 fits
 file_next (Copies s m) d reply h fits = stream_next (on_copied (closers s)) (λ m. Copies s m) (λ m d same. same) (λ m result. copied_on s result) m d reply h fits
 file_next (Closes s outcome) d reply h fits = close_next s outcome d reply h
 
@@ -264,11 +411,16 @@ opening_asks s Length target = refl
 opening_asks s Map target = refl
 
 pub file_asked : (talk : FileTalk) (d : Dialogue) → FileSim talk d → file_asks talk ≡ asked d
-file_asked (Seeks walk errand) d h = name_asked walking_asks walking_after walk (names.Asks h.1.op h.1.next) h.1.op h.1.on refl ∙ ap asked (sym h.1.is)
+file_asked (Seeks walk errand guard) d h = name_asked walking_asks walking_after walk (names.Asks h.1.op h.1.next) h.1.op h.1.on refl ∙ ap asked (sym h.1.is)
+file_asked (Reaches m errand guard) d h = name_asked by_path_asks by_path_after m (names.Asks h.1.op h.1.next) h.1.op h.1.on refl ∙ ap asked (sym h.1.is)
+file_asked (LooksUp m p) d h = stream_asked m h.1.op h.1.next h.1.on ∙ ap asked (sym h.1.is)
+file_asked (ReadsList m p) d h = stream_asked m h.1.op h.1.next h.1.on ∙ ap asked (sym h.1.is)
+file_asked (Lists m) d h = name_asked listing_asks listing_after m (names.Asks h.op h.next) h.op h.on refl ∙ ap asked (sym h.is)
+file_asked (Changes m) d h = name_asked changing_asks changing_after m (names.Asks h.op h.next) h.op h.on refl ∙ ap asked (sym h.is)
 file_asked (Reads m) d h = stream_asked m h.op h.next h.on ∙ ap asked (sym h.is)
 file_asked (Counts m) d h = stream_asked m h.op h.next h.on ∙ ap asked (sym h.is)
 file_asked (Appends m) d h = stream_asked m h.op h.next h.on ∙ ap asked (sym h.is)
 file_asked (Opens s stage target) d h = opening_asks s stage target ∙ ap asked (sym h.is)
-file_asked (Adds s m) d h = name_asked by_path_asks by_path_after m (names.Asks h.1.op h.1.next) h.1.op h.1.on refl ∙ ap asked (sym h.1.is)
+file_asked (Adds s m) d h = name_asked changing_asks changing_after m (names.Asks h.1.op h.1.next) h.1.op h.1.on refl ∙ ap asked (sym h.1.is)
 file_asked (Copies s m) d h = stream_asked m h.op h.next h.on ∙ ap asked (sym h.is)
 file_asked (Closes s outcome) d h = sym (ap asked h ∙ close_asks s outcome)

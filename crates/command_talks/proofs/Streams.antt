@@ -15,7 +15,7 @@ left_asks : (d : Dialogue) (op : Op) → Some (Do op) ≡ Some (says d) → op_l
 left_asks (Ends result) op e = cc
 left_asks (Asks other further) op e = let same : other ≡ op = cc in ap Some same
 
-stream_asking : (r : Option Dialogue) (last : Option Reply) (op : Op) → Some (Do op) ≡ said_to r last → op_left (left_after r last) ≡ Some op
+pub stream_asking : (r : Option Dialogue) (last : Option Reply) (op : Op) → Some (Do op) ≡ said_to r last → op_left (left_after r last) ≡ Some op
 stream_asking None last op says = cc
 stream_asking (Some d) last op says = left_asks (told_last d last) op says
 

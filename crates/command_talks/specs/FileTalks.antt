@@ -1,23 +1,32 @@
--- The machines that have the dialogues of files, as a shell drives them.
-use Rattle.std.specs.Prelude.{Bool, true, false, Option, Some, None, [], IsSome}
+-- The machines that have the dialogues of commands, as a shell drives them.
+use Rattle.std.specs.Prelude.{Bool, true, false, Option, Some, None, List, ℕ, [], IsSome}
 use Rattle.uid_names.specs.Names.{ObjectName}
 use Rattle.uid_names.specs.declared.mode.Mode.TheVariants as modes
+use Rattle.uid_names.specs.declared.mode.ObjKind.{ObjKind}
 use Rattle.uid_names.specs.declared.mode.ObjKind.TheVariants as kinds
+use Rattle.dir_records.specs.Directories.{directory_of, row_named}
+use Rattle.dir_records.specs.Records.{Slot}
+use Rattle.dir_records.specs.declared.row.DirRow.{DirRow}
 use Rattle.dom_history.specs.declared.op.Op.{Op}
 use Rattle.dom_history.specs.declared.op.Op.TheVariants as ops
 use Rattle.dom_history.specs.declared.op.Reply.{Reply}
 use Rattle.dom_history.specs.declared.op.Reply.TheVariants.{Fine, Size, At as MappedAt}
 use Rattle.dom_history.specs.Fitting.{Fits}
+use Rattle.naming_tree.specs.declared.changing.Change.TheVariants as changes
 use Rattle.naming_tree.specs.declared.by_path.ByPath.{ByPath}
+use Rattle.naming_tree.specs.declared.purpose.Purpose.TheVariants as purposes
 use Rattle.naming_tree.specs.declared.walking.Walking.{Walking}
-use Rattle.naming_tree.specs.declared.step.Walked.{Walked}
-use Rattle.naming_tree.specs.declared.step.Walked.TheVariants.{Root, At}
-use Rattle.naming_tree.specs.declared.step.NameResult.TheVariants.{Found, Added, IsDir, Store}
+use Rattle.naming_tree.specs.declared.step.Within.{Within}
+use Rattle.naming_tree.specs.declared.step.NameResult.{NameResult}
+use Rattle.naming_tree.specs.declared.step.NameResult.TheVariants.{Under, Added, BadDir, Store}
 use Rattle.naming_tree.specs.Dialogues.{NameStep}
 use Rattle.naming_tree.specs.declared.step.Step.TheVariants as steps
-use Rattle.naming_tree.specs.ByPaths.{add_name_of, by_path_after, by_path_asks}
+use Rattle.naming_tree.specs.ByPaths.{to_parent_of, by_path_after, by_path_asks}
+use Rattle.naming_tree.specs.Changing.{changing_of, changing_after, changing_asks}
+use Rattle.naming_tree.specs.ListsAt.{listing_of, listing_after, listing_asks}
+use Rattle.naming_tree.specs.NamePaths.{addition}
 use Rattle.dir_records.specs.Paths.{route_of}
-use Rattle.naming_tree.specs.Turns.{FitsStood, stood_after, stood_says}
+use Rattle.naming_tree.specs.Turns.{Turn, FitsStood, stood_after, stood_says}
 use Rattle.naming_tree.specs.Walking.{walking_after, walking_asks}
 use Rattle.mapped_streams.specs.declared.gathered.Gathered.TheVariants.{All, Lines}
 use Rattle.mapped_streams.specs.declared.step.StreamResult.{StreamResult}
@@ -30,19 +39,33 @@ use Rattle.naming_tree.specs.Dialogues.{asked}
 use Rattle.mapped_streams.specs.Dialogues.{Dialogue, MayHear, said_to}
 use Rattle.mapped_streams.specs.States.{rest, streaming_of}
 use Rattle.mapped_streams.specs.Turns.{stood_after as stream_after}
-use Rattle.command_talks.specs.Files.{not_a_file, room_for}
-use Rattle.command_talks.specs.NameTalks.{asked_at}
+use Rattle.command_talks.specs.Arriving.{file_in, directory_in}
+use Rattle.command_talks.specs.Checks.{bad_list, check_for, check_of, denied, list_name, of_bad, of_text}
+use Rattle.command_talks.specs.Files.{room_for}
+use Rattle.command_talks.specs.Intentions.{Intended}
 use Rattle.command_talks.specs.Sources.{Sourced, Targeted, source_of, measured, mapped, unmapped, close_op}
+use Rattle.command_talks.specs.declared.arriving.Arrival.{Arrival}
+use Rattle.command_talks.specs.declared.arriving.Arrival.TheVariants.{There, Else}
+use Rattle.command_talks.specs.declared.check.Check.{Check}
+use Rattle.command_talks.specs.declared.check.Subject.{Subject}
+use Rattle.command_talks.specs.declared.check.Verdict.{Verdict}
+use Rattle.command_talks.specs.declared.check.Verdict.TheVariants.{Passes, IsBad, Denies}
+use Rattle.command_talks.specs.declared.file_talk.Pending.{Pending}
 use Rattle.command_talks.specs.declared.errand.Errand.{Errand}
 use Rattle.command_talks.specs.declared.errand.Errand.TheVariants as errands
 use Rattle.command_talks.specs.declared.file_talk.FileTalk.{FileTalk}
-use Rattle.command_talks.specs.declared.file_talk.FileTalk.TheVariants.{Seeks, Reads, Counts, Appends, Opens, Adds, Copies, Closes}
+use Rattle.command_talks.specs.declared.file_talk.FileTalk.TheVariants.{Seeks, Reaches, LooksUp, ReadsList, Lists, Changes, Reads, Counts, Appends, Opens, Adds, Copies, Closes}
 use Rattle.command_talks.specs.declared.file_talk.Opening.{Opening}
 use Rattle.command_talks.specs.declared.file_talk.Opening.TheVariants.{Lock, Length, Map}
 use Rattle.command_talks.specs.declared.file_talk.FileTurn.{FileTurn}
 use Rattle.command_talks.specs.declared.file_talk.FileTurn.TheVariants.{Goes, Comes}
 use Rattle.command_talks.specs.declared.outcome.Outcome.{Outcome}
 use Rattle.command_talks.specs.declared.outcome.Outcome.TheVariants.{Came, Streamed, Written}
+
+-- what a machine of a name asks where it stands
+abbrev pub asked_at : {S : Type 0} → (S → Option Op) → Option S → Option Op
+asked_at asks None = None
+asked_at asks (Some state) = asks state
 
 -- what a stream asks where it stands
 abbrev pub op_left : Option Dialogue → Option Op
@@ -60,12 +83,17 @@ opening_op u Map = ops.Map u
 
 -- what a machine asks where it stands
 abbrev pub file_asks : FileTalk → Option Op
-file_asks (Seeks walk errand) = asked_at walking_asks walk
+file_asks (Seeks walk errand guard) = asked_at walking_asks walk
+file_asks (Reaches m errand guard) = asked_at by_path_asks m
+file_asks (LooksUp m p) = stream_asks m
+file_asks (ReadsList m p) = stream_asks m
+file_asks (Lists m) = asked_at listing_asks m
+file_asks (Changes m) = asked_at changing_asks m
 file_asks (Reads m) = stream_asks m
 file_asks (Counts m) = stream_asks m
 file_asks (Appends m) = stream_asks m
 file_asks (Opens s stage target) = Some (opening_op s.uid stage)
-file_asks (Adds s m) = asked_at by_path_asks m
+file_asks (Adds s m) = asked_at changing_asks m
 file_asks (Copies s m) = stream_asks m
 file_asks (Closes s outcome) = Some (close_op s)
 
@@ -75,12 +103,17 @@ FitsOp op None = ⊥
 FitsOp op (Some reply) = Fits op reply
 
 abbrev pub MayHearFile : FileTalk → Option Reply → Type 0
-MayHearFile (Seeks walk errand) last = IsSome walk × FitsStood walking_asks walk last
+MayHearFile (Seeks walk errand guard) last = IsSome walk × FitsStood walking_asks walk last
+MayHearFile (Reaches m errand guard) last = IsSome m × FitsStood by_path_asks m last
+MayHearFile (LooksUp m p) last = MayHear (rest m) last
+MayHearFile (ReadsList m p) last = MayHear (rest m) last
+MayHearFile (Lists m) last = IsSome m × FitsStood listing_asks m last
+MayHearFile (Changes m) last = IsSome m × FitsStood changing_asks m last
 MayHearFile (Reads m) last = MayHear (rest m) last
 MayHearFile (Counts m) last = MayHear (rest m) last
 MayHearFile (Appends m) last = MayHear (rest m) last
 MayHearFile (Opens s stage target) last = FitsOp (opening_op s.uid stage) last
-MayHearFile (Adds s m) last = IsSome m × FitsStood by_path_asks m last
+MayHearFile (Adds s m) last = IsSome m × FitsStood changing_asks m last
 MayHearFile (Copies s m) last = MayHear (rest m) last
 MayHearFile (Closes s outcome) last = FitsOp (close_op s) last
 
@@ -106,19 +139,150 @@ stream_turn (Some (steps.Over result)) talk = Some (over_turn talk result)
 abbrev pub stream_told : (Option Streaming → FileTalk) → Option Streaming → Option Reply → Option FileTurn
 stream_told make m last = stream_turn (said_to (rest m) last) (make (stream_after m last))
 
--- the target is added, and then takes the bytes
-abbrev pub add_turn : Sourced → Option NameStep → Option ByPath → Option FileTurn
-add_turn s None m = None
-add_turn s (Some (steps.Do op)) m = Some (Goes (Adds s m) op)
-add_turn s (Some (steps.Over (Added v))) m = stream_told (λ m. Copies s m) (Some (streaming_of v (works.Copy s.at 0 None))) None
-add_turn s (Some (steps.Over result)) m = Some (closes s (Some (Came result)))
+-- a machine of a name says this: it goes on, or what it has come to leads on
+abbrev pub named_turn : {S : Type 0} → (Option S → FileTalk) → (NameResult → Option FileTurn) → Option NameStep → Option S → Option FileTurn
+named_turn make over None m = None
+named_turn make over (Some (steps.Do op)) m = Some (Goes (make m) op)
+named_turn make over (Some (steps.Over result)) m = over result
 
-abbrev pub add_told : Sourced → Option ByPath → Option Reply → Option FileTurn
-add_told s m last = add_turn s (stood_says by_path_asks by_path_after m last) (stood_after by_path_after m last)
+abbrev pub named_told : {S : Type 0} → (S → Option Op) → (S → Option Reply → Turn S) → (Option S → FileTalk) → (NameResult → Option FileTurn) → Option S → Option Reply → Option FileTurn
+named_told asks after make over m last = named_turn make over (stood_says asks after m last) (stood_after after m last)
 
--- the source is opened, and then the target is added. One that is not mapped is closed by its lock alone
-abbrev pub begin_add : Sourced → Targeted → Option FileTurn
-begin_add s target = add_told s (add_name_of target.site (route_of target.path) target.dir kinds.File (room_for s.at.length) None) None
+-- that is what the command has come to
+abbrev pub came_turn : NameResult → Option FileTurn
+came_turn result = Some (Comes (Came result))
+
+-- a file is read, counted, appended to, or opened for a copy
+abbrev pub read_turn : ObjectName → Option FileTurn
+read_turn u = stream_told (λ m. Reads m) (Some (streaming_of u (works.Read 0 (All [])))) None
+
+abbrev pub count_turn : ObjectName → Option FileTurn
+count_turn u = stream_told (λ m. Counts m) (Some (streaming_of u (works.Read 0 (Lines 0)))) None
+
+abbrev pub append_turn : List ℕ → ObjectName → Option FileTurn
+append_turn text u = stream_told (λ m. Appends m) (Some (streaming_of u (works.Append text (Some Before)))) None
+
+abbrev pub copy_turn : Targeted → ObjectName → Option FileTurn
+copy_turn target u = Some (Goes (Opens (source_of u) Lock target) (ops.Lock u modes.Read))
+
+-- a directory is listed
+abbrev pub list_turn : ObjectName → Option FileTurn
+list_turn u = named_told listing_asks listing_after (λ m. Lists m) came_turn (Some (listing_of u)) None
+
+-- a walk came to this, and an object is asked for with which it goes on
+abbrev pub arrived : (ObjectName → Option FileTurn) → Arrival → Option FileTurn
+arrived begin (There u) = begin u
+arrived begin (Else outcome) = Some (Comes outcome)
+
+abbrev pub file_sought : (ObjectName → Option FileTurn) → NameResult → Option FileTurn
+file_sought begin result = arrived begin (file_in result)
+
+abbrev pub list_sought : NameResult → Option FileTurn
+list_sought result = arrived list_turn (directory_in result)
+
+-- or the directory of a name, which is added to it or removed from it
+abbrev pub place_sought : (Within → Option FileTurn) → NameResult → Option FileTurn
+place_sought begin (Under p) = begin p
+place_sought begin result = came_turn result
+
+abbrev pub add_turn : Intended → Within → Option FileTurn
+add_turn what p = named_told changing_asks changing_after (λ m. Changes m) came_turn (Some (changing_of p.dir (changes.Add (addition what.kind what.room what.text p.name)))) None
+
+abbrev pub remove_turn : Within → Option FileTurn
+remove_turn p = named_told changing_asks changing_after (λ m. Changes m) came_turn (Some (changing_of p.dir (changes.Remove p.name))) None
+
+-- the target of a copy is added, and then takes the bytes
+abbrev pub added_turn : Sourced → NameResult → Option FileTurn
+added_turn s (Added v) = stream_told (λ m. Copies s m) (Some (streaming_of v (works.Copy s.at 0 None))) None
+added_turn s result = Some (closes s (Some (Came result)))
+
+abbrev pub fill_turn : Sourced → NameResult → Option FileTurn
+fill_turn s (Under p) =
+    named_told changing_asks changing_after (λ m. Adds s m) (added_turn s) (Some (changing_of p.dir (changes.Add (addition kinds.File (room_for s.at.length) None p.name)))) None
+fill_turn s result = Some (closes s (Some (Came result)))
+
+-- what is done behind a walk begins
+abbrev pub sought_turn : Errand → NameResult → Option FileTurn
+sought_turn errands.Bind = came_turn
+sought_turn errands.Enter = came_turn
+sought_turn errands.List = list_sought
+sought_turn errands.Read = file_sought read_turn
+sought_turn errands.Count = file_sought count_turn
+sought_turn (errands.Append text) = file_sought (append_turn text)
+sought_turn (errands.Copy target) = file_sought (copy_turn target)
+sought_turn (errands.Add what) = place_sought (add_turn what)
+sought_turn errands.Remove = place_sought remove_turn
+sought_turn (errands.Fill s) = fill_turn s
+
+-- a check stops an errand
+abbrev pub fails_turn : Errand → Outcome → Option FileTurn
+fails_turn (errands.Fill s) outcome = Some (closes s (Some outcome))
+fails_turn errand outcome = Some (Comes outcome)
+
+-- an object that is read whole for a check
+abbrev pub read_stream : ObjectName → Option Streaming
+read_stream u = Some (streaming_of u (works.Read 0 (All [])))
+
+abbrev pub check_stream : (Option Streaming → FileTalk) → (StreamResult → Option FileTurn) → Option StreamStep → Option Streaming → Option FileTurn
+check_stream make over None m = None
+check_stream make over (Some (steps.Do op)) m = Some (Goes (make m) op)
+check_stream make over (Some (steps.Over result)) m = over result
+
+abbrev pub check_told : (Option Streaming → FileTalk) → (StreamResult → Option FileTurn) → Option Streaming → Option Reply → Option FileTurn
+check_told make over m last = check_stream make over (said_to (rest m) last) (stream_after m last)
+
+-- what a list says
+abbrev pub verdict_turn : Pending → Verdict → Option FileTurn
+verdict_turn p Passes = sought_turn p.errand p.come
+verdict_turn p IsBad = fails_turn p.errand (Written bad_list)
+verdict_turn p (Denies k) = fails_turn p.errand (Written (denied k))
+
+abbrev pub text_turn : Pending → StreamResult → Option FileTurn
+text_turn p (results.Bytes text) = verdict_turn p (of_text p.who p.check text)
+text_turn p (results.Store reply) = fails_turn p.errand (Came (Store reply))
+text_turn p result = fails_turn p.errand (Streamed result)
+
+-- the list that a directory has
+abbrev pub kind_turn : Pending → ObjKind → ObjectName → Option FileTurn
+kind_turn p kinds.File u = check_told (λ m. ReadsList m p) (text_turn p) (read_stream u) None
+kind_turn p kind u = verdict_turn p (of_bad p.check.lenient)
+
+abbrev pub row_turn : Pending → Option DirRow → Option FileTurn
+row_turn p None = sought_turn p.errand p.come
+row_turn p (Some row) = kind_turn p row.kind row.uid
+
+abbrev pub slots_turn : Pending → Option (List Slot) → Option FileTurn
+slots_turn p None = fails_turn p.errand (Came BadDir)
+slots_turn p (Some slots) = row_turn p (row_named list_name slots)
+
+abbrev pub directory_turn : Pending → StreamResult → Option FileTurn
+directory_turn p (results.Bytes bytes) = slots_turn p (directory_of bytes)
+directory_turn p (results.Store reply) = fails_turn p.errand (Came (Store reply))
+directory_turn p result = fails_turn p.errand (Streamed result)
+
+-- the directory of a check is read, and then its list
+abbrev pub look_turn : Pending → Option FileTurn
+look_turn p = check_told (λ m. LooksUp m p) (directory_turn p) (read_stream p.check.dir) None
+
+-- the one way on from each walk: the check, where there is one, and then the errand
+abbrev pub checked_turn : Option (Subject × Check) → Errand → NameResult → Option FileTurn
+checked_turn None errand result = sought_turn errand result
+checked_turn (Some asked) errand result = look_turn (record { who = asked.0; check = asked.1; errand = errand; come = result })
+
+abbrev pub guarded_turn : Option Subject → Errand → NameResult → Option FileTurn
+guarded_turn guard errand = λ result. checked_turn (check_for guard (check_of errand result)) errand result
+
+-- a path of an errand is walked along
+abbrev pub seek_told : Errand → Option Subject → Option Walking → Option Reply → Option FileTurn
+seek_told errand guard m last = named_told walking_asks walking_after (λ m. Seeks m errand guard) (guarded_turn guard errand) m last
+
+abbrev pub reach_told : Errand → Option Subject → Option ByPath → Option Reply → Option FileTurn
+reach_told errand guard m last = named_told by_path_asks by_path_after (λ m. Reaches m errand guard) (guarded_turn guard errand) m last
+
+-- the source of a copy is opened, and then the directory of its target's name is looked for. One that is not mapped is closed by its
+-- lock alone
+abbrev pub begin_fill : Sourced → Targeted → Option FileTurn
+begin_fill s target = reach_told (errands.Fill s) target.guard (to_parent_of target.site (route_of target.path) target.dir purposes.Adds) None
 
 abbrev pub lock_turn : Sourced → Targeted → Reply → Option FileTurn
 lock_turn s target Fine = Some (Goes (Opens s Length target) (ops.Length s.uid))
@@ -129,7 +293,7 @@ length_turn s target (Size n) = Some (Goes (Opens (measured s n) Map target) (op
 length_turn s target reply = Some (closes (source_of s.uid) (Some (Came (Store reply))))
 
 abbrev pub map_turn : Sourced → Targeted → Reply → Option FileTurn
-map_turn s target (MappedAt address fresh) = begin_add (mapped s address fresh) target
+map_turn s target (MappedAt address fresh) = begin_fill (mapped s address fresh) target
 map_turn s target reply = Some (closes (source_of s.uid) (Some (Came (Store reply))))
 
 abbrev pub open_turn : Sourced → Opening → Targeted → Option Reply → Option FileTurn
@@ -156,33 +320,19 @@ abbrev pub close_turn : Sourced → Option Outcome → Option Reply → Option F
 close_turn s outcome None = None
 close_turn s outcome (Some reply) = Some (closed_turn s.fresh s (first_outcome outcome reply))
 
--- a path has led to a file: what is done with it begins
-abbrev pub errand_turn : Errand → ObjectName → Option FileTurn
-errand_turn errands.Read u = stream_told (λ m. Reads m) (Some (streaming_of u (works.Read 0 (All [])))) None
-errand_turn errands.Count u = stream_told (λ m. Counts m) (Some (streaming_of u (works.Read 0 (Lines 0)))) None
-errand_turn (errands.Append text) u = stream_told (λ m. Appends m) (Some (streaming_of u (works.Append text (Some Before)))) None
-errand_turn (errands.Copy target) u = Some (Goes (Opens (source_of u) Lock target) (ops.Lock u modes.Read))
-
-abbrev pub found_turn : Errand → Walked → Option FileTurn
-found_turn errand Root = Some (Comes (Came IsDir))
-found_turn errand (At u kinds.File within) = errand_turn errand u
-found_turn errand (At u kinds.Directory within) = Some (Comes (Came IsDir))
-found_turn errand (At u kind within) = Some (Comes (Written not_a_file))
-
-abbrev pub seek_turn : Errand → Option NameStep → Option Walking → Option FileTurn
-seek_turn errand None walk = None
-seek_turn errand (Some (steps.Do op)) walk = Some (Goes (Seeks walk errand) op)
-seek_turn errand (Some (steps.Over (Found at))) walk = found_turn errand at
-seek_turn errand (Some (steps.Over result)) walk = Some (Comes (Came result))
-
 -- what a reply makes of a machine, or nothing at its first call: it goes on with an operation, or comes to an outcome.
 -- None of one that is over
 abbrev pub file_turn : FileTalk → Option Reply → Option FileTurn
-file_turn (Seeks walk errand) last = seek_turn errand (stood_says walking_asks walking_after walk last) (stood_after walking_after walk last)
+file_turn (Seeks walk errand guard) last = seek_told errand guard walk last
+file_turn (Reaches m errand guard) last = reach_told errand guard m last
+file_turn (LooksUp m p) last = check_told (λ m. LooksUp m p) (directory_turn p) m last
+file_turn (ReadsList m p) last = check_told (λ m. ReadsList m p) (text_turn p) m last
+file_turn (Lists m) last = named_told listing_asks listing_after (λ m. Lists m) came_turn m last
+file_turn (Changes m) last = named_told changing_asks changing_after (λ m. Changes m) came_turn m last
 file_turn (Reads m) last = stream_told (λ m. Reads m) m last
 file_turn (Counts m) last = stream_told (λ m. Counts m) m last
 file_turn (Appends m) last = stream_told (λ m. Appends m) m last
 file_turn (Opens s stage target) last = open_turn s stage target last
-file_turn (Adds s m) last = add_told s m last
+file_turn (Adds s m) last = named_told changing_asks changing_after (λ m. Adds s m) (added_turn s) m last
 file_turn (Copies s m) last = stream_told (λ m. Copies s m) m last
 file_turn (Closes s outcome) last = close_turn s outcome last

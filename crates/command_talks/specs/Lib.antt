@@ -1,8 +1,11 @@
 pub mod Ranges
+pub mod Intentions
 pub mod Sources
+pub mod Deeds
+pub mod Arriving
 pub mod Dialogues
+pub mod Checks
 pub mod Files
-pub mod NameTalks
 pub mod FileTalks
 pub mod FileTurns
 pub mod Talks

@@ -1,11 +1,12 @@
 -- The source of a copy, as far as it is open.
-use Rattle.std.specs.Prelude.{ℕ, Bool, false, List}
+use Rattle.std.specs.Prelude.{ℕ, Bool, false, Option, List}
 use Rattle.uid_names.specs.Names.{ObjectName}
 use Rattle.dom_history.specs.declared.op.Op.{Op}
 use Rattle.naming_tree.specs.declared.site.Site.{Site}
 use Rattle.naming_tree.specs.Entering.{unmap_if}
 use Rattle.naming_tree.specs.Sessions.{closers_if}
 use Rattle.mapped_streams.specs.declared.mapped.Mapped.{Mapped}
+use Rattle.command_talks.specs.declared.check.Subject.{Subject}
 
 -- its object, how it is mapped, and whether it was this copy that mapped it
 pub record Sourced : Type 0 where
@@ -40,8 +41,9 @@ closers s = closers_if s.fresh s.uid
 abbrev pub close_op : Sourced → Op
 close_op s = unmap_if s.fresh s.uid
 
--- where a copy goes: a path, and where its names are looked up
+-- where a copy goes: a path, for whom, and where its names are looked up
 pub record Targeted : Type 0 where
+  pub guard : Option Subject
   pub site : Site
   pub dir : ObjectName
   pub path : List ℕ

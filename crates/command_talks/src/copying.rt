@@ -2,32 +2,32 @@
 ghost use Rattle.std.specs.Prelude.{◌≡◌, Some, None, Option, IsTrue, IfOk, IsSome};
 ghost use Rattle.std.specs.Option.{option_copied};
 ghost use Rattle.dom_history.specs.Fitting.{is_length_reply, is_map_reply};
-ghost use Rattle.naming_tree.specs.ByPaths.{by_path_asks};
+ghost use Rattle.naming_tree.specs.Changing.{changing_asks};
 ghost use Rattle.naming_tree.specs.Turns.{FitsStood};
 ghost use Rattle.naming_tree.specs.declared.step.NameResult.TheVariants.{Store};
-ghost use Rattle.naming_tree.specs.declared.step.Step.TheVariants.{Over};
 ghost use Rattle.mapped_streams.specs.States.{streaming_of};
 ghost use Rattle.mapped_streams.specs.declared.work.Work.TheVariants.{Copy as CopyWork};
 ghost use Rattle.uid_names.specs.declared.mode.Mode.TheVariants.{Read as ReadMode};
 ghost use Rattle.dom_history.specs.declared.op.Op.TheVariants.{Lock as LockOp};
-ghost use Rattle.command_talks.specs.FileTalks.{closes, stream_told, add_told, add_turn, begin_add, lock_turn, length_turn, map_turn, open_turn, opening_op, FitsOp};
+ghost use Rattle.command_talks.specs.FileTalks.{closes, stream_told, file_turn, added_turn, fill_turn, begin_fill, lock_turn, length_turn, map_turn, open_turn, opening_op, FitsOp};
 ghost use Rattle.command_talks.specs.FileTurns.{Asks};
 ghost use Rattle.command_talks.specs.Sources.{source_of};
-ghost use Rattle.command_talks.specs.declared.file_talk.FileTalk.TheVariants.{Copies, Opens};
+ghost use Rattle.command_talks.specs.declared.file_talk.FileTalk.TheVariants.{Adds, Copies, Opens};
 ghost use Rattle.command_talks.specs.declared.file_talk.FileTurn.TheVariants.{Goes};
 ghost use Rattle.command_talks.specs.declared.file_talk.Opening.TheVariants.{Lock as LockStage};
 ghost use Rattle.command_talks.specs.declared.outcome.Outcome.TheVariants.{Came};
 
 use crate::closing::{close, refused};
-use crate::errand::Target;
+use crate::errand::{Errand, NewObject, Target};
 use crate::file_talk::{FileTalk, FileTurn, Opening};
 use crate::outcome::Outcome;
+use crate::seeking::reach;
 use crate::source::Source;
 use crate::streaming::turned;
 use dom_history::{Op, Reply};
-use naming_tree::{AddName, NameResult, NameStep};
+use naming_tree::{ChangeAt, NameResult, NameStep};
 use std::alloc::Global;
-use uid_names::{Mode, NoMemory, Uid};
+use uid_names::{Mode, NoMemory, ObjKind, Uid};
 
 /// The target of a copy is there: it takes the bytes.
 fn begin_copy(alloc: Global, source: Source, to: Uid) -> Result<FileTurn, NoMemory>
@@ -41,7 +41,7 @@ fn begin_copy(alloc: Global, source: Source, to: Uid) -> Result<FileTurn, NoMemo
 
 /// The addition of the target of a copy has come to this.
 fn added(alloc: Global, source: Source, come: NameResult) -> Result<FileTurn, NoMemory>
-    ensures turn { IfOk result (λ turn. Some turn ≡ add_turn source (Some (Over come)) None) }
+    ensures turn { IfOk result (λ turn. Some turn ≡ added_turn source come) }
     ensures asks { IfOk result Asks }
 {
     match &come {
@@ -54,12 +54,12 @@ fn added(alloc: Global, source: Source, come: NameResult) -> Result<FileTurn, No
 pub fn add(
     alloc: Global,
     source: Source,
-    mut machine: AddName,
+    mut machine: ChangeAt,
     last: Option<&Reply>,
 ) -> Result<FileTurn, NoMemory>
     requires still { IsSome machine }
-    requires fits { FitsStood by_path_asks machine (option_copied last) }
-    ensures turn { IfOk result (λ turn. Some turn ≡ add_told source machine (option_copied last.entry)) }
+    requires fits { FitsStood changing_asks machine (option_copied last) }
+    ensures turn { IfOk result (λ turn. Some turn ≡ file_turn (Adds source machine) (option_copied last.entry)) }
     ensures asks { IfOk result Asks }
 {
     match machine.next(alloc, last)? {
@@ -68,13 +68,28 @@ pub fn add(
     }
 }
 
-/// The source of a copy is open: its target is added.
-fn begin_adding(alloc: Global, source: Source, target: Target) -> Result<FileTurn, NoMemory>
-    ensures turn { IfOk result (λ turn. Some turn ≡ begin_add source target) }
+/// The walk to the directory of the target's name has come to this.
+pub fn fill(alloc: Global, source: Source, come: NameResult) -> Result<FileTurn, NoMemory>
+    ensures turn { IfOk result (λ turn. Some turn ≡ fill_turn source come) }
     ensures asks { IfOk result Asks }
 {
-    let machine = target.add(alloc, source.room())?;
-    add(alloc, source, machine, None)
+    match &come {
+        NameResult::Under(place) => {
+            let file = NewObject::new(ObjKind::File, source.room(), None);
+            let machine = file.add_at(alloc, place);
+            add(alloc, source, machine, None)
+        }
+        _ => Ok(close(source, Some(Outcome::Came(come)))),
+    }
+}
+
+/// The source of a copy is open: the directory of its target's name is looked for.
+fn begin_filling(alloc: Global, source: Source, target: Target) -> Result<FileTurn, NoMemory>
+    ensures turn { IfOk result (λ turn. Some turn ≡ begin_fill source target) }
+    ensures asks { IfOk result Asks }
+{
+    let (machine, guard) = target.walk(alloc)?;
+    reach(alloc, machine, Errand::Fill(source), guard, None)
 }
 
 /// A refusal while the source was only locked.
@@ -138,7 +153,7 @@ fn mapped(
 {
     match reply {
         Reply::At { address, fresh } => {
-            begin_adding(alloc, source.mapped(*address, *fresh), target)
+            begin_filling(alloc, source.mapped(*address, *fresh), target)
         }
         _ => give_up(alloc, source, reply),
     }

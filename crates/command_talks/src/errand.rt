@@ -1,9 +1,11 @@
-//! What commands do with the files to which their paths lead.
+//! What commands do behind the walks along their paths.
 ghost use Rattle.std.specs.Prelude.{◌≡◌, IsSome};
 ghost use Rattle.mapped_streams.specs.Works.{IsText};
 ghost use Rattle.dir_records.specs.Paths.{route_of};
 
-use naming_tree::{AddName, Site};
+use crate::check::Subject;
+use crate::source::Source;
+use naming_tree::{Addition, ChangeAt, Purpose, Site, ToParent, Within};
 use std::alloc::Global;
 use std::marker::Model;
 use uid_names::{ByteList, NoMemory, ObjKind, Uid};
@@ -41,9 +43,10 @@ impl Text {
     }
 }
 
-/// Where a copy goes: a path, and where its names are looked up.
+/// Where a copy goes: a path, for whom, and where its names are looked up.
 #[derive(Drop)]
 pub struct Target {
+    guard: Option<Subject>,
     site: Site,
     dir: Uid,
     path: ByteList,
@@ -56,47 +59,121 @@ impl Model for Target {
 
     ghost Value = { Targeted };
 
-    ghost view = { λ t. record { site = t.site; dir = t.dir; path = t.path } };
+    ghost view = { λ t. record { guard = t.guard; site = t.site; dir = t.dir; path = t.path } };
 
     ghost invariant = { λ t. IsSome (route_of t.path) };
 }
 
 impl Target {
-    ghost use Rattle.std.specs.Prelude.{None, Some, IfOk};
-    ghost use Rattle.uid_names.specs.Rooms.{IsRoom};
-    ghost use Rattle.uid_names.specs.declared.mode.ObjKind.TheVariants.{File};
-    ghost use Rattle.naming_tree.specs.ByPaths.{add_name_of};
+    ghost use Rattle.std.specs.Prelude.{IfOk};
+    ghost use Rattle.naming_tree.specs.declared.purpose.Purpose.TheVariants.{Adds};
+    ghost use Rattle.naming_tree.specs.ByPaths.{to_parent_of};
 
-    pub fn new(site: Site, dir: Uid, path: ByteList) -> Target
+    pub fn new(guard: Option<Subject>, site: Site, dir: Uid, path: ByteList) -> Target
         requires { IsSome (route_of path) }
-        ensures { result ≡ record { site = site; dir = dir; path = path } }
+        ensures { result ≡ record { guard = guard; site = site; dir = dir; path = path } }
     {
-        Target { site, dir, path }
+        Target {
+            guard,
+            site,
+            dir,
+            path,
+        }
     }
 
-    /// The addition of its name with a file of this room.
-    pub fn add(self, alloc: Global, room: u32) -> Result<AddName, NoMemory>
-        requires { IsRoom room }
-        ensures { IfOk result (λ m. m ≡ add_name_of self.site (route_of self.path) self.dir File room None) }
+    /// The walk to the directory of its last name, and for whom it is made.
+    pub fn walk(self, alloc: Global) -> Result<(ToParent, Option<Subject>), NoMemory>
+        ensures walk { IfOk result (λ p. p.0 ≡ to_parent_of self.site (route_of self.path) self.dir Adds) }
+        ensures guard { IfOk result (λ p. p.1 ≡ self.guard) }
     {
         let path = self.path;
-        AddName::new(
-            alloc,
-            self.site,
-            path.bytes(),
-            self.dir,
-            ObjKind::File,
-            room,
-            None,
-        )
+        let walk = ToParent::new(alloc, self.site, path.bytes(), self.dir, Purpose::Adds)?;
+        Ok((walk, self.guard))
     }
 }
 
-/// What is done with a file once its path has led to it.
+/// The object that is made for a name. `room` is in pages; a link has a text.
+#[derive(Drop)]
+pub struct NewObject {
+    kind: ObjKind,
+    room: u32,
+    text: Option<ByteList>,
+}
+
+impl Model for NewObject {
+    ghost use Rattle.uid_names.specs.Rooms.{IsRoom};
+    ghost use Rattle.naming_tree.specs.Additions.{IsText as IsLinkText};
+    ghost use Rattle.command_talks.specs.Intentions.{Intended};
+
+    ghost Value = { Intended };
+
+    ghost view = { λ o. record { kind = o.kind; room = o.room; text = o.text } };
+
+    ghost invariant = { λ o. IsRoom o.room × IsLinkText o.kind o.text };
+}
+
+impl NewObject {
+    ghost use Rattle.std.specs.Prelude.{Some};
+    ghost use Rattle.uid_names.specs.Rooms.{IsRoom};
+    ghost use Rattle.naming_tree.specs.Additions.{IsText as IsLinkText};
+    ghost use Rattle.naming_tree.specs.Changing.{changing_of};
+    ghost use Rattle.naming_tree.specs.NamePaths.{addition};
+    ghost use Rattle.naming_tree.specs.declared.changing.Change.TheVariants.{Add as AddChange};
+    ghost use Rattle.command_talks.specs.Intentions.{object_for};
+
+    pub fn new(kind: ObjKind, room: u32, text: Option<ByteList>) -> NewObject
+        requires room { IsRoom room }
+        requires text { IsLinkText kind text }
+        ensures { result ≡ object_for kind room text }
+    {
+        NewObject { kind, room, text }
+    }
+
+    /// The addition of a name with it to a directory. Takes no memory.
+    pub fn add_at(self, alloc: Global, place: &Within) -> ChangeAt
+        ensures { result ≡ Some (changing_of place.now.dir (AddChange (addition self.kind self.room self.text place.now.name))) }
+    {
+        let what = Addition {
+            name: place.name,
+            kind: self.kind,
+            room: self.room,
+            text: self.text,
+        };
+        ChangeAt::add(alloc, place.dir, what)
+    }
+}
+
+/// What is done behind the walk along a command's path.
 #[derive(Drop)]
 pub enum Errand {
+    /// What the path leads to is what the command comes to: it is bound, or entered.
+    Bind,
+    Enter,
+    /// The directory is listed.
+    List,
     Read,
     Count,
     Append(Text),
     Copy(Target),
+    /// The last name is added to its directory.
+    Add(NewObject),
+    /// It is removed from it.
+    Remove,
+    /// It is added for a copy, whose source is open.
+    Fill(Source),
+}
+
+impl Errand {
+    ghost use Rattle.command_talks.specs.Deeds.{purpose_of};
+
+    /// What the directory of the path's last name is looked for; None where the path is walked along to its own end.
+    pub fn purpose(&self) -> Option<Purpose>
+        ensures { result ≡ purpose_of self.now }
+    {
+        match self {
+            Errand::Add(_) | Errand::Fill(_) => Some(Purpose::Adds),
+            Errand::Remove => Some(Purpose::Drops),
+            _ => None,
+        }
+    }
 }

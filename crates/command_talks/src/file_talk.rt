@@ -1,10 +1,11 @@
-//! The machines of files that commands drive.
+//! The machines that commands drive.
+use crate::check::{Check, Subject};
 use crate::errand::{Errand, Target};
 use crate::outcome::Outcome;
 use crate::source::Source;
 use dom_history::Op;
 use mapped_streams::Stream;
-use naming_tree::{AddName, Walk};
+use naming_tree::{ChangeAt, ListAt, NameResult, ToParent, Walk};
 
 /// What is asked next of the source of a copy, while it is opened.
 #[derive(Clone, Copy)]
@@ -14,25 +15,44 @@ pub enum Opening {
     Map,
 }
 
-/// Where a command on the bytes of a file is.
+/// What waits for a check: an errand, and what its walk came to.
+#[derive(Drop)]
+pub struct Pending {
+    pub who: Subject,
+    pub check: Check,
+    pub errand: Errand,
+    pub come: NameResult,
+}
+
+/// Where a command on names or on the bytes of files is.
 #[derive(Drop)]
 pub enum FileTalk {
-    /// Its path is walked along, to the file of an errand.
-    Seeks(Walk, Errand),
+    /// Its path is walked along to its end, for an errand; a process with a subject is checked behind that.
+    Seeks(Walk, Errand, Option<Subject>),
+    /// It is walked along to the directory of its last name.
+    Reaches(ToParent, Errand, Option<Subject>),
+    /// The directory of a check is read.
+    LooksUp(Stream, Pending),
+    /// Its list is read.
+    ReadsList(Stream, Pending),
+    /// A directory is listed.
+    Lists(ListAt),
+    /// A name is added to a directory, or removed from it.
+    Changes(ChangeAt),
     Reads(Stream),
     Counts(Stream),
     Appends(Stream),
     /// The source of a copy is opened.
     Opens(Source, Opening, Target),
     /// Its target is added.
-    Adds(Source, AddName),
+    Adds(Source, ChangeAt),
     /// Its bytes are put there.
     Copies(Source, Stream),
     /// The source is closed; what the command has come to, unless all was done.
     Closes(Source, Option<Outcome>),
 }
 
-/// What comes of a machine of a file: it goes on with an operation, or has come to its end.
+/// What comes of a machine: it goes on with an operation, or has come to its end.
 #[derive(Drop)]
 pub enum FileTurn {
     Goes(FileTalk, Op),

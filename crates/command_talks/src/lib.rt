@@ -1,11 +1,13 @@
 //! What a command on names or on the bytes of files asks of the store, one operation after another, and what it comes to.
 #![tactic(auto)]
 
+mod arriving;
+mod check;
+mod checking;
 mod closing;
 mod copying;
 mod errand;
 mod file_talk;
-mod name_talk;
 mod naming;
 mod outcome;
 mod seeking;
@@ -14,6 +16,7 @@ mod streaming;
 mod talk;
 mod turning;
 
+pub use check::Subject;
 pub use naming::machine_for;
 pub use outcome::Outcome;
 pub use talk::{Machine, TalkStep};

@@ -1,24 +1,21 @@
 //! How commands on names and files begin.
-ghost use Rattle.std.specs.Prelude.{◌≡◌, true, false, None, Some, MatchOption, IfOk, IfSome, IsSome, option_map, unwrap_or};
+ghost use Rattle.std.specs.Prelude.{◌≡◌, true, false, None, Some, MatchOption, IfOk, IfSome, IsSome, unwrap_or};
 ghost use Rattle.uid_names.specs.Rooms.{IsRoom};
-ghost use Rattle.uid_names.specs.declared.mode.ObjKind.TheVariants.{File, Link};
-ghost use Rattle.naming_tree.specs.Additions.{IsText};
+ghost use Rattle.uid_names.specs.declared.mode.ObjKind.TheVariants.{Directory, File, Link};
 ghost use Rattle.dir_records.specs.Paths.{route_of};
-ghost use Rattle.naming_tree.specs.Walking.{walk_of};
-ghost use Rattle.naming_tree.specs.ByPaths.{add_name_of, drop_name_of, list_dir_of};
 ghost use Rattle.mapped_streams.specs.Works.{IsText as IsStreamText};
+ghost use Rattle.command_talks.specs.Commands.{begun_at, talk_for, talks};
+ghost use Rattle.command_talks.specs.Intentions.{object_for};
 ghost use Rattle.command_talks.specs.Ranges.{IsRanged};
-ghost use Rattle.command_talks.specs.declared.errand.Errand.TheVariants.{Append as AppendErrand, Copy as CopyErrand};
-ghost use Rattle.command_talks.specs.Commands.{name_talk_of, seeking, talk_of, talks};
-ghost use Rattle.command_talks.specs.declared.talk.Talk.TheVariants.{Name};
-ghost use Rattle.command_talks.specs.declared.name_talk.NameTalk.TheVariants.{Walk as WalkTalk, List as ListTalk, Add as AddTalk, Drop as DropTalk};
+ghost use Rattle.command_talks.specs.Talks.{talk_in};
+ghost use Rattle.command_talks.specs.declared.errand.Errand.TheVariants.{Append as AppendErrand, Copy as CopyErrand, Add as AddErrand};
 
-use crate::errand::{Errand, Target, Text};
+use crate::check::Subject;
+use crate::errand::{Errand, NewObject, Target, Text};
 use crate::file_talk::FileTalk;
-use crate::name_talk::NameTalk;
 use crate::talk::{Machine, Talk};
 use dom_history::NodeNames;
-use naming_tree::{AddName, DropName, ListDir, Site, Walk};
+use naming_tree::{Site, ToParent, Walk};
 use script_reader::Command;
 use std::alloc::Global;
 use uid_names::{ByteList, NoMemory, ObjKind, Uid};
@@ -43,118 +40,14 @@ fn copied(alloc: Global, site: &Site) -> Result<Site, NoMemory>
     })
 }
 
-/// The machine of a name.
-fn named(alloc: Global, talk: NameTalk) -> Result<Machine, NoMemory>
-    ensures { IfOk result (λ machine. machine ≡ Name talk) }
+/// A copy of who a process is, for a machine of its own.
+fn copied_guard(alloc: Global, guard: &Option<Subject>) -> Result<Option<Subject>, NoMemory>
+    ensures { IfOk result (λ copy. copy ≡ guard.now) }
 {
-    Machine::new(alloc, Talk::Name(talk))
-}
-
-/// A walk along a path, at whose end a link is followed.
-#[inline(never)]
-fn walk(alloc: Global, site: &Site, dir: Uid, path: &[u8]) -> Result<Machine, NoMemory>
-    requires { IsSome (route_of path.now) }
-    ensures { IfOk result (λ talk. talk ≡ Name (WalkTalk (walk_of site.now true (route_of path.now) dir))) }
-{
-    let site = copied(alloc, site)?;
-    named(
-        alloc,
-        NameTalk::Walk(Walk::new(alloc, site, path, dir, true)?),
-    )
-}
-
-/// The addition of a name with an object.
-#[inline(never)]
-fn add(
-    alloc: Global,
-    site: &Site,
-    dir: Uid,
-    path: &[u8],
-    kind: ObjKind,
-    room: u32,
-    text: Option<ByteList>,
-) -> Result<Machine, NoMemory>
-    requires path { IsSome (route_of path.now) }
-    requires room { IsRoom room }
-    requires text { IsText kind text }
-    ensures { IfOk result (λ talk. talk ≡ Name (AddTalk (add_name_of site.now (route_of path.now) dir kind room text))) }
-{
-    let site = copied(alloc, site)?;
-    let machine = AddName::new(alloc, site, path, dir, kind, room, text)?;
-    named(alloc, NameTalk::Add(machine))
-}
-
-/// The addition of a file; where no room is said it is that of a file.
-#[tactic(auto, using(crate::proofs::Begun::room_or))]
-fn add_file(
-    alloc: Global,
-    site: &Site,
-    dir: Uid,
-    path: &[u8],
-    room: Option<u32>,
-) -> Result<Machine, NoMemory>
-    requires path { IsSome (route_of path.now) }
-    requires room { IfSome room IsRoom }
-    ensures { IfOk result (λ talk. talk ≡ Name (AddTalk (add_name_of site.now (route_of path.now) dir File (unwrap_or room 16) None))) }
-{
-    let room = room.unwrap_or(FILE_ROOM);
-    add(alloc, site, dir, path, ObjKind::File, room, None)
-}
-
-/// The addition of a link that stands for a path.
-fn add_link(
-    alloc: Global,
-    site: &Site,
-    dir: Uid,
-    path: &[u8],
-    target: &ByteList,
-) -> Result<Machine, NoMemory>
-    requires path { IsSome (route_of path.now) }
-    requires target { IsSome (route_of target.now) }
-    ensures { IfOk result (λ talk. talk ≡ Name (AddTalk (add_name_of site.now (route_of path.now) dir Link 1 (Some target.now)))) }
-{
-    let text = Some(target.copy(alloc)?);
-    add(alloc, site, dir, path, ObjKind::Link, LINK_ROOM, text)
-}
-
-/// The removal of a name.
-#[inline(never)]
-fn drop_name(alloc: Global, site: &Site, dir: Uid, path: &[u8]) -> Result<Machine, NoMemory>
-    requires { IsSome (route_of path.now) }
-    ensures { IfOk result (λ talk. talk ≡ Name (DropTalk (drop_name_of site.now (route_of path.now) dir))) }
-{
-    let site = copied(alloc, site)?;
-    named(
-        alloc,
-        NameTalk::Drop(DropName::new(alloc, site, path, dir)?),
-    )
-}
-
-/// The list of a directory.
-#[inline(never)]
-fn list_dir(alloc: Global, site: &Site, dir: Uid, path: &[u8]) -> Result<Machine, NoMemory>
-    requires { IsSome (route_of path.now) }
-    ensures { IfOk result (λ talk. talk ≡ Name (ListTalk (list_dir_of site.now (route_of path.now) dir))) }
-{
-    let site = copied(alloc, site)?;
-    named(alloc, NameTalk::List(ListDir::new(alloc, site, path, dir)?))
-}
-
-/// The walk to the file of an errand.
-#[inline(never)]
-fn seek(
-    alloc: Global,
-    site: &Site,
-    dir: Uid,
-    path: &[u8],
-    errand: Errand,
-) -> Result<Machine, NoMemory>
-    requires { IsSome (route_of path.now) }
-    ensures { IfOk result (λ talk. talk ≡ seeking site.now dir path.now errand) }
-{
-    let site = copied(alloc, site)?;
-    let walk = Walk::new(alloc, site, path, dir, true)?;
-    Machine::new(alloc, Talk::File(Some(FileTalk::Seeks(walk, errand))))
+    match guard {
+        Some(who) => Ok(Some(who.copy(alloc)?)),
+        None => Ok(None),
+    }
 }
 
 /// The errand of a text that is put behind the bytes of a file.
@@ -168,69 +61,143 @@ fn append_errand(alloc: Global, text: &ByteList) -> Result<Errand, NoMemory>
 
 /// The errand of a copy to this path.
 #[inline(never)]
-fn copy_errand(alloc: Global, site: &Site, dir: Uid, target: &ByteList) -> Result<Errand, NoMemory>
-    requires { IsSome (route_of target.now) }
-    ensures { IfOk result (λ errand. errand ≡ CopyErrand (record { site = site.now; dir = dir; path = target.now })) }
-{
-    let site = copied(alloc, site)?;
-    Ok(Errand::Copy(Target::new(site, dir, target.copy(alloc)?)))
-}
-
-/// The machine of a command on names, before its first turn; None for another command.
-fn name_talk(
+fn copy_errand(
     alloc: Global,
+    guard: &Option<Subject>,
     site: &Site,
     dir: Uid,
-    command: &Command,
-) -> Result<Option<Machine>, NoMemory>
-    requires { IsRanged command.now }
-    ensures { IfOk result (λ found. found ≡ option_map Name (name_talk_of site.now dir command.now)) }
+    target: &ByteList,
+) -> Result<Errand, NoMemory>
+    requires { IsSome (route_of target.now) }
+    ensures { IfOk result (λ errand. errand ≡ CopyErrand (record { guard = guard.now; site = site.now; dir = dir; path = target.now })) }
 {
-    match command {
-        Command::Bind { var: _, path } => Ok(Some(walk(alloc, site, dir, path.bytes())?)),
-        Command::Crf { path, room } => Ok(Some(add_file(alloc, site, dir, path.bytes(), *room)?)),
-        Command::Crd { path } => {
-            let kind = ObjKind::Directory;
-            Ok(Some(add(alloc, site, dir, path.bytes(), kind, DIRECTORY_ROOM, None)?))
+    let guard = copied_guard(alloc, guard)?;
+    let site = copied(alloc, site)?;
+    Ok(Errand::Copy(Target::new(guard, site, dir, target.copy(alloc)?)))
+}
+
+/// The errand of a file that is made; where no room is said it is that of a file.
+#[tactic(auto, using(crate::proofs::Begun::room_or))]
+fn file_errand(room: Option<u32>) -> Errand
+    requires { IfSome room IsRoom }
+    ensures { result ≡ AddErrand (object_for File (unwrap_or room 16) None) }
+{
+    let room = room.unwrap_or(FILE_ROOM);
+    Errand::Add(NewObject::new(ObjKind::File, room, None))
+}
+
+/// The errand of a directory that is made.
+fn directory_errand() -> Errand
+    ensures { result ≡ AddErrand (object_for Directory 8 None) }
+{
+    let kind = ObjKind::Directory;
+    Errand::Add(NewObject::new(kind, DIRECTORY_ROOM, None))
+}
+
+/// The errand of a link that is made, which stands for a path.
+fn link_errand(alloc: Global, target: &ByteList) -> Result<Errand, NoMemory>
+    requires { IsSome (route_of target.now) }
+    ensures { IfOk result (λ errand. errand ≡ AddErrand (object_for Link 1 (Some target.now))) }
+{
+    let text = Some(target.copy(alloc)?);
+    Ok(Errand::Add(NewObject::new(ObjKind::Link, LINK_ROOM, text)))
+}
+
+/// The walk of an errand along a path, before its first turn.
+fn walk_for(
+    alloc: Global,
+    guard: Option<Subject>,
+    site: Site,
+    dir: Uid,
+    path: &[u8],
+    errand: Errand,
+) -> Result<FileTalk, NoMemory>
+    requires { IsSome (route_of path.now) }
+    ensures { IfOk result (λ talk. talk ≡ begun_at guard site dir path.now errand) }
+{
+    match errand.purpose() {
+        None => {
+            let walk = Walk::new(alloc, site, path, dir, true)?;
+            Ok(FileTalk::Seeks(walk, errand, guard))
         }
-        Command::Crl { path, target } => Ok(Some(add_link(
-            alloc,
-            site,
-            dir,
-            path.bytes(),
-            target,
-        )?)),
-        Command::Dlf { path } => Ok(Some(drop_name(alloc, site, dir, path.bytes())?)),
-        Command::Ld { path } => Ok(Some(list_dir(alloc, site, dir, path.bytes())?)),
-        Command::Wd { path } => match path {
-            Some(path) => Ok(Some(walk(alloc, site, dir, path.bytes())?)),
-            None => Ok(None),
-        },
-        _ => Ok(None),
+        Some(purpose) => {
+            let walk = ToParent::new(alloc, site, path, dir, purpose)?;
+            Ok(FileTalk::Reaches(walk, errand, guard))
+        }
     }
 }
 
-/// The machine of a command, before its first turn; None for a command that has none.
+/// The machine of an errand behind the walk along a path.
+#[inline(never)]
+fn begin(
+    alloc: Global,
+    guard: &Option<Subject>,
+    site: &Site,
+    dir: Uid,
+    path: &ByteList,
+    errand: Errand,
+) -> Result<Machine, NoMemory>
+    requires { IsSome (route_of path.now) }
+    ensures { IfOk result (λ machine. machine ≡ talk_in (Some (begun_at guard.now site.now dir path.now errand))) }
+{
+    let guard = copied_guard(alloc, guard)?;
+    let site = copied(alloc, site)?;
+    let talk = walk_for(alloc, guard, site, dir, path.bytes(), errand)?;
+    Machine::new(alloc, Talk { at: Some(talk) })
+}
+
+/// The machine of a command, before its first turn; None for a command that has none. A process with a subject is checked.
 pub fn machine_for(
     alloc: Global,
+    guard: &Option<Subject>,
     site: &Site,
     dir: Uid,
     command: &Command,
 ) -> Result<Option<Machine>, NoMemory>
     requires { IsRanged command.now }
-    ensures { IfOk result (λ found. MatchOption found (talks command.now ≡ false) (λ talk. (talks command.now ≡ true) × (talk ≡ talk_of site.now dir command.now))) }
+    ensures { IfOk result (λ found. MatchOption found (talks command.now ≡ false) (λ talk. (talks command.now ≡ true) × (talk ≡ talk_for guard.now site.now dir command.now))) }
 {
     match command {
-        Command::Catf { path } => Ok(Some(seek(alloc, site, dir, path.bytes(), Errand::Read)?)),
-        Command::Lnf { path } => Ok(Some(seek(alloc, site, dir, path.bytes(), Errand::Count)?)),
+        Command::Bind { var: _, path } => Ok(Some(begin(
+            alloc,
+            guard,
+            site,
+            dir,
+            path,
+            Errand::Bind,
+        )?)),
+        Command::Crf { path, room } => {
+            let errand = file_errand(*room);
+            Ok(Some(begin(alloc, guard, site, dir, path, errand)?))
+        }
+        Command::Crd { path } => Ok(Some(begin(
+            alloc,
+            guard,
+            site,
+            dir,
+            path,
+            directory_errand(),
+        )?)),
+        Command::Crl { path, target } => {
+            let errand = link_errand(alloc, target)?;
+            Ok(Some(begin(alloc, guard, site, dir, path, errand)?))
+        }
+        Command::Dlf { path } => Ok(Some(begin(alloc, guard, site, dir, path, Errand::Remove)?)),
+        Command::Catf { path } => Ok(Some(begin(alloc, guard, site, dir, path, Errand::Read)?)),
+        Command::Lnf { path } => Ok(Some(begin(alloc, guard, site, dir, path, Errand::Count)?)),
         Command::Apf { path, text } => {
             let errand = append_errand(alloc, text)?;
-            Ok(Some(seek(alloc, site, dir, path.bytes(), errand)?))
+            Ok(Some(begin(alloc, guard, site, dir, path, errand)?))
         }
         Command::Cpf { path, target } => {
-            let errand = copy_errand(alloc, site, dir, target)?;
-            Ok(Some(seek(alloc, site, dir, path.bytes(), errand)?))
+            let errand = copy_errand(alloc, guard, site, dir, target)?;
+            Ok(Some(begin(alloc, guard, site, dir, path, errand)?))
         }
-        _ => name_talk(alloc, site, dir, command),
+        Command::Ld { path } => Ok(Some(begin(alloc, guard, site, dir, path, Errand::List)?)),
+        Command::Wd { path } => match path {
+            Some(path) => Ok(Some(begin(alloc, guard, site, dir, path, Errand::Enter)?)),
+            None => Ok(None),
+        },
+        _ => Ok(None),
     }
 }

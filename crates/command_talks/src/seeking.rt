@@ -1,101 +1,220 @@
-//! How commands on the bytes of files find their file.
+//! How commands walk along their paths, and what they do behind that.
 ghost use Rattle.std.specs.Prelude.{◌≡◌, Some, None, IfOk, IsSome};
 ghost use Rattle.std.specs.Option.{option_copied};
-ghost use Rattle.dom_history.specs.Fitting.{Fits};
 ghost use Rattle.naming_tree.specs.Turns.{FitsStood};
+ghost use Rattle.naming_tree.specs.ByPaths.{by_path_asks};
+ghost use Rattle.naming_tree.specs.Changing.{changing_asks};
+ghost use Rattle.naming_tree.specs.ListsAt.{listing_asks};
 ghost use Rattle.naming_tree.specs.Walking.{walking_asks};
-ghost use Rattle.naming_tree.specs.declared.step.Step.TheVariants.{Over};
-ghost use Rattle.command_talks.specs.FileTalks.{errand_turn, found_turn, seek_turn, file_turn, MayHearFile};
+ghost use Rattle.command_talks.specs.FileTalks.{add_turn, append_turn, copy_turn, count_turn, file_sought, file_turn, list_sought, place_sought, read_turn, remove_turn, sought_turn, MayHearFile};
 ghost use Rattle.command_talks.specs.FileTurns.{file_says, Asks};
-ghost use Rattle.command_talks.specs.declared.file_talk.FileTalk.TheVariants.{Seeks};
+ghost use Rattle.command_talks.specs.declared.file_talk.FileTalk.TheVariants.{Changes, Lists, Reaches, Seeks};
 
+use crate::arriving::{Arrival, directory_in, file_in};
+use crate::check::Subject;
+use crate::checking::{guarded, look_up, read_through};
 use crate::closing::closed;
-use crate::copying::{add, begin_open, open};
-use crate::errand::Errand;
+use crate::copying::{add, begin_open, fill, open};
+use crate::errand::{Errand, NewObject, Target, Text};
 use crate::file_talk::{FileTalk, FileTurn};
 use crate::outcome::Outcome;
 use crate::source::Source;
 use crate::streaming::turned;
 use dom_history::Reply;
 use mapped_streams::Stream;
-use naming_tree::{NameResult, NameStep, Walk, Walked};
+use naming_tree::{ChangeAt, ListAt, NameResult, NameStep, ToParent, Walk};
 use std::alloc::Global;
-use uid_names::{ByteList, NoMemory, ObjKind, Uid};
+use uid_names::{NoMemory, Uid};
 
-/// An errand at its file begins.
-fn begin_errand(alloc: Global, errand: Errand, uid: Uid) -> Result<FileTurn, NoMemory>
-    ensures turn { IfOk result (λ turn. Some turn ≡ errand_turn errand uid) }
+/// A file is read whole.
+fn begin_read(alloc: Global, uid: Uid) -> Result<FileTurn, NoMemory>
+    ensures turn { IfOk result (λ turn. Some turn ≡ read_turn uid) }
     ensures asks { IfOk result Asks }
 {
-    match errand {
-        Errand::Read => {
-            let mut machine = Stream::read_all(alloc, uid);
-            let step = machine.next(alloc, None)?;
-            Ok(turned(FileTalk::Reads(machine), step))
-        }
-        Errand::Count => {
-            let mut machine = Stream::count_lines(uid);
-            let step = machine.next(alloc, None)?;
-            Ok(turned(FileTalk::Counts(machine), step))
-        }
-        Errand::Append(text) => {
-            let mut machine = Stream::append(alloc, uid, text.bytes())?;
-            let step = machine.next(alloc, None)?;
-            Ok(turned(FileTalk::Appends(machine), step))
-        }
-        Errand::Copy(target) => Ok(begin_open(Source::new(uid), target)),
+    let mut machine = Stream::read_all(alloc, uid);
+    let step = machine.next(alloc, None)?;
+    Ok(turned(FileTalk::Reads(machine), step))
+}
+
+/// Its lines are counted.
+fn begin_count(alloc: Global, uid: Uid) -> Result<FileTurn, NoMemory>
+    ensures turn { IfOk result (λ turn. Some turn ≡ count_turn uid) }
+    ensures asks { IfOk result Asks }
+{
+    let mut machine = Stream::count_lines(uid);
+    let step = machine.next(alloc, None)?;
+    Ok(turned(FileTalk::Counts(machine), step))
+}
+
+/// A text is put behind its bytes.
+fn begin_append(alloc: Global, uid: Uid, text: &Text) -> Result<FileTurn, NoMemory>
+    ensures turn { IfOk result (λ turn. Some turn ≡ append_turn text.now uid) }
+    ensures asks { IfOk result Asks }
+{
+    let mut machine = Stream::append(alloc, uid, text.bytes())?;
+    let step = machine.next(alloc, None)?;
+    Ok(turned(FileTalk::Appends(machine), step))
+}
+
+/// A directory that is listed.
+fn list(alloc: Global, mut machine: ListAt, last: Option<&Reply>) -> Result<FileTurn, NoMemory>
+    requires still { IsSome machine }
+    requires fits { FitsStood listing_asks machine (option_copied last) }
+    ensures turn { IfOk result (λ turn. Some turn ≡ file_turn (Lists machine) (option_copied last.entry)) }
+    ensures asks { IfOk result Asks }
+{
+    match machine.next(alloc, last)? {
+        NameStep::Do(op) => Ok(FileTurn::Goes(FileTalk::Lists(machine), op)),
+        NameStep::Over(come) => Ok(FileTurn::Comes(Outcome::Came(come))),
     }
 }
 
-/// A path of an errand has led there.
-fn found(alloc: Global, errand: Errand, at: &Walked) -> Result<FileTurn, NoMemory>
-    ensures turn { IfOk result (λ turn. Some turn ≡ found_turn errand at.now) }
+/// One that is changed.
+fn change(alloc: Global, mut machine: ChangeAt, last: Option<&Reply>) -> Result<FileTurn, NoMemory>
+    requires still { IsSome machine }
+    requires fits { FitsStood changing_asks machine (option_copied last) }
+    ensures turn { IfOk result (λ turn. Some turn ≡ file_turn (Changes machine) (option_copied last.entry)) }
     ensures asks { IfOk result Asks }
 {
-    match at {
-        Walked::At {
-            uid,
-            kind: ObjKind::File,
-            ..
-        } => begin_errand(alloc, errand, *uid),
-        Walked::Root
-        | Walked::At {
-            kind: ObjKind::Directory,
-            ..
-        } => Ok(FileTurn::Comes(Outcome::Came(NameResult::IsDir))),
-        Walked::At { .. } => {
-            let text = ByteList::from_slice(alloc, b"not a file")?;
-            Ok(FileTurn::Comes(Outcome::Written(text)))
-        }
+    match machine.next(alloc, last)? {
+        NameStep::Do(op) => Ok(FileTurn::Goes(FileTalk::Changes(machine), op)),
+        NameStep::Over(come) => Ok(FileTurn::Comes(Outcome::Came(come))),
     }
 }
 
-/// The walk along a path of an errand has come to this.
-fn sought(alloc: Global, errand: Errand, come: NameResult) -> Result<FileTurn, NoMemory>
-    ensures turn { IfOk result (λ turn. Some turn ≡ seek_turn errand (Some (Over come)) None) }
+/// The walk came to this: a directory is listed.
+fn list_found(alloc: Global, come: NameResult) -> Result<FileTurn, NoMemory>
+    ensures turn { IfOk result (λ turn. Some turn ≡ list_sought come) }
+    ensures asks { IfOk result Asks }
+{
+    match directory_in(come) {
+        Arrival::There(dir) => list(alloc, ListAt::new(alloc, dir), None),
+        Arrival::Else(outcome) => Ok(FileTurn::Comes(outcome)),
+    }
+}
+
+/// A file is read whole.
+fn read_found(alloc: Global, come: NameResult) -> Result<FileTurn, NoMemory>
+    ensures turn { IfOk result (λ turn. Some turn ≡ file_sought read_turn come) }
+    ensures asks { IfOk result Asks }
+{
+    match file_in(alloc, come)? {
+        Arrival::There(uid) => begin_read(alloc, uid),
+        Arrival::Else(outcome) => Ok(FileTurn::Comes(outcome)),
+    }
+}
+
+/// Its lines are counted.
+fn count_found(alloc: Global, come: NameResult) -> Result<FileTurn, NoMemory>
+    ensures turn { IfOk result (λ turn. Some turn ≡ file_sought count_turn come) }
+    ensures asks { IfOk result Asks }
+{
+    match file_in(alloc, come)? {
+        Arrival::There(uid) => begin_count(alloc, uid),
+        Arrival::Else(outcome) => Ok(FileTurn::Comes(outcome)),
+    }
+}
+
+/// A text is put behind its bytes.
+fn append_found(alloc: Global, text: &Text, come: NameResult) -> Result<FileTurn, NoMemory>
+    ensures turn { IfOk result (λ turn. Some turn ≡ file_sought (append_turn text.now) come) }
+    ensures asks { IfOk result Asks }
+{
+    match file_in(alloc, come)? {
+        Arrival::There(uid) => begin_append(alloc, uid, text),
+        Arrival::Else(outcome) => Ok(FileTurn::Comes(outcome)),
+    }
+}
+
+/// It is copied.
+fn copy_found(alloc: Global, target: Target, come: NameResult) -> Result<FileTurn, NoMemory>
+    ensures turn { IfOk result (λ turn. Some turn ≡ file_sought (copy_turn target) come) }
+    ensures asks { IfOk result Asks }
+{
+    match file_in(alloc, come)? {
+        Arrival::There(uid) => Ok(begin_open(Source::new(uid), target)),
+        Arrival::Else(outcome) => Ok(FileTurn::Comes(outcome)),
+    }
+}
+
+/// The last name of the path is added.
+fn add_found(alloc: Global, what: NewObject, come: NameResult) -> Result<FileTurn, NoMemory>
+    ensures turn { IfOk result (λ turn. Some turn ≡ place_sought (add_turn what) come) }
     ensures asks { IfOk result Asks }
 {
     match &come {
-        NameResult::Found(at) => found(alloc, errand, at),
+        NameResult::Under(place) => change(alloc, what.add_at(alloc, place), None),
         _ => Ok(FileTurn::Comes(Outcome::Came(come))),
     }
 }
 
-/// A path of an errand that is walked along.
+/// It is removed.
+fn remove_found(alloc: Global, come: NameResult) -> Result<FileTurn, NoMemory>
+    ensures turn { IfOk result (λ turn. Some turn ≡ place_sought remove_turn come) }
+    ensures asks { IfOk result Asks }
+{
+    match &come {
+        NameResult::Under(place) => {
+            change(alloc, ChangeAt::remove(alloc, place.dir, place.name), None)
+        }
+        _ => Ok(FileTurn::Comes(Outcome::Came(come))),
+    }
+}
+
+/// The walk along a command's path came to this, and no check stopped it: what is done behind it begins.
+#[inline(never)]
+pub fn sought(alloc: Global, errand: Errand, come: NameResult) -> Result<FileTurn, NoMemory>
+    ensures turn { IfOk result (λ turn. Some turn ≡ sought_turn errand come) }
+    ensures asks { IfOk result Asks }
+{
+    match errand {
+        Errand::Bind | Errand::Enter => Ok(FileTurn::Comes(Outcome::Came(come))),
+        Errand::List => list_found(alloc, come),
+        Errand::Read => read_found(alloc, come),
+        Errand::Count => count_found(alloc, come),
+        Errand::Append(text) => append_found(alloc, &text, come),
+        Errand::Copy(target) => copy_found(alloc, target, come),
+        Errand::Add(what) => add_found(alloc, what, come),
+        Errand::Remove => remove_found(alloc, come),
+        Errand::Fill(source) => fill(alloc, source, come),
+    }
+}
+
+/// A path that is walked along to its end.
 fn seek(
     alloc: Global,
     mut walk: Walk,
     errand: Errand,
+    guard: Option<Subject>,
     last: Option<&Reply>,
 ) -> Result<FileTurn, NoMemory>
     requires still { IsSome walk }
     requires fits { FitsStood walking_asks walk (option_copied last) }
-    ensures turn { IfOk result (λ turn. Some turn ≡ file_turn (Seeks walk errand) (option_copied last.entry)) }
+    ensures turn { IfOk result (λ turn. Some turn ≡ file_turn (Seeks walk errand guard) (option_copied last.entry)) }
     ensures asks { IfOk result Asks }
 {
     match walk.next(alloc, last)? {
-        NameStep::Do(op) => Ok(FileTurn::Goes(FileTalk::Seeks(walk, errand), op)),
-        NameStep::Over(come) => sought(alloc, errand, come),
+        NameStep::Do(op) => Ok(FileTurn::Goes(FileTalk::Seeks(walk, errand, guard), op)),
+        NameStep::Over(come) => guarded(alloc, guard, errand, come),
+    }
+}
+
+/// One that is walked along to the directory of its last name.
+pub fn reach(
+    alloc: Global,
+    mut walk: ToParent,
+    errand: Errand,
+    guard: Option<Subject>,
+    last: Option<&Reply>,
+) -> Result<FileTurn, NoMemory>
+    requires still { IsSome walk }
+    requires fits { FitsStood by_path_asks walk (option_copied last) }
+    ensures turn { IfOk result (λ turn. Some turn ≡ file_turn (Reaches walk errand guard) (option_copied last.entry)) }
+    ensures asks { IfOk result Asks }
+{
+    match walk.next(alloc, last)? {
+        NameStep::Do(op) => Ok(FileTurn::Goes(FileTalk::Reaches(walk, errand, guard), op)),
+        NameStep::Over(come) => guarded(alloc, guard, errand, come),
     }
 }
 
@@ -109,7 +228,12 @@ impl FileTalk {
         ensures asks { IfOk result Asks }
     {
         match self {
-            FileTalk::Seeks(walk, errand) => seek(alloc, walk, errand, last),
+            FileTalk::Seeks(walk, errand, guard) => seek(alloc, walk, errand, guard, last),
+            FileTalk::Reaches(walk, errand, guard) => reach(alloc, walk, errand, guard, last),
+            FileTalk::LooksUp(stream, pending) => look_up(alloc, stream, pending, last),
+            FileTalk::ReadsList(stream, pending) => read_through(alloc, stream, pending, last),
+            FileTalk::Lists(machine) => list(alloc, machine, last),
+            FileTalk::Changes(machine) => change(alloc, machine, last),
             FileTalk::Opens(source, stage, target) => open(alloc, source, stage, target, last),
             FileTalk::Adds(source, machine) => add(alloc, source, machine, last),
             FileTalk::Closes(source, outcome) => closed(alloc, source, outcome, last),

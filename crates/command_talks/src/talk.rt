@@ -1,28 +1,17 @@
-//! The machines of names and files that commands drive.
+//! The machines that commands drive.
 ghost use Rattle.std.specs.Prelude.{◌≡◌, IfOk};
 
 use crate::file_talk::FileTalk;
-use crate::name_talk::NameTalk;
 use crate::outcome::Outcome;
 use naming_tree::Step;
 use std::alloc::{AllocError, Global};
 use std::marker::Model;
 use uid_names::NoMemory;
 
-/// The machine of a command on names, or of one on the bytes of a file; None where that is over.
-pub enum Talk {
-    Name(NameTalk),
-    File(Option<FileTalk>),
-}
-
-impl Drop for Talk {
-    /// Lets the machine go. It stands here once, so that whoever holds a machine lets it go by one call.
-    fn drop(self) {
-        match self {
-            Talk::Name(_machine) => {}
-            Talk::File(_machine) => {}
-        }
-    }
+/// Where a command is; None where it is over.
+#[derive(Drop)]
+pub struct Talk {
+    pub at: Option<FileTalk>,
 }
 
 /// A machine that lies apart, so that what holds it is a few words and is moved as such.

@@ -1,5 +1,5 @@
 -- A directory as the list of its records.
-use Rattle.std.specs.Prelude.{ℕ, zero, suc, ◌+◌, ◌*◌, ◌/◌, ◌%◌, ◌==◌, nat_le, Bool, true, false, not, ◌&&◌, ◌||◌, cond, Option, Some, None, List, [], ◌∷◌, length, bytes_eq, option_map, is_some, ◌≡◌, ◌≤◌}
+use Rattle.std.specs.Prelude.{ℕ, zero, suc, ◌+◌, ◌/◌, ◌%◌, ◌==◌, nat_le, Bool, true, false, not, ◌&&◌, cond, Option, Some, None, List, [], ◌∷◌, length, bytes_eq, option_map, is_some, ◌≡◌, ◌≤◌}
 use Rattle.std.specs.List.{list_any, prefix_len}
 use Rattle.std.specs.Simd.{first_chunks}
 use Rattle.dir_records.specs.declared.row.DirRow.{DirRow}

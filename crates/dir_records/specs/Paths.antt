@@ -1,7 +1,6 @@
 -- The texts of paths, and where they lead from.
-use Rattle.std.specs.Prelude.{ℕ, ◌==◌, nat_le, Bool, ◌&&◌, cond, Option, Some, None, List, [], ◌∷◌, length}
-use Rattle.std.specs.List.{list_all}
-use Rattle.uid_names.specs.NameTexts.{is_name_byte}
+use Rattle.std.specs.Prelude.{ℕ, ◌==◌, nat_le, Bool, cond, Option, Some, None, List, [], ◌∷◌, length}
+use Rattle.dom_text.specs.NameWords.{is_name}
 use Rattle.dir_records.specs.declared.path.Route.{Route}
 use Rattle.dir_records.specs.declared.path.Start.{Start}
 use Rattle.dir_records.specs.declared.path.Start.TheVariants.{Root, Node, Own, Working}
@@ -20,7 +19,7 @@ pieces (b ∷ rest) = cond (b == 47) ([] ∷ pieces rest) (onto_first b (pieces 
 
 -- the name of a node, which is one of a directory too
 abbrev pub is_node_name : List ℕ → Bool
-is_node_name name = nat_le 1 (length name) && (nat_le (length name) 32 && list_all is_name_byte name)
+is_node_name name = is_name name
 
 -- the pieces, where each is a name
 abbrev pub names_of : List (List ℕ) → Option (List (List ℕ))

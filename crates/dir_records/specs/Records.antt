@@ -1,5 +1,5 @@
 -- The 64 bytes of a directory's record.
-use Rattle.std.specs.Prelude.{◌≡◌, ℕ, ◌/◌, ◌%◌, ◌^◌, nat_le, Bool, true, false, ◌&&◌, cond, Option, Some, None, List, [], ◌∷◌, ◌++◌, replicate, length, take, drop, slice_index, option_map, bytes_eq}
+use Rattle.std.specs.Prelude.{◌≡◌, ℕ, ◌/◌, ◌%◌, ◌^◌, nat_le, Bool, true, false, ◌&&◌, cond, Option, Some, None, List, ◌∷◌, ◌++◌, replicate, length, take, drop, slice_index, option_map, bytes_eq}
 use Rattle.std.specs.Int.{w64, to_be_bytes, from_be_bytes}
 use Rattle.uid_names.specs.Names.{ObjectName, IsName, number_of}
 use Rattle.uid_names.specs.Modes.{object_code, object_of_code}

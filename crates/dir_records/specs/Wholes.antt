@@ -1,5 +1,5 @@
 -- Lists that are there only where each of their parts is.
-use Rattle.std.specs.Prelude.{Option, Some, None, List, [], ◌∷◌, ◌++◌}
+use Rattle.std.specs.Prelude.{Option, Some, None, List, ◌∷◌, ◌++◌}
 
 module _ {X : Type 0} where
   -- a part before the others

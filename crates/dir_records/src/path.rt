@@ -1,12 +1,10 @@
 //! Paths.
 ghost use Rattle.std.specs.Prelude.{◌≡◌, is_some, ◌++◌, List, ℕ, None, Some, true, false, MatchOption, IfOk, OnOk, IfSome};
-ghost use Rattle.std.specs.List.{list_all};
 ghost use Rattle.dir_records.specs.Paths.{pieces, is_node_name, names_of, from_node as route_from_node, from_slash as route_from_slash, along as route_along, route_of};
-ghost use Rattle.uid_names.specs.NameTexts.{is_name_byte as may_stand_in_name};
 
 use crate::component::Component;
 use crate::names::Names;
-use dom_text::cut;
+use dom_text::{are_name_bytes, cut};
 use std::alloc::Global;
 use uid_names::NoMemory;
 
@@ -31,20 +29,6 @@ pub enum Start {
 pub struct Route {
     pub start: Start,
     pub names: Names,
-}
-
-/// Whether this byte may stand in the name of a node.
-fn is_name_byte(byte: u8) -> bool
-    ensures { result ≡ may_stand_in_name byte }
-{
-    matches!(byte, b'a'..=b'z' | b'A'..=b'Z' | b'0'..=b'9' | b'_' | b'$')
-}
-
-/// Whether each byte may stand there.
-fn are_name_bytes(name: &[u8]) -> bool
-    ensures { result ≡ list_all may_stand_in_name name.now }
-{
-    name.iter().all(|b| is_name_byte(*b))
 }
 
 /// The name of a node that a text is.

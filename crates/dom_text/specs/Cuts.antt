@@ -19,3 +19,18 @@ with_front b (Some parts) = Some (b ∷ parts.0, parts.1)
 unfoldable pub cut_at : ℕ → List ℕ → Option (List ℕ × List ℕ)
 cut_at byte [] = None
 cut_at byte (b ∷ rest) = if b == byte then Some ([], rest) else with_front b (cut_at byte rest)
+
+-- the text is cut at the last such byte
+pub record IsCutLast (byte : ℕ) (text front back : List ℕ) : Type 0 where
+  pub whole : text ≡ front ++ byte ∷ back
+  pub last : Lacks byte back
+
+-- the parts round a later such byte, with a byte in front; else those round this one
+abbrev pub or_here : ℕ → ℕ → List ℕ → Option (List ℕ × List ℕ) → Option (List ℕ × List ℕ)
+or_here byte b rest None = if b == byte then Some ([], rest) else None
+or_here byte b rest (Some parts) = Some (b ∷ parts.0, parts.1)
+
+-- the bytes before the last such one, and those behind it; nothing where there is none
+unfoldable pub cut_at_last : ℕ → List ℕ → Option (List ℕ × List ℕ)
+cut_at_last byte [] = None
+cut_at_last byte (b ∷ rest) = or_here byte b rest (cut_at_last byte rest)

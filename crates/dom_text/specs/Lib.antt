@@ -4,5 +4,6 @@ pub mod Tokens
 pub mod Lent
 pub mod Answers
 pub mod Cuts
+pub mod NameWords
 pub mod Spelled
 pub mod Walk

@@ -73,7 +73,7 @@ anew_run true run a fresh e = absurd (grind (arith, e))
 anew_run false None a fresh e = absurd (grind (arith, e))
 anew_run false (Some first) a fresh e = grind (arith, e)
 
-anew_fresh : (many : Bool) (run : Option ℕ) (a : ℕ) (fresh : Bool) → (if many then TooManyMaps else run_or_none run) ≡ At a fresh → true ≡ fresh
+pub anew_fresh : (many : Bool) (run : Option ℕ) (a : ℕ) (fresh : Bool) → (if many then TooManyMaps else run_or_none run) ≡ At a fresh → true ≡ fresh
 anew_fresh true run a fresh e = absurd (grind (arith, e))
 anew_fresh false None a fresh e = absurd (grind (arith, e))
 anew_fresh false (Some first) a fresh e = grind (arith, e)

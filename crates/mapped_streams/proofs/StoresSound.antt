@@ -1,4 +1,4 @@
--- In what one store answered, mappings of a process lie apart, and no object is longer than its room.
+-- In what one store answered, and in what it did, mappings of a process lie apart, and no object is longer than its room.
 use Rattle.std.proofs.Common.{◌≡◌, ◌<◌, ◌≤◌, ◌+◌, ◌-◌, ◌*◌, max, ℕ, Bool, true, false, not, ◌&&◌, if◌then◌else◌, Option, Some, None, List, [], ◌∷◌, ◌++◌, length, refl, ap, ◌∙◌, sym, subst, arith}
 use Rattle.std.specs.Prelude.{nat_le, nat_lt, find, filter, is_some}
 use Rattle.std.specs.List.{list_all}
@@ -21,11 +21,12 @@ use Rattle.dom_history.specs.declared.op.Reply.{Reply}
 use Rattle.dom_history.specs.declared.op.Reply.TheVariants.{Made, Fine, At, NoLock, WrongMode, PastRoom}
 use Rattle.dom_history.specs.declared.deed.Deed.{Deed}
 use Rattle.dom_history.specs.StoreEffects.{StoreEffect, Maps, store_effect, store_effects, own}
-use Rattle.dom_history.specs.Objects.{made, room_of, room_or_none}
+use Rattle.dom_history.specs.Objects.{IsOfMade, made, room_of, room_or_none}
 use Rattle.dom_history.specs.Locks.{state, is_held}
 use Rattle.dom_history.specs.Mappings.{Mapping, mappings, stretch_of, Target, target, target_in, lowest_run}
 use Rattle.dom_history.specs.Bytes.{length_of, end_after}
-use Rattle.dom_history.specs.Replies.{before_of, reply_of, may_write, store_reply, map_anew_reply, mapping_of}
+use Rattle.dom_history.specs.Legal.{MayAct}
+use Rattle.dom_history.specs.Replies.{Before, reply_of, may_write, store_reply, map_anew_reply, mapping_of}
 use Rattle.dom_history.specs.Runs.{AreAnswered}
 use Rattle.dom_history.proofs.MadeObjects.{found-step}
 use Rattle.dom_history.proofs.HeldObjects.{mapped-was_made}
@@ -33,20 +34,24 @@ use Rattle.mapped_streams.proofs.Sound.{IsReached, IsSound}
 use Rattle.mapped_streams.proofs.Reaching.{mapped_held, anew_run, in_segments, run_free, apart}
 
 module _ (opening : Start) where
+  -- what stands before an operation of a process that was told this
+  abbrev pub met : List StoreEffect → List Deed → Before
+  met past told = record { opening = opening; past = past; told = told }
+
   -- an object was made
-  abbrev IsThere : List StoreEffect → ObjectName → Type 0
+  abbrev pub IsThere : List StoreEffect → ObjectName → Type 0
   IsThere past u = is_some (find (λ o. same_uid o.uid u) (made opening past)) ≡ true
 
   -- a mapping has no address of another one, nor of some
-  abbrev IsApart : List StoreEffect → Mapping → Mapping → Type 0
+  abbrev pub IsApart : List StoreEffect → Mapping → Mapping → Type 0
   IsApart past m n = (a : ℕ) → lies_in a (stretch_of opening past n) ≡ true → lies_in a (stretch_of opening past m) ≡ false
 
-  abbrev IsClear : List StoreEffect → Mapping → List Mapping → Type 0
+  abbrev pub IsClear : List StoreEffect → Mapping → List Mapping → Type 0
   IsClear past m [] = Unit {0}
   IsClear past m (n ∷ ns) = IsApart past m n × IsClear past m ns
 
   -- mappings are of objects that were made, and lie apart
-  abbrev AreApart : List StoreEffect → List Mapping → Type 0
+  abbrev pub AreApart : List StoreEffect → List Mapping → Type 0
   AreApart past [] = Unit {0}
   AreApart past (m ∷ ms) = IsThere past m.uid × IsClear past m ms × AreApart past ms
 
@@ -59,7 +64,7 @@ module _ (opening : Start) where
     there_by u None e there = absurd (false≢true (subst (λ x. is_some x ≡ true) e there))
     there_by u (Some o) e there = ap is_some (found-step q op reply opening past (λ o. same_uid o.uid u) o e)
 
-    there_later : (u : ObjectName) → IsThere past u → IsThere later u
+    pub there_later : (u : ObjectName) → IsThere past u → IsThere later u
     there_later u there = there_by u (find (λ o. same_uid o.uid u) (made opening past)) refl there
 
     room_by : (u : ObjectName) (found : Option Object) → find (λ o. same_uid o.uid u) (made opening past) ≡ found → IsThere past u → room_of opening later u ≡ room_of opening past u
@@ -70,7 +75,7 @@ module _ (opening : Start) where
     grows_by u None e = subst (λ x. room_or_none x ≤ room_of opening later u) (sym e) (omega arith)
     grows_by u (Some o) e = subst (λ n. room_of opening past u ≤ n) (sym (room_by u (Some o) e (ap is_some e))) (omega arith)
 
-    room_grows : (u : ObjectName) → room_of opening past u ≤ room_of opening later u
+    pub room_grows : (u : ObjectName) → room_of opening past u ≤ room_of opening later u
     room_grows u = grows_by u (find (λ o. same_uid o.uid u) (made opening past)) refl
 
     stretch_later : (m : Mapping) → IsThere past m.uid → stretch_of opening later m ≡ stretch_of opening past m
@@ -110,13 +115,10 @@ module _ (opening : Start) where
       let others = list_all (λ m. is_apart (segments (room_of opening past u)) first (stretch_of opening past m)) ns in
       (λ a e. apart a (segments (room_of opening past u)) first (stretch_of opening past n) (left-true here others free) e, clear_new past u first ns (right-true here others free))
 
-  new_by : (deeds : List Deed) (q : ProcName) (u : ObjectName) (a : ℕ) (found : Option Mapping) → map_anew_reply (before_of opening deeds q) q u found ≡ At a true → IsClear (store_effects deeds) (record { uid = u; address = a }) (mappings q (store_effects deeds))
-  new_by deeds q u a (Some m) e = absurd (grind (arith, e))
-  new_by deeds q u a None e = by_run (lowest_run opening past q (segments (room_of opening past u))) refl (anew_run (nat_le PROCESS_MAPPINGS (length (mappings q past))) (lowest_run opening past q (segments (room_of opening past u))) a true e)
+  new_by : (past : List StoreEffect) (told : List Deed) (q : ProcName) (u : ObjectName) (a : ℕ) (found : Option Mapping) → map_anew_reply (met past told) q u found ≡ At a true → IsClear past (record { uid = u; address = a }) (mappings q past)
+  new_by past told q u a (Some m) e = absurd (grind (arith, e))
+  new_by past told q u a None e = by_run (lowest_run opening past q (segments (room_of opening past u))) refl (anew_run (nat_le PROCESS_MAPPINGS (length (mappings q past))) (lowest_run opening past q (segments (room_of opening past u))) a true e)
     where
-      past : List StoreEffect
-      past = store_effects deeds
-
       by_run : (run : Option ℕ) → lowest_run opening past q (segments (room_of opening past u)) ≡ run → option_map (λ first. first * SEGMENT_SIZE) run ≡ Some a → IsClear past (record { uid = u; address = a }) (mappings q past)
       by_run None r at = absurd (grind (arith, at))
       by_run (Some first) r at =
@@ -124,32 +126,37 @@ module _ (opening : Start) where
           subst (λ x. IsClear past (record { uid = u; address = x }) (mappings q past)) start (clear_new past u first (mappings q past) (run_free opening q past u first r))
 
   -- each answer leaves the mappings of each process apart
-  mapped_apart : (deeds : List Deed) (p q : ProcName) (u : ObjectName) (a : ℕ) (b : Bool) → same_proc p q ≡ b → AreAnswered opening deeds → At a true ≡ reply_of (before_of opening deeds q) q (Map u) → AreApart (store_effects deeds) (mappings p (store_effects deeds)) → AreApart (Maps q u a ∷ store_effects deeds) (mappings p (Maps q u a ∷ store_effects deeds))
-  mapped_apart deeds p q u a false e answered told h = rw e (apart_later q (Map u) (At a true) (store_effects deeds) (mappings p (store_effects deeds)) h)
-  mapped_apart deeds p q u a true e answered told h =
-      let past = store_effects deeds in
-      let there = mapped-was_made opening deeds q (Map u) (At a true) answered told in
-      let anew = mapped_held (is_held (state u (own q deeds))) (map_anew_reply (before_of opening deeds q) q u (mapping_of (before_of opening deeds q) q u)) a true (sym told) in
-      let clear = subst (λ x. IsClear past (record { uid = u; address = a }) (mappings x past)) (sym (same_proc_is p q e)) (new_by deeds q u a (mapping_of (before_of opening deeds q) q u) anew) in
+  mapped_apart : (past : List StoreEffect) (told : List Deed) (p q : ProcName) (u : ObjectName) (a : ℕ) (b : Bool) → same_proc p q ≡ b → IsThere past u → At a true ≡ reply_of (met past told) q (Map u) → AreApart past (mappings p past) → AreApart (Maps q u a ∷ past) (mappings p (Maps q u a ∷ past))
+  mapped_apart past told p q u a false e there is h = rw e (apart_later q (Map u) (At a true) past (mappings p past) h)
+  mapped_apart past told p q u a true e there is h =
+      let anew = mapped_held (is_held (state u told)) (map_anew_reply (met past told) q u (mapping_of (met past told) q u)) a true (sym is) in
+      let clear = subst (λ x. IsClear past (record { uid = u; address = a }) (mappings x past)) (sym (same_proc_is p q e)) (new_by past told q u a (mapping_of (met past told) q u) anew) in
       rw e (apart_later q (Map u) (At a true) past (record { uid = u; address = a } ∷ mappings p past) (there, clear, h))
 
   unmapped_apart : (past : List StoreEffect) (p q : ProcName) (u : ObjectName) (b : Bool) → same_proc p q ≡ b → AreApart past (mappings p past) → AreApart (store_effect q (Unmap u) Fine ++ past) (mappings p (store_effect q (Unmap u) Fine ++ past))
   unmapped_apart past p q u true e h = rw e (apart_filter (store_effect q (Unmap u) Fine ++ past) (λ m. not (same_uid u m.uid)) (mappings p past) (apart_later q (Unmap u) Fine past (mappings p past) h))
   unmapped_apart past p q u false e h = rw e (apart_later q (Unmap u) Fine past (mappings p past) h)
 
-  step_apart : (deeds : List Deed) (p q : ProcName) (op : Op) (reply : Reply) → AreAnswered opening deeds → reply ≡ reply_of (before_of opening deeds q) q op → AreApart (store_effects deeds) (mappings p (store_effects deeds)) → AreApart (store_effect q op reply ++ store_effects deeds) (mappings p (store_effect q op reply ++ store_effects deeds))
-  step_apart deeds p q (New home kind room) (Made u) answered e h = apart_later q (New home kind room) (Made u) (store_effects deeds) (mappings p (store_effects deeds)) h
-  step_apart deeds p q (Lock u m) Fine answered e h = apart_later q (Lock u m) Fine (store_effects deeds) (mappings p (store_effects deeds)) h
-  step_apart deeds p q (Unlock u) Fine answered e h = apart_later q (Unlock u) Fine (store_effects deeds) (mappings p (store_effects deeds)) h
-  step_apart deeds p q (Delete u) Fine answered e h = apart_later q (Delete u) Fine (store_effects deeds) (mappings p (store_effects deeds)) h
-  step_apart deeds p q (Store spot bytes) Fine answered e h = apart_later q (Store spot bytes) Fine (store_effects deeds) (mappings p (store_effects deeds)) h
-  step_apart deeds p q (Map u) (At a true) answered e h = mapped_apart deeds p q u a (same_proc p q) refl answered e h
-  step_apart deeds p q (Unmap u) Fine answered e h = unmapped_apart (store_effects deeds) p q u (same_proc p q) refl h
-  step_apart deeds p q _ _ answered e h = h
+  step_apart : (past : List StoreEffect) (told : List Deed) (p q : ProcName) (op : Op) (reply : Reply) → IsOfMade (made opening past) op reply → reply ≡ reply_of (met past told) q op → AreApart past (mappings p past) → AreApart (store_effect q op reply ++ past) (mappings p (store_effect q op reply ++ past))
+  step_apart past told p q (New home kind room) (Made u) there e h = apart_later q (New home kind room) (Made u) past (mappings p past) h
+  step_apart past told p q (Lock u m) Fine there e h = apart_later q (Lock u m) Fine past (mappings p past) h
+  step_apart past told p q (Unlock u) Fine there e h = apart_later q (Unlock u) Fine past (mappings p past) h
+  step_apart past told p q (Delete u) Fine there e h = apart_later q (Delete u) Fine past (mappings p past) h
+  step_apart past told p q (Store spot bytes) Fine there e h = apart_later q (Store spot bytes) Fine past (mappings p past) h
+  step_apart past told p q (Map u) (At a true) there e h = mapped_apart past told p q u a (same_proc p q) refl there e h
+  step_apart past told p q (Unmap u) Fine there e h = unmapped_apart past p q u (same_proc p q) refl h
+  step_apart past told p q _ _ there e h = h
 
-  all_apart : (deeds : List Deed) (p : ProcName) → AreAnswered opening deeds → AreApart (store_effects deeds) (mappings p (store_effects deeds))
-  all_apart [] p answered = tt
-  all_apart (d ∷ deeds) p answered = step_apart deeds p d.proc d.op d.reply answered.1 answered.0 (all_apart deeds p answered.1)
+  -- and so does what a home does for a process that is not told of it
+  act_apart : (past : List StoreEffect) (p q : ProcName) (op : Op) (reply : Reply) → MayAct opening past q op reply → AreApart past (mappings p past) → AreApart (store_effect q op reply ++ past) (mappings p (store_effect q op reply ++ past))
+  act_apart past p q (New home kind room) (Made u) may h = apart_later q (New home kind room) (Made u) past (mappings p past) h
+  act_apart past p q (Lock u m) Fine may h = apart_later q (Lock u m) Fine past (mappings p past) h
+  act_apart past p q (Unlock u) Fine may h = apart_later q (Unlock u) Fine past (mappings p past) h
+  act_apart past p q (Delete u) Fine may h = apart_later q (Delete u) Fine past (mappings p past) h
+  act_apart past p q (Store spot bytes) reply may h = absurd may
+  act_apart past p q (Map u) reply may h = absurd may
+  act_apart past p q (Unmap u) reply may h = absurd may
+  act_apart past p q _ _ may h = h
 
   -- a store that is answered Fine ends within the room of its object
   within_room : (held writes past_room : Bool) → Fine ≡ (if not held then NoLock else if not writes then WrongMode else if past_room then PastRoom else Fine) → past_room ≡ false
@@ -167,11 +174,10 @@ module _ (opening : Start) where
       both : (m n limit : ℕ) → m ≤ limit → n ≤ limit → max m n ≤ limit
       both m n limit h k = grind (arith, h, k)
 
-  written_within : (deeds : List Deed) (q : ProcName) (spot : Spot) (bytes : List ℕ) (u : ObjectName) (t : Option Target) → target opening (store_effects deeds) q spot ≡ t → Fine ≡ store_reply (before_of opening deeds q) t bytes → length_of opening (store_effects deeds) u ≤ PAGE_BYTES * room_of opening (store_effects deeds) u → end_after t bytes u (length_of opening (store_effects deeds) u) ≤ PAGE_BYTES * room_of opening (store_effects deeds) u
-  written_within deeds q spot bytes u None e told h = absurd (grind (arith, told))
-  written_within deeds q spot bytes u (Some t) e told h =
-      let past = store_effects deeds in
-      let test = within_room (is_held (state t.uid (own q deeds))) (may_write (state t.uid (own q deeds))) (nat_lt (PAGE_BYTES * room_of opening past t.uid) (t.offset + length bytes)) told in
+  written_within : (past : List StoreEffect) (told : List Deed) (q : ProcName) (spot : Spot) (bytes : List ℕ) (u : ObjectName) (t : Option Target) → target opening past q spot ≡ t → Fine ≡ store_reply (met past told) t bytes → length_of opening past u ≤ PAGE_BYTES * room_of opening past u → end_after t bytes u (length_of opening past u) ≤ PAGE_BYTES * room_of opening past u
+  written_within past told q spot bytes u None e is h = absurd (grind (arith, is))
+  written_within past told q spot bytes u (Some t) e is h =
+      let test = within_room (is_held (state t.uid told)) (may_write (state t.uid told)) (nat_lt (PAGE_BYTES * room_of opening past t.uid) (t.offset + length bytes)) is in
       let fits : t.offset + length bytes ≤ PAGE_BYTES * room_of opening past t.uid = grind (arith, nat_tests, test) in
       written_length past u t.uid (t.offset + length bytes) (same_uid t.uid u) refl fits h
 
@@ -181,19 +187,25 @@ module _ (opening : Start) where
       omega (arith, h, more)
 
   -- each answer leaves each object within its room
-  step_within : (deeds : List Deed) (q : ProcName) (op : Op) (reply : Reply) (u : ObjectName) → reply ≡ reply_of (before_of opening deeds q) q op → length_of opening (store_effects deeds) u ≤ PAGE_BYTES * room_of opening (store_effects deeds) u → length_of opening (store_effect q op reply ++ store_effects deeds) u ≤ PAGE_BYTES * room_of opening (store_effect q op reply ++ store_effects deeds) u
-  step_within deeds q (New home kind room) (Made v) u e h = grown q (New home kind room) (Made v) (store_effects deeds) u (length_of opening (store_effects deeds) u) h
-  step_within deeds q (Lock v m) Fine u e h = h
-  step_within deeds q (Unlock v) Fine u e h = h
-  step_within deeds q (Delete v) Fine u e h = h
-  step_within deeds q (Store spot bytes) Fine u e h = written_within deeds q spot bytes u (target opening (store_effects deeds) q spot) refl e h
-  step_within deeds q (Map v) (At a true) u e h = h
-  step_within deeds q (Unmap v) Fine u e h = h
-  step_within deeds q _ _ u e h = h
+  step_within : (past : List StoreEffect) (told : List Deed) (q : ProcName) (op : Op) (reply : Reply) (u : ObjectName) → reply ≡ reply_of (met past told) q op → length_of opening past u ≤ PAGE_BYTES * room_of opening past u → length_of opening (store_effect q op reply ++ past) u ≤ PAGE_BYTES * room_of opening (store_effect q op reply ++ past) u
+  step_within past told q (New home kind room) (Made v) u e h = grown q (New home kind room) (Made v) past u (length_of opening past u) h
+  step_within past told q (Lock v m) Fine u e h = h
+  step_within past told q (Unlock v) Fine u e h = h
+  step_within past told q (Delete v) Fine u e h = h
+  step_within past told q (Store spot bytes) Fine u e h = written_within past told q spot bytes u (target opening past q spot) refl e h
+  step_within past told q (Map v) (At a true) u e h = h
+  step_within past told q (Unmap v) Fine u e h = h
+  step_within past told q _ _ u e h = h
 
-  all_within : (deeds : List Deed) (u : ObjectName) → AreAnswered opening deeds → length_of opening (store_effects deeds) u ≤ PAGE_BYTES * room_of opening (store_effects deeds) u
-  all_within [] u answered = omega arith
-  all_within (d ∷ deeds) u answered = step_within deeds d.proc d.op d.reply u answered.0 (all_within deeds u answered.1)
+  act_within : (past : List StoreEffect) (q : ProcName) (op : Op) (reply : Reply) (u : ObjectName) → MayAct opening past q op reply → length_of opening past u ≤ PAGE_BYTES * room_of opening past u → length_of opening (store_effect q op reply ++ past) u ≤ PAGE_BYTES * room_of opening (store_effect q op reply ++ past) u
+  act_within past q (New home kind room) (Made v) u may h = grown q (New home kind room) (Made v) past u (length_of opening past u) h
+  act_within past q (Lock v m) Fine u may h = h
+  act_within past q (Unlock v) Fine u may h = h
+  act_within past q (Delete v) Fine u may h = h
+  act_within past q (Store spot bytes) reply u may h = absurd may
+  act_within past q (Map v) reply u may h = absurd may
+  act_within past q (Unmap v) reply u may h = absurd may
+  act_within past q _ _ u may h = h
 
   -- a mapping is found at each of its addresses
   lies_within : (past : List StoreEffect) (m : Mapping) (o : ℕ) → o < PAGE_BYTES * room_of opening past m.uid → lies_in (m.address + o) (stretch_of opening past m) ≡ true
@@ -239,9 +251,32 @@ module _ (opening : Start) where
       ∙ ap (λ i. Some (record { uid = m.uid; offset = i })) offset
       ∙ ap (λ v. Some (record { uid = v; offset = o })) (sym own)
 
-  -- what one store answered is sound for each process
-  pub answered_sound : (deeds : List Deed) (p : ProcName) → AreAnswered opening deeds → IsSound opening (store_effects deeds) p
-  answered_sound deeds p answered = record {
-    reached = λ u m e. all_reached (store_effects deeds) p u m (all_apart deeds p answered) e;
-    lengths = λ u. all_within deeds u answered;
+  -- in such effects mappings lie apart and objects lie within their rooms
+  pub record AreKept (past : List StoreEffect) : Type 0 where
+    pub apart : (p : ProcName) → AreApart past (mappings p past)
+    pub within : (u : ObjectName) → length_of opening past u ≤ PAGE_BYTES * room_of opening past u
+
+  pub first_kept : AreKept []
+  first_kept = record { apart = λ p. tt; within = λ u. omega arith }
+
+  pub step_kept : (past : List StoreEffect) (told : List Deed) (q : ProcName) (op : Op) (reply : Reply) → IsOfMade (made opening past) op reply → reply ≡ reply_of (met past told) q op → AreKept past → AreKept (store_effect q op reply ++ past)
+  step_kept past told q op reply there e h = record {
+    apart = λ p. step_apart past told p q op reply there e (h.apart p);
+    within = λ u. step_within past told q op reply u e (h.within u);
   }
+
+  pub act_kept : (past : List StoreEffect) (q : ProcName) (op : Op) (reply : Reply) → MayAct opening past q op reply → AreKept past → AreKept (store_effect q op reply ++ past)
+  act_kept past q op reply may h = record { apart = λ p. act_apart past p q op reply may (h.apart p); within = λ u. act_within past q op reply u may (h.within u) }
+
+  -- they are sound for each process
+  pub kept_sound : (past : List StoreEffect) (p : ProcName) → AreKept past → IsSound opening past p
+  kept_sound past p h = record { reached = λ u m e. all_reached past p u m (h.apart p) e; lengths = h.within }
+
+  -- and so is what one store answered
+  answered_kept : (deeds : List Deed) → AreAnswered opening deeds → AreKept (store_effects deeds)
+  answered_kept [] answered = first_kept
+  answered_kept (d ∷ deeds) answered =
+      step_kept (store_effects deeds) (own d.proc deeds) d.proc d.op d.reply (mapped-was_made opening deeds d.proc d.op d.reply answered.1 answered.0) answered.0 (answered_kept deeds answered.1)
+
+  pub answered_sound : (deeds : List Deed) (p : ProcName) → AreAnswered opening deeds → IsSound opening (store_effects deeds) p
+  answered_sound deeds p answered = kept_sound (store_effects deeds) p (answered_kept deeds answered)

@@ -26,6 +26,7 @@ fn result_word(come: &NameResult) -> &'static [u8] {
         NameResult::Found(_) => b"found",
         NameResult::Added(_) => b"added",
         NameResult::Removed => b"removed",
+        NameResult::Under(_) => b"under",
         NameResult::Rows(_) => b"rows",
         NameResult::Nodes => b"nodes",
         NameResult::NoName => b"no name",

@@ -8,6 +8,7 @@ use Rattle.uid_names.specs.declared.mode.ObjKind.TheVariants.{Directory}
 use Rattle.dom_history.specs.declared.op.Reply.{Reply}
 use Rattle.dir_records.specs.declared.path.Route.{Route}
 use Rattle.dir_records.specs.declared.path.Start.{Start}
+use Rattle.naming_tree.specs.declared.purpose.Purpose.{Purpose}
 use Rattle.naming_tree.specs.declared.site.Site.{Site}
 use Rattle.naming_tree.specs.declared.session.Entering.TheVariants as entering
 use Rattle.naming_tree.specs.declared.session.Entering.{Entering}
@@ -18,13 +19,13 @@ use Rattle.naming_tree.specs.declared.changing.Stage.TheVariants as stages
 use Rattle.naming_tree.specs.declared.step.Walked.{Walked}
 use Rattle.naming_tree.specs.declared.step.Walked.TheVariants.{Root, At}
 use Rattle.naming_tree.specs.declared.step.NameResult.{NameResult}
-use Rattle.naming_tree.specs.declared.step.NameResult.TheVariants.{Found}
+use Rattle.naming_tree.specs.declared.step.NameResult.TheVariants.{Found, NotDir}
 use Rattle.naming_tree.specs.declared.reading.Reading.{Reading}
 use Rattle.naming_tree.specs.declared.changing.Changing.{Changing}
 use Rattle.naming_tree.specs.declared.walking.Aim.TheVariants.{Begin}
 use Rattle.naming_tree.specs.declared.walking.Walking.{Walking}
 use Rattle.naming_tree.specs.declared.task.Task.{Task}
-use Rattle.naming_tree.specs.declared.task.Task.TheVariants.{List as ListRows, Change}
+use Rattle.naming_tree.specs.declared.task.Task.TheVariants.{List as ListRows, Change, Reach}
 use Rattle.naming_tree.specs.declared.by_path.ByPath.{ByPath}
 use Rattle.dir_records.specs.Directories.{rows_in}
 use Rattle.dir_records.specs.Paths.{route_of}
@@ -38,11 +39,11 @@ use Rattle.naming_tree.specs.Changing.{changing_after, changing_of, IsChange}
 use Rattle.naming_tree.specs.Walks.{start_at, most_links, on_start, on_route, along, follow}
 use Rattle.naming_tree.specs.Walking.{walking_after, walking_of, moved}
 use Rattle.dir_records.specs.LastNames.{last_of}
-use Rattle.naming_tree.specs.NamePaths.{in_directory, listing, listed, by_parent, on_last, added_alone, removed_alone, addition, add_name, drop_name, list_dir}
+use Rattle.naming_tree.specs.NamePaths.{in_directory, listing, listed, by_parent, on_last, alone_for, added_alone, removed_alone, reached, to_parent, addition, add_name, drop_name, list_dir}
 use Rattle.naming_tree.specs.Tasks.{turn_in, task_begins, task_after, task_asks, list_at, at_root}
-use Rattle.naming_tree.specs.ByPaths.{on_task, at_object, on_found, on_walk, told_at, unless_alone, by_path_after, by_path_asks, asks_at, walked_to, alone_with, list_dir_of, add_name_of, drop_name_of}
+use Rattle.naming_tree.specs.ByPaths.{on_task, at_object, on_found, on_walk, told_at, unless_alone, by_path_after, by_path_asks, asks_at, walked_to, alone_with, list_dir_of, to_parent_of, add_name_of, drop_name_of}
 use Rattle.naming_tree.specs.ByPaths as paths
-use Rattle.naming_tree.specs.Sayings.{ListSays, AddSays, DropSays}
+use Rattle.naming_tree.specs.Sayings.{ListSays, ParentSays, AddSays, DropSays}
 use Rattle.naming_tree.proofs.ReadingsLeft.{reading_left}
 use Rattle.naming_tree.proofs.ReadingsOn.{IsSound, reading_on, reading_sound}
 use Rattle.naming_tree.proofs.ReadingsSay.{reading_says}
@@ -59,6 +60,7 @@ use Rattle.naming_tree.proofs.Machines.{IsAt, Tells, fits_asked, says_all}
 abbrev pub found : Task → Walked → Dialogue
 found (ListRows r) = listing
 found (Change c) = in_directory (λ u. changed u (change_in c.change))
+found (Reach name) = in_directory (reached name)
 
 -- what is left of a task that has begun
 abbrev rows_then : List ℕ → Dialogue
@@ -67,6 +69,7 @@ rows_then bytes = Ends (listed (rows_in bytes))
 abbrev pub task_left : Task → Dialogue
 task_left (ListRows r) = reading_left r rows_then
 task_left (Change c) = changing_left c
+task_left (Reach name) = Ends NotDir
 
 abbrev pub left_at : Option Walking → Task → Dialogue
 left_at (Some w) task = walk_left (found task) w
@@ -83,11 +86,13 @@ turn_left (Comes result) = Ends result
 abbrev pub IsFresh : Task → Type 0
 IsFresh (ListRows r) = Unit {0}
 IsFresh (Change c) = IsChange c.change × (c.bytes ≡ [])
+IsFresh (Reach name) = Unit {0}
 
 -- a task that has begun
 abbrev pub IsGoing : Task → Type 0
 IsGoing (ListRows r) = IsSound r × (is_done r ≡ false)
 IsGoing (Change c) = changes.Live c
+IsGoing (Reach name) = ⊥
 
 abbrev pub LiveAt : Option Walking → Task → Type 0
 LiveAt (Some w) task = walks.Live w × IsFresh task
@@ -121,24 +126,29 @@ task_live (Comes result) b e h = tt
 begins_left : (task : Task) (u : ObjectName) → IsFresh task → task_turn_left (task_begins u task) ≡ found task (At u Directory None)
 begins_left (ListRows r) u h = refl
 begins_left (Change c) u h = ap (λ (bytes : List ℕ). changing_left (record c { parent = u; bytes = bytes; stage = Some (stages.Enter entering.Lock) })) h.1
+begins_left (Reach name) u h = refl
 
 begins_live : (task : Task) (u : ObjectName) → IsFresh task → GoingTurn (task_begins u task)
 begins_live (ListRows r) u h = (tt, refl)
 begins_live (Change c) u h = changes.begun_live (record c { parent = u }) h.0
+begins_live (Reach name) u h = tt
 
 root_left : (task : Task) → Ends (at_root task) ≡ found task Root
 root_left (ListRows r) = refl
 root_left (Change c) = refl
+root_left (Reach name) = refl
 
 same_place : (task : Task) (u : ObjectName) (within : Option Within) → found task (At u Directory None) ≡ found task (At u Directory within)
 same_place (ListRows r) u within = refl
 same_place (Change c) u within = refl
+same_place (Reach name) u within = refl
 
 no_directory : (task : Task) (u : ObjectName) (kind : ObjKind) (within : Option Within) (b : ByPath) → b.task ≡ task → IsFresh task → turn_left (at_object kind u b) ≡ found task (At u kind within)
 no_directory task u Directory within b e h =
     task_turn (task_begins u b.task) b ∙ ap (λ (t : Task). task_turn_left (task_begins u t)) e ∙ begins_left task u h ∙ same_place task u within
 no_directory (ListRows r) u kind within b e h = refl
 no_directory (Change c) u kind within b e h = refl
+no_directory (Reach name) u kind within b e h = refl
 
 found_left : (result : NameResult) (b : ByPath) → IsFresh b.task → turn_left (on_found result b) ≡ walk.end_left (found b.task) result
 found_left (Found Root) b h = root_left b.task
@@ -184,17 +194,20 @@ task_on (ListRows r) reply h fits =
     let next = reading_after r reply in
     rows_at next next.enter next.closing.held next.closing.refused refl refl refl ∙ sym (reading_on r reply rows_then h.0 h.1)
 task_on (Change c) reply h fits = change_turn (changing_after c (Some reply)) ∙ change_on c reply h.sound h.on fits
+task_on (Reach name) reply h fits = absurd h
 
 task_on_live : (task : Task) (reply : Reply) → IsGoing task → FitsAsked (task_asks task) (Some reply) → GoingTurn (task_after task reply)
 task_on_live (ListRows r) reply h fits =
     let next = reading_after r reply in
     rows_live next (is_done next) next.closing.refused (reading_sound r reply h.0 fits) refl
 task_on_live (Change c) reply h fits = change_going (changing_after c (Some reply)) (change_live c reply h fits)
+task_on_live (Reach name) reply h fits = absurd h
 
 -- what it asks is what its dialogue says
 task_asked : (task : Task) → IsGoing task → does (task_asks task) ≡ Some (says (task_left task))
 task_asked (ListRows r) h = ap Some (sym (reading_says r rows_then h.0 h.1))
 task_asked (Change c) h = changes.asked_live c h
+task_asked (Reach name) h = absurd h
 
 asked_at : (walking : Option Walking) (task : Task) → LiveAt walking task → does (asks_at None walking task) ≡ Some (says (left_at walking task))
 asked_at (Some w) task h = ap does h.0.asks ∙ ap Some (sym (reading_says w.reading (behind (found task) w.aim w) h.0.sound h.0.going))
@@ -284,6 +297,13 @@ add_says site path working kind room text heard (Some route) e some in_room is_t
     (λ name. (record { room = in_room; text = is_text }, refl)) (λ name. refl)
     (subst (λ r. FitsHeard (by_parent site r working added_alone (λ name parent. add_at parent (addition kind room text name))) heard) e fits))
 
+parent_says : (site : Site) (path : List ℕ) (working : ObjectName) (purpose : Purpose) (heard : List Reply) (route : Option Route) → route_of path ≡ route → IsSome route → FitsHeard (to_parent site path working purpose) heard → machine_says by_path_asks by_path_after (to_parent_of site (route_of path) working purpose) heard ≡ Some (says (after (to_parent site path working purpose) heard))
+parent_says site path working purpose heard None e some fits = absurd (none_some some)
+parent_says site path working purpose heard (Some route) e some fits =
+    rw e (last_says site route.start working (alone_for purpose) Reach reached (last_of route.names) heard
+    (λ name. tt) (λ name. refl)
+    (subst (λ r. FitsHeard (by_parent site r working (alone_for purpose) reached) heard) e fits))
+
 drop_says : (site : Site) (path : List ℕ) (working : ObjectName) (heard : List Reply) (route : Option Route) → route_of path ≡ route → IsSome route → FitsHeard (drop_name site path working) heard → machine_says by_path_asks by_path_after (drop_name_of site (route_of path) working) heard ≡ Some (says (after (drop_name site path working) heard))
 drop_says site path working heard None e some fits = absurd (none_some some)
 drop_says site path working heard (Some route) e some fits =
@@ -293,6 +313,9 @@ drop_says site path working heard (Some route) e some fits =
 
 pub list_heard : (site : Site) (path : List ℕ) (working : ObjectName) → ListSays site path working
 list_heard site path working some heard fits = list_says site path working heard (route_of path) refl some fits
+
+pub parent_heard : (site : Site) (path : List ℕ) (working : ObjectName) (purpose : Purpose) → ParentSays site path working purpose
+parent_heard site path working purpose some heard fits = parent_says site path working purpose heard (route_of path) refl some fits
 
 pub add_heard : (site : Site) (path : List ℕ) (working : ObjectName) (kind : ObjKind) (room : ℕ) (text : Option (List ℕ)) → AddSays site path working kind room text
 add_heard site path working kind room text some in_room is_text heard fits = add_says site path working kind room text heard (route_of path) refl some in_room is_text fits

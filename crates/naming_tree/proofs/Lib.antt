@@ -15,5 +15,7 @@ pub mod AddingsLeft
 pub mod RemovingsLeft
 pub mod ChangingsLeft
 pub mod ByPathsLeft
+pub mod ListsAt
+pub mod ListsLeft
 pub mod Ready
 pub mod WalksBounded

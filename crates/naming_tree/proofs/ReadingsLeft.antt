@@ -20,7 +20,7 @@ use Rattle.naming_tree.specs.declared.step.NameResult.TheVariants.{Store}
 use Rattle.naming_tree.specs.declared.reading.Reading.{Reading}
 use Rattle.naming_tree.specs.Entering.{pages, page_load, entry_of, on_lock, on_length, on_map, on_load, bytes_after, loaded, held_op, close_op, held_after, rest_held, closing_after, is_fine, refusal, IsEntering}
 use Rattle.naming_tree.specs.Dialogues.{Dialogue, told}
-use Rattle.naming_tree.specs.Sessions.{fine, size, place, bytes as bytes_in, closing, go_on, ask, closers, closers_if, shutting, loading, loads_from, opening}
+use Rattle.naming_tree.specs.Sessions.{fine, size, place, bytes as bytes_in, closing, go_on, ask, closers, closers_if, shutting, loading, loads_from}
 use Rattle.naming_tree.specs.Readings.{stage_of, closing_of}
 
 -- the operations that close what is held

@@ -25,7 +25,7 @@ use Rattle.naming_tree.specs.Dialogues.{Dialogue, Ends, told, says, after, FitsS
 use Rattle.naming_tree.specs.Sayings.{WalkSays}
 use Rattle.naming_tree.specs.Turns.{does, Turn, Goes, Comes, machine_says}
 use Rattle.naming_tree.specs.Readings.{reading_after, reading_op, is_done}
-use Rattle.naming_tree.specs.Walks.{start_at, at_row, holder, at_end, at_middle, most_links, on_start, on_route, along, follow, walk}
+use Rattle.naming_tree.specs.Walks.{start_at, at_row, holder, at_end, at_middle, most_links, on_start, on_route, along, follow}
 use Rattle.naming_tree.specs.Walking.{looks, follows, stands, settled, at_found, at_slots, at_route, moved_by, moved, on_reading, walking_after, walking_asks, asks_at, walking_of, walk_of}
 use Rattle.naming_tree.proofs.ReadingsOn.{IsSound, reading_sound}
 use Rattle.naming_tree.proofs.ReadingsSay.{reading_says}

@@ -14,13 +14,14 @@ use Rattle.naming_tree.specs.declared.step.NameResult.TheVariants.{Found, NotDir
 use Rattle.naming_tree.specs.declared.walking.Walking.{Walking}
 use Rattle.dir_records.specs.declared.path.Start.{Start}
 use Rattle.naming_tree.specs.declared.task.Task.{Task}
-use Rattle.naming_tree.specs.declared.task.Task.TheVariants.{List as ListRows, Change}
+use Rattle.naming_tree.specs.declared.task.Task.TheVariants.{List as ListRows, Change, Reach}
 use Rattle.naming_tree.specs.declared.changing.Change.TheVariants.{Add, Remove}
 use Rattle.naming_tree.specs.Readings.{reading_of}
 use Rattle.naming_tree.specs.Changing.{changing_of}
 use Rattle.naming_tree.specs.Walks.{start_at}
 use Rattle.dir_records.specs.LastNames.{last_of}
-use Rattle.naming_tree.specs.NamePaths.{added_alone, removed_alone, addition}
+use Rattle.naming_tree.specs.NamePaths.{alone_for, added_alone, removed_alone, addition}
+use Rattle.naming_tree.specs.declared.purpose.Purpose.{Purpose}
 use Rattle.naming_tree.specs.declared.by_path.ByPath.{ByPath}
 use Rattle.naming_tree.specs.Turns.{Turn, Goes, Comes}
 use Rattle.naming_tree.specs.Walking.{walking_after, walking_asks, walking_of, IsWalking}
@@ -108,6 +109,11 @@ on_last site start working alone task (Some (front, name)) = walked_to site (rec
 abbrev pub list_dir_of : Site → Option Route → ObjectName → Option ByPath
 list_dir_of site None working = None
 list_dir_of site (Some route) working = Some (walked_to site route working (ListRows (reading_of working)))
+
+-- a path leads to the directory of its last name, where the text is a path's
+abbrev pub to_parent_of : Site → Option Route → ObjectName → Purpose → Option ByPath
+to_parent_of site None working purpose = None
+to_parent_of site (Some route) working purpose = Some (on_last site route.start working (alone_for purpose) Reach (last_of route.names))
 
 abbrev pub add_name_of : Site → Option Route → ObjectName → ObjKind → ℕ → Option (List ℕ) → Option ByPath
 add_name_of site None working kind room text = None

@@ -13,6 +13,7 @@ pub mod Removing
 pub mod Changing
 pub mod NamePaths
 pub mod Tasks
+pub mod ListsAt
 pub mod ByPaths
 pub mod Turns
 pub mod Walking

@@ -7,10 +7,12 @@ use Rattle.dir_records.specs.declared.row.DirRow.{DirRow}
 use Rattle.dir_records.specs.declared.path.Route.{Route}
 use Rattle.naming_tree.specs.declared.site.Site.{Site}
 use Rattle.naming_tree.specs.declared.addition.Addition.{Addition}
+use Rattle.naming_tree.specs.declared.purpose.Purpose.{Purpose}
+use Rattle.naming_tree.specs.declared.purpose.Purpose.TheVariants.{Adds, Drops}
 use Rattle.naming_tree.specs.declared.step.Walked.{Walked}
 use Rattle.naming_tree.specs.declared.step.Walked.TheVariants.{Root, At}
 use Rattle.naming_tree.specs.declared.step.NameResult.{NameResult}
-use Rattle.naming_tree.specs.declared.step.NameResult.TheVariants.{Nodes, Rows, NoName, NameExists, NotDir, IsDir, BadDir}
+use Rattle.naming_tree.specs.declared.step.NameResult.TheVariants.{Under, Nodes, Rows, NoName, NameExists, NotDir, IsDir, BadDir}
 use Rattle.dir_records.specs.Directories.{rows_in}
 use Rattle.dir_records.specs.LastNames.{last_of}
 use Rattle.dir_records.specs.Listings.{by_name}
@@ -50,6 +52,17 @@ abbrev pub removed_alone : Option Walked → NameResult
 removed_alone None = NoName
 removed_alone (Some here) = IsDir
 
+abbrev pub alone_for : Purpose → Option Walked → NameResult
+alone_for Adds start = added_alone start
+alone_for Drops start = removed_alone start
+
+-- a path leads to the directory of its last name, which is not looked up
+abbrev pub reached : List ℕ → ObjectName → Dialogue
+reached name dir = Ends (Under (record { dir = dir; name = name }))
+
+abbrev pub to_parent : Site → List ℕ → ObjectName → Purpose → Dialogue
+to_parent site path working purpose = by_parent site (route_of path) working (alone_for purpose) reached
+
 -- a name is added by its path
 abbrev pub addition : ObjKind → ℕ → Option (List ℕ) → List ℕ → Addition
 addition kind room text name = record { name = name; kind = kind; room = room; text = text }
@@ -67,9 +80,12 @@ listed None = BadDir
 listed (Some rows) = Rows (by_name rows)
 
 -- a directory is listed; the root lists the nodes
+abbrev pub listing_at : ObjectName → Dialogue
+listing_at dir = reading dir (λ bytes. Ends (listed (rows_in bytes)))
+
 abbrev pub listing : Walked → Dialogue
 listing Root = Ends Nodes
-listing (At u kind within) = if_directory kind (reading u (λ bytes. Ends (listed (rows_in bytes))))
+listing (At u kind within) = if_directory kind (listing_at u)
 
 abbrev pub list_dir : Site → List ℕ → ObjectName → Dialogue
 list_dir site path working = walking site true listing path working

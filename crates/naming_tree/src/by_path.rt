@@ -8,13 +8,14 @@ ghost use Rattle.naming_tree.specs.Dialogues.{IsStep};
 ghost use Rattle.naming_tree.specs.Tasks.{IsTask};
 ghost use Rattle.naming_tree.specs.Tasks as tasks;
 ghost use Rattle.naming_tree.specs.Walking as walks;
-ghost use Rattle.naming_tree.specs.ByPaths.{on_found, told_at, by_path_after, by_path_asks, walked_to, alone_with, list_dir_of, add_name_of, drop_name_of, IsOn, IsByPath};
-ghost use Rattle.naming_tree.specs.NamePaths.{added_alone as added_alone_at, removed_alone as removed_alone_at};
+ghost use Rattle.naming_tree.specs.ByPaths.{on_found, told_at, by_path_after, by_path_asks, walked_to, alone_with, list_dir_of, to_parent_of, add_name_of, drop_name_of, IsOn, IsByPath};
+ghost use Rattle.naming_tree.specs.NamePaths.{alone_for, added_alone as added_alone_at, removed_alone as removed_alone_at};
 ghost use Rattle.naming_tree.specs.Additions.{IsText};
 ghost use Rattle.uid_names.specs.Rooms.{IsRoom};
 
 use crate::addition::Addition;
 use crate::changing::{Change, Changing};
+use crate::purpose::Purpose;
 use crate::reading::Reading;
 use crate::site::Site;
 use crate::step::{NameResult, NameStep, Walked};
@@ -73,8 +74,7 @@ impl ByPath {
                 within: _,
             } => {
                 self.walking = None;
-                self.task.begin(alloc, *uid);
-                None
+                self.task.begin(alloc, *uid)
             }
             _ => Some(NameResult::NotDir),
         }
@@ -168,6 +168,25 @@ impl ByPath {
         ByPath::walked(alloc, site, route, working, task)
     }
 
+    /// A path to the directory of its last name, before it begins. Takes no memory.
+    pub fn reach(alloc: Global, site: Site, route: Route, working: Uid, purpose: Purpose) -> ByPath
+        ensures value { Some result ≡ to_parent_of site (Some route) working purpose }
+        ensures kept { IsByPath result }
+    {
+        let start = route.start;
+        let mut names = route.names;
+        match names.pop() {
+            Some(name) => {
+                let task = Task::Reach(name);
+                ByPath::walked(alloc, site, Route { start, names }, working, task)
+            }
+            None => {
+                let come = without_name(purpose, &site.start(&start, working));
+                ByPath::alone(alloc, come, working)
+            }
+        }
+    }
+
     /// A path whose last name is added, before it begins. Takes no memory.
     pub fn add(
         alloc: Global,
@@ -255,5 +274,15 @@ fn removed_alone(start: &Option<Walked>) -> NameResult
     match start {
         Some(_) => NameResult::IsDir,
         None => NameResult::NoName,
+    }
+}
+
+/// What a path without a last name comes to, by what its name was to be for.
+fn without_name(purpose: Purpose, start: &Option<Walked>) -> NameResult
+    ensures { result ≡ alone_for purpose start.now }
+{
+    match purpose {
+        Purpose::Adds => added_alone(start),
+        Purpose::Drops => removed_alone(start),
     }
 }

@@ -4,11 +4,12 @@ ghost use Rattle.uid_names.specs.Names.{ObjectName};
 ghost use Rattle.uid_names.specs.declared.mode.ObjKind.{ObjKind};
 ghost use Rattle.naming_tree.specs.declared.addition.Addition.{Addition};
 ghost use Rattle.naming_tree.specs.declared.changing.Change.TheVariants.{Add, Remove};
+ghost use Rattle.naming_tree.specs.declared.purpose.Purpose.{Purpose};
 ghost use Rattle.naming_tree.specs.declared.site.Site.{Site};
 ghost use Rattle.naming_tree.specs.declared.step.Walked.{Walked};
 ghost use Rattle.naming_tree.specs.declared.step.NameResult.TheVariants.{LinkLoop};
 ghost use Rattle.naming_tree.specs.Dialogues.{Dialogue, Ends};
-ghost use Rattle.naming_tree.specs.Sayings.{SaysAs, WalkSays, ListSays, AddSays, DropSays};
+ghost use Rattle.naming_tree.specs.Sayings.{SaysAs, WalkSays, ListSays, ListAtSays, ParentSays, AddSays, DropSays};
 ghost use Rattle.dir_records.specs.Paths.{route_of};
 ghost use Rattle.naming_tree.specs.Walks.{walk, follow};
 ghost use Rattle.naming_tree.specs.Bounds.{IsBounded, names_along};
@@ -34,6 +35,13 @@ pub fn walks_go_no_further()
 pub fn changes_of_directories_go_by_all_they_heard()
     ensures additions { (parent : ObjectName) (what : Addition) → IsAddition what → SaysAs changing_asks changing_after (Some (changing_of parent (Add what))) (add_at parent what) }
     ensures removals { (parent : ObjectName) (name : List ℕ) → SaysAs changing_asks changing_after (Some (changing_of parent (Remove name))) (drop_at parent name) }
+{}
+
+/// So does a walk to the directory of a path's last name, and a directory that is listed by its object.
+#[tactic(auto, using(crate::proofs::ByPathsLeft::parent_heard, crate::proofs::ListsLeft::list_at_heard))]
+pub fn parents_go_by_all_they_heard()
+    ensures parents { (site : Site) (path : List ℕ) (working : ObjectName) (purpose : Purpose) → ParentSays site path working purpose }
+    ensures listed { (dir : ObjectName) → ListAtSays dir }
 {}
 
 /// So does a directory that is listed by its path, a name that is added by its path, and one that is removed.

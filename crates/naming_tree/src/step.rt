@@ -49,6 +49,8 @@ pub enum NameResult {
     Found(Walked),
     Added(Uid),
     Removed,
+    /// The directory that has the last name of a path, or is to have it.
+    Under(Within),
     Rows(DirRows),
     /// The names of all nodes.
     Nodes,
@@ -70,6 +72,7 @@ impl Drop for NameResult {
             NameResult::Found(_)
             | NameResult::Added(_)
             | NameResult::Removed
+            | NameResult::Under(_)
             | NameResult::Rows(_)
             | NameResult::Nodes
             | NameResult::NoName

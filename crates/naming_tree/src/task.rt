@@ -1,5 +1,5 @@
 //! What is done in the directory to which a walk led.
-ghost use Rattle.std.specs.Prelude.{◌≡◌, None, Some, IfOk, OnOk, IfNone, IsSome};
+ghost use Rattle.std.specs.Prelude.{◌≡◌, Some, IfOk, OnOk, IfNone, IsSome};
 ghost use Rattle.dom_history.specs.Ranges.{IsOp};
 ghost use Rattle.naming_tree.specs.Turns.{turn_of, FitsAsked};
 ghost use Rattle.naming_tree.specs.Readings.{reading_op, IsReading};
@@ -10,29 +10,30 @@ ghost use Rattle.dir_records.specs.Directories.{rows_in};
 
 use crate::changing::Changing;
 use crate::reading::Reading;
-use crate::step::NameResult;
-use dir_records::{DirFault, by_name, read_dir};
+use crate::step::{NameResult, Within};
+use dir_records::{Component, DirFault, by_name, read_dir};
 use dom_history::{Op, Reply};
 use std::alloc::Global;
 use uid_names::{NoMemory, Uid};
 
-/// What is done in a directory: it is listed, or changed.
+/// What is done in a directory: it is listed, or changed, or only reached, for a name in it.
 pub enum Task {
     List(Reading),
     Change(Changing),
+    Reach(Component),
 }
 
 // Of its own, so that what drops one calls this and does not take it apart in place.
 impl Drop for Task {
     fn drop(self) {
         match self {
-            Task::List(_) | Task::Change(_) => {}
+            Task::List(_) | Task::Change(_) | Task::Reach(_) => {}
         }
     }
 }
 
 /// The rows of a directory that was read, by their names.
-fn listed(alloc: Global, bytes: &[u8]) -> Result<NameResult, NoMemory>
+pub fn listed(alloc: Global, bytes: &[u8]) -> Result<NameResult, NoMemory>
     ensures { IfOk result (λ r. r ≡ listed_rows (rows_in bytes.now)) }
 {
     match read_dir(alloc, bytes) {
@@ -64,19 +65,24 @@ fn list_on(
 }
 
 impl Task {
-    /// Begins in a directory.
-    pub fn begin(&mut self, alloc: Global, dir: Uid)
+    /// Begins in a directory. One that was only to be reached has come to its result.
+    pub fn begin(&mut self, alloc: Global, dir: Uid) -> Option<NameResult>
         requires { IsTask self.old }
-        ensures turn { turn_of None self.new ≡ task_begins dir self.old }
-        ensures on { IsOn self.new }
-        ensures task { IsTask self.new }
+        ensures turn { turn_of result self.new ≡ task_begins dir self.old }
+        ensures on { IfNone result (IsOn self.new) }
+        ensures task { IfNone result (IsTask self.new) }
     {
         match self {
-            Task::List(reading) => *reading = Reading::new(alloc, dir),
+            Task::List(reading) => {
+                *reading = Reading::new(alloc, dir);
+                None
+            }
             Task::Change(changing) => {
                 changing.parent = dir;
                 changing.begin();
+                None
             }
+            Task::Reach(name) => Some(NameResult::Under(Within { dir, name: *name })),
         }
     }
 
@@ -91,6 +97,7 @@ impl Task {
         match self {
             Task::List(reading) => list_on(alloc, reading, reply),
             Task::Change(changing) => changing.hear(alloc, reply),
+            Task::Reach(_) => unreachable!(),
         }
     }
 
@@ -103,6 +110,7 @@ impl Task {
         match self {
             Task::List(reading) => Ok(reading.op()),
             Task::Change(changing) => changing.op(alloc),
+            Task::Reach(_) => unreachable!(),
         }
     }
 
@@ -112,7 +120,7 @@ impl Task {
     {
         match self {
             Task::List(_) => NameResult::Nodes,
-            Task::Change(_) => NameResult::NotDir,
+            Task::Change(_) | Task::Reach(_) => NameResult::NotDir,
         }
     }
 }

@@ -2,10 +2,10 @@
 use Rattle.std.proofs.Common.{◌≡◌, ◌≢◌, ◌≤◌, ◌+◌, ℕ, Bool, true, false, cond, List, [], ◌∷◌, length, Option, Some, None, Result, Ok, Err, refl, subst, arith, rules}
 use Rattle.std.specs.Prelude.{◌&&◌, not, nat_le, nat_lt, is_some, unwrap_or, if◌then◌else◌, IfSome, IfOk, MatchResult, codes, bytes_eq}
 use Rattle.std.specs.List.{AllByRecursion, list_all}
-use Rattle.std.proofs.lemmas.Bool.{not-false}
+use Rattle.std.proofs.lemmas.Bool.{and_parts, not-false}
 use Rattle.std.proofs.lemmas.List.Elements.{All-nil}
 use Rattle.uid_names.specs.NameTexts.{IsNameText}
-use Rattle.uid_names.specs.Names.{same_uid}
+use Rattle.uid_names.specs.Names.{same_proc, same_uid}
 use Rattle.uid_names.specs.Openings.{IsDeclarable}
 use Rattle.uid_names.specs.Rooms.{IsRoom}
 use Rattle.uid_names.specs.Texts.{written_so}
@@ -14,7 +14,7 @@ use Rattle.uid_names.specs.declared.opening.Object.{Object as ObjectRecord}
 use Rattle.uid_names.proofs.InOrder.{AllPairs-nil}
 use Rattle.dom_history.specs.Plans.{is_of_frame, is_set}
 use Rattle.dom_history.specs.declared.plan.FateRow.{FateRow}
-use Rattle.dom_text.specs.Cuts.{cut_at}
+use Rattle.dom_text.specs.Cuts.{cut_at, cut_at_last}
 use Rattle.dom_history.proofs.SetFates.{IsPlan-push}
 use Rattle.dom_text.specs.Numbers.{number_spelled}
 use Rattle.dom_text.specs.Tokens.{tokens_of}
@@ -23,7 +23,7 @@ use Rattle.dom_text.specs.declared.line.TextFault.TheVariants.{Quote as QuoteFau
 use Rattle.dom_text.specs.declared.token.Token.{Token}
 use Rattle.dom_text.specs.declared.token.Token.TheVariants.{Word, Text}
 use Rattle.script_reader.specs.After.{after, fate_said}
-use Rattle.script_reader.specs.Forms.{node_form, object_form, fault_form, phase_form, fate_form, with_link, arguments_form, does_form}
+use Rattle.script_reader.specs.Forms.{node_form, object_form, fault_form, phase_form, access_form, subject_form, subject_words, fate_form, with_link, arguments_form, does_form}
 use Rattle.script_reader.specs.Grammar.{AreGood, nothing, without_cr}
 use Rattle.script_reader.specs.Judging.{has_begun, judged, judged_first, judged_form, judged_place, judged_process, judged_saying, judged_text, judged_tokens, judged_verb}
 use Rattle.script_reader.specs.Limits.{is_past_limit, pages_at}
@@ -34,20 +34,22 @@ use Rattle.script_reader.specs.NodeNames.{is_node_name, node_number}
 use Rattle.script_reader.specs.Numbers.{has_number, is_fate, is_no_number}
 use Rattle.script_reader.specs.Repeats.{is_fresh, is_repeated}
 use Rattle.script_reader.specs.SaidCommands.{command_said}
-use Rattle.script_reader.specs.Sayings.{Saying, Node, Object, Fault, Phase, Does, SaidFate, Lose, Twice, Late}
+use Rattle.script_reader.specs.Sayings.{Saying, Node, Object, Fault, Phase, Access, Subject, Does, SaidFate, Lose, Twice, Late}
 use Rattle.script_reader.specs.Scripts.{Content, IsNode, IsObject}
 use Rattle.script_reader.specs.Shapes.{shape_of}
 use Rattle.script_reader.specs.SpelledNumbers.{frames_spelled, index_spelled, late_spelled, process_spelled, within}
 use Rattle.script_reader.specs.UnknownNames.{is_known, is_unknown, proc_of}
 use Rattle.script_reader.specs.Walk.Formed.{AreFormed, AreFrames, HasForm, IsFateFound, IsFormed, IsIndex, IsLate, IsProcessNumber}
+use Rattle.script_reader.specs.Subjects.{IsSubjectRow, has_subject}
 use Rattle.script_reader.specs.Variables.{is_declared}
 use Rattle.script_reader.specs.Words.{ProcessWord, are_digits, is_name, line_word_text, line_words, process_parts, process_word, verb_of}
 use Rattle.script_reader.specs.declared.cause.Cause.TheVariants.{Number, Name, Unknown, Repeat, Limit, Place, TooLong}
 use Rattle.script_reader.specs.declared.script.CommandRow.{CommandRow}
 use Rattle.script_reader.specs.declared.script.NodeRow.{NodeRow}
+use Rattle.script_reader.specs.declared.script.SubjectRow.{SubjectRow}
 use Rattle.script_reader.specs.declared.script.VarRow.{VarRow}
 use Rattle.script_reader.proofs.Arguing.{command_is, command_spoken, form_formed, found_is, node_is, nodes_known, room_found, within_is}
-use Rattle.script_reader.proofs.Kept.{IsDraft-command, IsDraft-fate, IsDraft-phase}
+use Rattle.script_reader.proofs.Kept.{IsDraft-access, IsDraft-command, IsDraft-fate, IsDraft-phase, IsDraft-subject, name_text}
 use Rattle.script_reader.proofs.Ranges.{both_true, fate_is, nodes_apart}
 use Rattle.script_reader.proofs.Reading.{in_place}
 use Rattle.run_journals.proofs.Drafts.{IsBegun, node-begun, object-begun}
@@ -89,11 +91,32 @@ module _ (s : Content) (is : IsBegun s) where
   phase-said : nat_le MAX_PHASES s.phases ≡ false → IsBegun (after s Phase)
   phase-said within = record { draft = IsDraft-phase s is.draft (search (rules, within)); starts = is.starts }
 
+  access-said : IsBegun (after s Access)
+  access-said = record { draft = IsDraft-access s is.draft; starts = is.starts }
+
+  subject-said : (process : ProcessWord) (person project : List ℕ) → IfSome process.number IsProcessNumber → not (is_some process.number) ≡ false → not (is_name process.node && (is_name person && is_name project)) ≡ false
+      → not (is_node_name s.nodes process.node) ≡ false → has_subject s.subjects (proc_of s.nodes process) ≡ false → IsBegun (after s (Subject process person project))
+  subject-said process person project formed numbers names known new =
+      let number = found_is IsProcessNumber process.number formed (not-false (is_some process.number) numbers) in
+      let words = and_parts (is_name person) (is_name project) (both_true (is_name process.node) (is_name person && is_name project) names).1 in
+      let node = node_is s.nodes process.node (not-false (is_node_name s.nodes process.node) known) in
+      let few = is.draft.few_nodes in
+      let row : SubjectRow = record { proc = proc_of s.nodes process; person = person; project = project } in
+      let of_nodes : IsSubjectRow (length s.nodes) row = record {
+        proc = record { node = (node.0, omega (arith, node.1, few)); number = number };
+        node = node.1;
+        person = name_text person words.0;
+        project = name_text project words.1;
+      } in
+      record { draft = IsDraft-subject s row is.draft of_nodes new; starts = is.starts }
+
   after-begun : (said : Saying) → IsFormed s said → is_no_number said ≡ false → is_no_name said ≡ false → is_unknown s said ≡ false → is_repeated s said ≡ false → is_past_limit s said ≡ false → IsBegun (after s said)
   after-begun (Node name frames) formed numbers names known new within = node-said name frames formed numbers names new within
   after-begun (Object var room home) formed numbers names known new within = object-said var room home formed numbers names known new within
   after-begun (Fault from to index fate) formed numbers names known new within = fault-said from to index fate formed numbers known new
   after-begun Phase formed numbers names known new within = phase-said within
+  after-begun Access formed numbers names known new within = access-said
+  after-begun (Subject process person project) formed numbers names known new within = subject-said process person project formed numbers names known new
   after-begun (Does process verb arguments) formed numbers names known new within =
       let proc = proc_of s.nodes process in
       let given = both_true (is_some process.number) (list_all has_number arguments) numbers in
@@ -159,6 +182,19 @@ fault-formed : (tokens : List Token) → IfSome (fault_form tokens) HasForm
 fault-formed (Word from ∷ Word to ∷ Word index ∷ rest) = link-formed from to (index_spelled index) (fate_form rest) (within_is 1 1000000 (number_spelled index)) (fate-formed rest)
 fault-formed _ = tt
 
+access-formed : (tokens : List Token) → IfSome (access_form tokens) HasForm
+access-formed [] = tt
+access-formed (token ∷ rest) = tt
+
+parts-formed : (process subject : Option (List ℕ × List ℕ)) → IfSome (subject_words process subject) HasForm
+parts-formed None subject = tt
+parts-formed (Some process) None = tt
+parts-formed (Some process) (Some subject) = within_is 1 NODE_PROCESSES (number_spelled process.1)
+
+subject-formed : (tokens : List Token) → IfSome (subject_form tokens) HasForm
+subject-formed (Word process ∷ Word subject ∷ []) = parts-formed (cut_at_last 46 process) (cut_at_last 46 subject)
+subject-formed _ = tt
+
 process-formed : (parts : Option (List ℕ × List ℕ)) → IfSome (process_parts parts) (λ (process : ProcessWord). IfSome process.number IsProcessNumber)
 process-formed None = tt
 process-formed (Some (node, digits)) = by_test (is_name node && are_digits digits) (record { node = node; number = process_spelled digits }) (within_is 1 NODE_PROCESSES (number_spelled digits))
@@ -218,7 +254,7 @@ module _ (s : Content) (is : IsBegun s) where
   first-begun word tokens =
       among line_word_text line_words word (λ first. IfOk (judged_first s first word tokens) IsBegun) (process-begun (process_word word) tokens (process-formed (cut_at 46 word))) (
         place-begun (node_form tokens) (node-formed tokens),
-        (place-begun (object_form tokens) (object-formed tokens), (place-begun (fault_form tokens) (fault-formed tokens), (phase-begun tokens, tt))),
+        (place-begun (object_form tokens) (object-formed tokens), (place-begun (fault_form tokens) (fault-formed tokens), (phase-begun tokens, (place-begun (access_form tokens) (access-formed tokens), (place-begun (subject_form tokens) (subject-formed tokens), tt))))),
       )
 
   tokens-begun : (tokens : List Token) → IfOk (judged_tokens s tokens) IsBegun
@@ -261,6 +297,8 @@ nothing-begun = record {
     vars_of = refl;
     plan = record { apart = All-nil (λ (row : FateRow). row.from ≢ row.to); once = AllPairs-nil (λ (a b : FateRow). is_of_frame b.from b.to b.index a ≡ false) };
     fates = All-nil (IsFateRow 0);
+    subjects = All-nil (IsSubjectRow 0);
+    subjects_apart = AllPairs-nil (λ (a b : SubjectRow). same_proc a.proc b.proc ≡ false);
     phase_low = omega arith;
     phase_high = omega arith;
     few_commands = omega arith;

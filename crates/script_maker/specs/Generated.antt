@@ -1,6 +1,6 @@
 -- The script of a seed: eight nodes of four processes, 32 objects, and 25 phases. In each phase each process works on one
 -- object, and no two on the same. Processes, objects and phases are counted from 0 here.
-use Rattle.std.specs.Prelude.{ℕ, zero, suc, ◌+◌, ◌-◌, ◌*◌, ◌/◌, ◌%◌, List, [], ◌∷◌, ◌++◌, map, flat_map, codes, decimal}
+use Rattle.std.specs.Prelude.{ℕ, zero, suc, ◌+◌, ◌-◌, ◌*◌, ◌/◌, ◌%◌, false, List, [], ◌∷◌, ◌++◌, map, flat_map, codes, decimal}
 use Rattle.std.specs.List.{range_with_len}
 use Rattle.uid_names.specs.Names.{ProcName, ObjectName}
 use Rattle.uid_names.specs.Openings.{Start}
@@ -118,6 +118,8 @@ generated seed = record {
   opening = generated_opening;
   objects = map generated_var (range_with_len 0 32);
   plan = [];
+  access = false;
+  subjects = [];
   phases = 25;
   commands = generated_commands seed 25;
 }

@@ -26,7 +26,9 @@ use Rattle.script_reader.specs.declared.draft.Draft.TheInside.{Inside}
 use Rattle.script_reader.specs.declared.script.NodeRow.{NodeRow}
 use Rattle.script_reader.specs.declared.script.VarRow.{VarRow}
 use Rattle.script_reader.specs.declared.script.CommandRow.{CommandRow}
-use Rattle.script_reader.proofs.Kept.{IsDraft-node, IsDraft-phase, IsDraft-object, IsDraft-fate, IsDraft-command}
+use Rattle.script_reader.specs.Subjects.{IsSubjectRow, has_subject}
+use Rattle.script_reader.specs.declared.script.SubjectRow.{SubjectRow}
+use Rattle.script_reader.proofs.Kept.{IsDraft-node, IsDraft-phase, IsDraft-object, IsDraft-fate, IsDraft-access, IsDraft-subject, IsDraft-command}
 use Rattle.script_reader.proofs.Held.{AreStarts-push, AreStarts-wider, HoldsTallies-push, few_objects}
 use Rattle.script_reader.proofs.Declaring.{HoldsDeclared-push}
 
@@ -54,6 +56,21 @@ held-phase d h room = record { draft = IsDraft-phase (content_of d) h.draft room
 pub held-fate : (d : Inside) (plan : List FateRow) (row : FateRow) → HoldsDraft d → plan ≡ d.plan ++ row ∷ [] → IsPlan plan → IsFateRow (length d.nodes.items) row → HoldsDraft (record d { plan = plan })
 held-fate d plan row h e is fate = record {
   draft = rw e (IsDraft-fate (content_of d) row h.draft (subst IsPlan e is) fate);
+  starts = h.starts;
+  declared = h.declared;
+  named = h.named;
+  tallies = h.tallies;
+}
+
+-- access lists in force
+pub held-access : (d : Inside) → HoldsDraft d → HoldsDraft (record d { access = true })
+held-access d h = record { draft = IsDraft-access (content_of d) h.draft; starts = h.starts; declared = h.declared; named = h.named; tallies = h.tallies }
+
+-- the subject of a process more
+pub held-subject : (d : Inside) (subjects : Vec SubjectRow) (row : SubjectRow) → HoldsDraft d → subjects.items ≡ d.subjects.items ++ row ∷ [] → IsSubjectRow (length d.nodes.items) row → has_subject d.subjects.items row.proc ≡ false
+    → HoldsDraft (record d { subjects = subjects })
+held-subject d subjects row h e is new = record {
+  draft = rw e (IsDraft-subject (content_of d) row h.draft is new);
   starts = h.starts;
   declared = h.declared;
   named = h.named;

@@ -8,7 +8,7 @@ use Rattle.std.proofs.lemmas.List.{map-append}
 use Rattle.std.proofs.lemmas.List.Elements.{All-push, All-weaker}
 use Rattle.std.proofs.lemmas.List.Quantifiers.{all_pairs_push}
 use Rattle.std.proofs.lemmas.List.Sums.{AllPass-from_list_all}
-use Rattle.uid_names.specs.Names.{ProcName, IsName}
+use Rattle.uid_names.specs.Names.{ProcName, IsName, same_proc}
 use Rattle.uid_names.specs.declared.limits.TheConstants.{MAX_NODES, MAX_PHASES}
 use Rattle.uid_names.specs.NameTexts.{IsNameText, is_name_byte}
 use Rattle.uid_names.proofs.ListLemmas.{length-push}
@@ -21,12 +21,14 @@ use Rattle.script_reader.specs.Arguments.{Given, Var, NewVar, Room, Offset, Coun
 use Rattle.script_reader.specs.Commands.{IsArgument, IsCommandRow, IsCommand, arguments_of}
 use Rattle.script_reader.specs.Variables.{IsSpoken, AreSpoken, is_declared}
 use Rattle.script_reader.specs.NodeNames.{is_node_name}
-use Rattle.script_reader.specs.After.{declared_at, next_uid, with_command, with_declared, with_fate, with_node}
+use Rattle.script_reader.specs.After.{declared_at, next_uid, with_access, with_command, with_declared, with_fate, with_node, with_subject}
+use Rattle.script_reader.specs.Subjects.{IsSubjectRow, has_subject}
 use Rattle.script_reader.specs.Words.{is_name}
 use Rattle.script_reader.specs.declared.command.Command.{Command}
 use Rattle.script_reader.specs.declared.script.NodeRow.{NodeRow}
 use Rattle.script_reader.specs.declared.script.VarRow.{VarRow}
 use Rattle.script_reader.specs.declared.script.CommandRow.{CommandRow}
+use Rattle.script_reader.specs.declared.script.SubjectRow.{SubjectRow}
 use Rattle.script_reader.proofs.Decisions.{bytes_eq-refl}
 
 -- what the test of a name decides
@@ -107,6 +109,8 @@ IsDraft-node s name frames h named few many new room =
       vars_of = h.vars_of;
       plan = h.plan;
       fates = All-weaker (IsFateRow (length s.nodes)) (IsFateRow (length (s.nodes ++ record { name = name; frames = frames } ∷ []))) (λ row is. record { from = omega (arith, is.from, wide); to = omega (arith, is.to, wide); index_low = is.index_low; index_high = is.index_high; fate = is.fate }) s.plan h.fates;
+      subjects = All-weaker (IsSubjectRow (length s.nodes)) (IsSubjectRow (length (s.nodes ++ record { name = name; frames = frames } ∷ []))) (λ row is. record { proc = is.proc; node = omega (arith, is.node, wide); person = is.person; project = is.project }) s.subjects h.subjects;
+      subjects_apart = h.subjects_apart;
       phase_low = h.phase_low;
       phase_high = h.phase_high;
       few_commands = h.few_commands;
@@ -129,6 +133,8 @@ IsDraft-phase s h room = record {
   vars_of = h.vars_of;
   plan = h.plan;
   fates = h.fates;
+  subjects = h.subjects;
+  subjects_apart = h.subjects_apart;
   phase_low = omega arith;
   phase_high = omega arith;
   few_commands = h.few_commands;
@@ -152,6 +158,8 @@ IsDraft-object s var home room h named is at new none =
       vars_of = map-append (λ row. row.uid) s.objects (record { var = var; uid = object.uid } ∷ []) ∙ (ap (λ uids. uids ++ object.uid ∷ []) h.vars_of ∙ sym (map-append (λ o. o.uid) s.opening.objects (object ∷ [])));
       plan = h.plan;
       fates = h.fates;
+      subjects = h.subjects;
+      subjects_apart = h.subjects_apart;
       phase_low = h.phase_low;
       phase_high = h.phase_high;
       few_commands = h.few_commands;
@@ -174,6 +182,56 @@ IsDraft-fate s row h plan is = record {
   vars_of = h.vars_of;
   plan = plan;
   fates = All-push (IsFateRow (length s.nodes)) s.plan row h.fates is;
+  subjects = h.subjects;
+  subjects_apart = h.subjects_apart;
+  phase_low = h.phase_low;
+  phase_high = h.phase_high;
+  few_commands = h.few_commands;
+  commands = h.commands;
+  in_order = h.in_order;
+  spoken = h.spoken;
+}
+
+-- access lists in force
+pub IsDraft-access : (s : Content) → IsDraft s → IsDraft (with_access s)
+IsDraft-access s h = record {
+  few_nodes = h.few_nodes;
+  nodes = h.nodes;
+  names_apart = h.names_apart;
+  opening_nodes = h.opening_nodes;
+  greatest = h.greatest;
+  files = h.files;
+  vars = h.vars;
+  vars_apart = h.vars_apart;
+  vars_of = h.vars_of;
+  plan = h.plan;
+  fates = h.fates;
+  subjects = h.subjects;
+  subjects_apart = h.subjects_apart;
+  phase_low = h.phase_low;
+  phase_high = h.phase_high;
+  few_commands = h.few_commands;
+  commands = h.commands;
+  in_order = h.in_order;
+  spoken = h.spoken;
+}
+
+-- the subject of a process more
+pub IsDraft-subject : (s : Content) (row : SubjectRow) → IsDraft s → IsSubjectRow (length s.nodes) row → has_subject s.subjects row.proc ≡ false → IsDraft (with_subject s row.proc row.person row.project)
+IsDraft-subject s row h is new = record {
+  few_nodes = h.few_nodes;
+  nodes = h.nodes;
+  names_apart = h.names_apart;
+  opening_nodes = h.opening_nodes;
+  greatest = h.greatest;
+  files = h.files;
+  vars = h.vars;
+  vars_apart = h.vars_apart;
+  vars_of = h.vars_of;
+  plan = h.plan;
+  fates = h.fates;
+  subjects = All-push (IsSubjectRow (length s.nodes)) s.subjects row h.subjects is;
+  subjects_apart = all_pairs_push (λ a b. same_proc a.proc b.proc ≡ false) s.subjects row h.subjects_apart (none_of (λ other. same_proc other.proc row.proc) s.subjects new);
   phase_low = h.phase_low;
   phase_high = h.phase_high;
   few_commands = h.few_commands;
@@ -202,6 +260,8 @@ IsDraft-command s proc command h is node range spoken room =
       vars_of = h.vars_of;
       plan = h.plan;
       fates = h.fates;
+      subjects = h.subjects;
+      subjects_apart = h.subjects_apart;
       phase_low = h.phase_low;
       phase_high = h.phase_high;
       few_commands = omega (arith, more);

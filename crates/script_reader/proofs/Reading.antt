@@ -10,7 +10,7 @@ use Rattle.dom_text.specs.Cuts.{Lacks}
 use Rattle.script_reader.specs.Grammar.{AreGood, IsFirstBad, before_lines, raw_lines, without_cr}
 use Rattle.script_reader.specs.Walk.Formed.{HasForm, IsFormed}
 use Rattle.script_reader.specs.Judging.{has_begun, judged, judged_process, judged_tokens}
-use Rattle.script_reader.specs.Sayings.{Saying, Node, Object, Fault, Phase, Does}
+use Rattle.script_reader.specs.Sayings.{Saying, Node, Object, Fault, Phase, Access, Subject, Does}
 use Rattle.script_reader.specs.Scripts.{Content}
 use Rattle.script_reader.specs.Walk.Seen.{BeginsWithNoWord, seen, seen_line}
 use Rattle.script_reader.specs.Words.{ProcessWord, line_word_of, line_word_text, line_words, verb_of, verb_text, verbs}
@@ -19,7 +19,7 @@ use Rattle.script_reader.specs.declared.cause.Cause.TheVariants.{Word}
 use Rattle.script_reader.specs.declared.line.Line.{Line}
 use Rattle.script_reader.specs.declared.script.CommandRow.{CommandRow}
 use Rattle.script_reader.specs.declared.words.LineWord.{LineWord}
-use Rattle.script_reader.specs.declared.words.LineWord.TheVariants.{Node as NodeWord, Object as ObjectWord, Fault as FaultWord, Phase as PhaseWord}
+use Rattle.script_reader.specs.declared.words.LineWord.TheVariants.{Node as NodeWord, Object as ObjectWord, Fault as FaultWord, Phase as PhaseWord, Access as AccessWord, Subject as SubjectWord}
 use Rattle.script_reader.specs.declared.words.Verb.{Verb}
 use Rattle.script_reader.specs.declared.words.Verb.TheVariants.{New as NewVerb, Lock as LockVerb, Unlock as UnlockVerb, Delete as DeleteVerb, Load as LoadVerb, Store as StoreVerb, Length as LengthVerb, Map as MapVerb, Unmap as UnmapVerb, Loadat as LoadatVerb, Storeat as StoreatVerb, Bind as BindVerb, Crf as CrfVerb, Crd as CrdVerb, Crl as CrlVerb, Dlf as DlfVerb, Catf as CatfVerb, Lnf as LnfVerb, Apf as ApfVerb, Cpf as CpfVerb, Ld as LdVerb, Wd as WdVerb, Llkob as LlkobVerb}
 use Rattle.uid_names.proofs.TextTables.{looked_up}
@@ -83,6 +83,8 @@ line_word-again NodeWord = refl
 line_word-again ObjectWord = refl
 line_word-again FaultWord = refl
 line_word-again PhaseWord = refl
+line_word-again AccessWord = refl
+line_word-again SubjectWord = refl
 
 pub no_line_word : (word : List ℕ) → ((w : LineWord) → word ≢ line_word_text w) → line_word_of word ≡ None
 no_line_word word h = sym (looked_up line_word_text line_words line_word-again None word h)
@@ -139,4 +141,6 @@ in_place s h (Node name frames) form = form
 in_place s h (Object var room home) form = (no_commands s.phases s.commands h, form)
 in_place s h (Fault from to index fate) form = form
 in_place s h Phase form = tt
+in_place s h Access form = tt
+in_place s h (Subject process person project) form = form
 in_place s h (Does process verb arguments) form = form

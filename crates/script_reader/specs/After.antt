@@ -1,5 +1,5 @@
 -- What a good line says: the content behind it.
-use Rattle.std.specs.Prelude.{ℕ, ◌+◌, unwrap_or, List, [], ◌∷◌, ◌++◌, length}
+use Rattle.std.specs.Prelude.{ℕ, ◌+◌, true, unwrap_or, List, [], ◌∷◌, ◌++◌, length}
 use Rattle.uid_names.specs.Names.{ProcName, ObjectName}
 use Rattle.uid_names.specs.Openings.{with_object}
 use Rattle.uid_names.specs.declared.mode.ObjKind.TheVariants.{File}
@@ -8,7 +8,7 @@ use Rattle.uid_names.specs.Beginnings.{at_home}
 use Rattle.dom_history.specs.declared.plan.Fate.{Fate}
 use Rattle.dom_history.specs.declared.plan.Fate.TheVariants.{Lose as LoseFate, Twice as TwiceFate, Late as LateFate}
 use Rattle.script_reader.specs.Scripts.{Content}
-use Rattle.script_reader.specs.Sayings.{Saying, Node, Object, Fault, Phase, Does, SaidFate, Lose, Twice, Late}
+use Rattle.script_reader.specs.Sayings.{Saying, Node, Object, Fault, Phase, Access, Subject, Does, SaidFate, Lose, Twice, Late}
 use Rattle.script_reader.specs.declared.command.Command.{Command}
 use Rattle.script_reader.specs.declared.script.NodeRow.{NodeRow}
 use Rattle.script_reader.specs.NodeNames.{node_number}
@@ -49,10 +49,20 @@ with_fate s from to index fate = record s { plan = s.plan ++ record { from = fro
 abbrev pub with_command : Content → ProcName → Command → Content
 with_command s proc command = record s { commands = s.commands ++ record { proc = proc; phase = s.phases; command = command } ∷ [] }
 
+-- access lists in force
+abbrev pub with_access : Content → Content
+with_access s = record s { access = true }
+
+-- the subject of one process more
+abbrev pub with_subject : Content → ProcName → List ℕ → List ℕ → Content
+with_subject s proc person project = record s { subjects = s.subjects ++ record { proc = proc; person = person; project = project } ∷ [] }
+
 -- what is said once this line is
 abbrev pub after : Content → Saying → Content
 after s (Node name frames) = with_node s name (unwrap_or frames 0)
 after s (Object var room home) = with_declared s var (declared_at s (node_number s.nodes home) (unwrap_or room 0))
 after s (Fault from to index fate) = with_fate s (node_number s.nodes from) (node_number s.nodes to) (unwrap_or index 0) (fate_said fate)
 after s Phase = record s { phases = s.phases + 1 }
+after s Access = with_access s
+after s (Subject process person project) = with_subject s (proc_of s.nodes process) person project
 after s (Does process verb arguments) = with_command s (proc_of s.nodes process) (command_said s.nodes verb arguments)

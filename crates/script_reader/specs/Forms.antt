@@ -1,13 +1,14 @@
 -- The forms of lines: how many tokens they have, and which are words, texts or fixed words.
 use Rattle.std.specs.Prelude.{ℕ, if◌then◌else◌, Option, Some, None, List, [], ◌∷◌, codes}
 use Rattle.std.specs.Prelude.{bytes_eq}
+use Rattle.dom_text.specs.Cuts.{cut_at_last}
 use Rattle.uid_names.specs.declared.mode.Mode.{Mode as LockMode}
 use Rattle.dom_text.specs.declared.token.Token.{Token}
 use Rattle.dom_text.specs.declared.token.Token.TheVariants.{Word, Text as TextToken}
 use Rattle.script_reader.specs.Words.{ProcessWord, mode_of_word}
 use Rattle.script_reader.specs.Arguments.{Said, Var, NewVar, Room, Offset, Count, Address, Text, Mode, Home, HomeNode, OptionalRoom, Path, OptionalPath}
-use Rattle.script_reader.specs.Sayings.{Saying, Node, Object, Fault, Phase, Does, SaidFate, Lose, Twice, Late}
-use Rattle.script_reader.specs.SpelledNumbers.{frames_spelled, index_spelled, late_spelled, room_spelled, offset_spelled, count_spelled, address_spelled}
+use Rattle.script_reader.specs.Sayings.{Saying, Node, Object, Fault, Phase, Access, Subject, Does, SaidFate, Lose, Twice, Late}
+use Rattle.script_reader.specs.SpelledNumbers.{frames_spelled, index_spelled, late_spelled, process_spelled, room_spelled, offset_spelled, count_spelled, address_spelled}
 use Rattle.script_reader.specs.Shapes.{shape_of}
 use Rattle.script_reader.specs.declared.words.Verb.{Verb}
 use Rattle.script_reader.specs.declared.words.Kind.{Kind}
@@ -49,6 +50,21 @@ fault_form _ = None
 abbrev pub phase_form : List Token → Option Saying
 phase_form [] = Some Phase
 phase_form _ = None
+
+-- behind `access`
+abbrev pub access_form : List Token → Option Saying
+access_form [] = Some Access
+access_form _ = None
+
+-- behind `subject`: a process and its subject, each cut at its last dot
+abbrev pub subject_words : Option (List ℕ × List ℕ) → Option (List ℕ × List ℕ) → Option Saying
+subject_words None subject = None
+subject_words (Some process) None = None
+subject_words (Some process) (Some subject) = Some (Subject (record { node = process.0; number = process_spelled process.1 }) subject.0 subject.1)
+
+abbrev pub subject_form : List Token → Option Saying
+subject_form (Word process ∷ Word subject ∷ []) = subject_words (cut_at_last 46 process) (cut_at_last 46 subject)
+subject_form _ = None
 
 -- a mode, where the word is one
 abbrev pub mode_argument : Option LockMode → Option Said

@@ -9,11 +9,11 @@ use Rattle.dom_text.specs.declared.line.TextFault.TheVariants.{Quote as QuoteFau
 use Rattle.script_reader.specs.Scripts.{Content}
 use Rattle.script_reader.specs.Words.{ProcessWord, line_word_of, process_word, verb_of}
 use Rattle.script_reader.specs.Sayings.{Saying}
-use Rattle.script_reader.specs.Forms.{node_form, object_form, fault_form, phase_form, command_form}
+use Rattle.script_reader.specs.Forms.{node_form, object_form, fault_form, phase_form, access_form, subject_form, command_form}
 use Rattle.script_reader.specs.declared.cause.Cause.{Cause}
 use Rattle.script_reader.specs.declared.cause.Cause.TheVariants.{TooLong, Byte, Quote, Word, Place, Form, Number, Name, Unknown, Repeat, Limit}
 use Rattle.script_reader.specs.declared.words.LineWord.{LineWord}
-use Rattle.script_reader.specs.declared.words.LineWord.TheVariants.{Node as NodeWord, Object as ObjectWord, Fault as FaultWord, Phase as PhaseWord}
+use Rattle.script_reader.specs.declared.words.LineWord.TheVariants.{Node as NodeWord, Object as ObjectWord, Fault as FaultWord, Phase as PhaseWord, Access as AccessWord, Subject as SubjectWord}
 use Rattle.script_reader.specs.declared.words.Verb.{Verb}
 use Rattle.script_reader.specs.Numbers.{is_no_number}
 use Rattle.script_reader.specs.NamesAsked.{is_no_name}
@@ -58,6 +58,8 @@ judged_first s (Some NodeWord) word tokens = judged_place s (node_form tokens)
 judged_first s (Some ObjectWord) word tokens = judged_place s (object_form tokens)
 judged_first s (Some FaultWord) word tokens = judged_place s (fault_form tokens)
 judged_first s (Some PhaseWord) word tokens = judged_form s (phase_form tokens)
+judged_first s (Some AccessWord) word tokens = judged_place s (access_form tokens)
+judged_first s (Some SubjectWord) word tokens = judged_place s (subject_form tokens)
 judged_first s None word tokens = judged_process s (process_word word) tokens
 
 -- a line without tokens is skipped

@@ -1,7 +1,9 @@
 pub mod Scripts
+pub mod Verbs
 pub mod Shapes
 pub mod Arguments
 pub mod Commands
+pub mod Subjects
 pub mod Fates
 pub mod Variables
 pub mod Places

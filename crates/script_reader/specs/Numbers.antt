@@ -3,7 +3,7 @@ use Rattle.std.specs.Prelude.{ℕ, nat_le, Bool, true, false, not, ◌&&◌, is_
 use Rattle.std.specs.List.{list_all}
 use Rattle.uid_names.specs.declared.limits.TheConstants.{PAGE_BYTES}
 use Rattle.script_reader.specs.Arguments.{Said, Room, Offset, Count, Address, Text, OptionalRoom}
-use Rattle.script_reader.specs.Sayings.{Saying, Node, Object, Fault, Phase, Does, SaidFate, Lose, Twice, Late}
+use Rattle.script_reader.specs.Sayings.{Saying, Node, Object, Fault, Phase, Access, Subject, Does, SaidFate, Lose, Twice, Late}
 
 -- a text has 1 byte at least, and no more than a page
 abbrev pub is_text : List ℕ → Bool
@@ -31,4 +31,6 @@ is_no_number (Node name frames) = not (is_some frames)
 is_no_number (Object var room home) = not (is_some room)
 is_no_number (Fault from to index fate) = not (is_some index && is_fate fate)
 is_no_number Phase = false
+is_no_number Access = false
+is_no_number (Subject process person project) = not (is_some process.number)
 is_no_number (Does process verb arguments) = not (is_some process.number && list_all has_number arguments)

@@ -16,4 +16,6 @@ pub data Saying : Type 0 where
   Object : (var : List ℕ) (room : Option ℕ) (home : List ℕ) → Saying
   Fault : (from to : List ℕ) (index : Option ℕ) (fate : SaidFate) → Saying
   Phase : Saying
+  Access : Saying
+  Subject : (process : ProcessWord) (person project : List ℕ) → Saying
   Does : (process : ProcessWord) (verb : Verb) (arguments : List Said) → Saying

@@ -1,6 +1,6 @@
 -- What a script says, and what each script keeps.
-use Rattle.std.specs.Prelude.{ℕ, ◌≡◌, ◌≢◌, ◌≤◌, List, [], length, map, All, AllPairs}
-use Rattle.uid_names.specs.Names.{IsName}
+use Rattle.std.specs.Prelude.{ℕ, ◌≡◌, ◌≢◌, ◌≤◌, Bool, false, List, [], length, map, All, AllPairs}
+use Rattle.uid_names.specs.Names.{IsName, same_proc}
 use Rattle.uid_names.specs.NameTexts.{IsNameText}
 use Rattle.uid_names.specs.Openings.{Start}
 use Rattle.uid_names.specs.declared.opening.Object.{Object}
@@ -11,18 +11,23 @@ use Rattle.dom_history.specs.Plans.{IsPlan}
 use Rattle.dom_history.specs.declared.plan.FateRow.{FateRow}
 use Rattle.script_reader.specs.Commands.{IsCommandRow}
 use Rattle.script_reader.specs.Fates.{IsFateRow}
+use Rattle.script_reader.specs.Subjects.{IsSubjectRow}
 use Rattle.script_reader.specs.Variables.{AreSpoken}
 use Rattle.script_reader.specs.declared.script.NodeRow.{NodeRow}
 use Rattle.script_reader.specs.declared.script.VarRow.{VarRow}
 use Rattle.script_reader.specs.declared.script.CommandRow.{CommandRow}
+use Rattle.script_reader.specs.declared.script.SubjectRow.{SubjectRow}
 
 -- what a script says: its nodes by number, what there is at the start with the variables of those objects,
--- the fates of frames, the number of phases, and the commands in script order
+-- the fates of frames, whether access lists are in force and the subjects of processes, the number of phases, and the commands in
+-- script order
 pub record Content : Type 0 where
   pub nodes : List NodeRow
   pub opening : Start
   pub objects : List VarRow
   pub plan : List FateRow
+  pub access : Bool
+  pub subjects : List SubjectRow
   pub phases : ℕ
   pub commands : List CommandRow
 
@@ -51,6 +56,8 @@ pub record IsDraft (s : Content) : Type 0 where
   pub vars_of : map (λ row. row.uid) s.objects ≡ map (λ o. o.uid) s.opening.objects
   pub plan : IsPlan s.plan
   pub fates : All (IsFateRow (length s.nodes)) s.plan
+  pub subjects : All (IsSubjectRow (length s.nodes)) s.subjects
+  pub subjects_apart : AllPairs (λ a b. same_proc a.proc b.proc ≡ false) s.subjects
   pub phase_low : 1 ≤ s.phases
   pub phase_high : s.phases ≤ MAX_PHASES
   pub few_commands : length s.commands ≤ 20000

@@ -6,7 +6,7 @@ use Rattle.script_reader.specs.Scripts.{Content}
 use Rattle.script_reader.specs.Variables.{knows}
 use Rattle.script_reader.specs.Words.{ProcessWord}
 use Rattle.script_reader.specs.Arguments.{Said, Var, Home, HomeNode}
-use Rattle.script_reader.specs.Sayings.{Saying, Node, Object, Fault, Phase, Does}
+use Rattle.script_reader.specs.Sayings.{Saying, Node, Object, Fault, Phase, Access, Subject, Does}
 use Rattle.script_reader.specs.declared.script.NodeRow.{NodeRow}
 use Rattle.script_reader.specs.NodeNames.{is_node_name, node_number}
 
@@ -27,4 +27,6 @@ is_unknown s (Node name frames) = false
 is_unknown s (Object var room home) = not (is_node_name s.nodes home)
 is_unknown s (Fault from to index fate) = not (is_node_name s.nodes from && is_node_name s.nodes to)
 is_unknown s Phase = false
+is_unknown s Access = false
+is_unknown s (Subject process person project) = not (is_node_name s.nodes process.node)
 is_unknown s (Does process verb arguments) = not (is_node_name s.nodes process.node && list_all (is_known s (proc_of s.nodes process)) arguments)

@@ -3,13 +3,14 @@ use Rattle.std.specs.Prelude.{ℕ, nat_le, Bool, ◌&&◌, if◌then◌else◌, 
 use Rattle.uid_names.specs.Texts.{written_so}
 use Rattle.std.specs.List.{list_all}
 use Rattle.std.specs.Char.{is_ascii_digit}
-use Rattle.uid_names.specs.NameTexts.{is_name_byte}
 use Rattle.uid_names.specs.Modes.{mode_of_letter}
 use Rattle.uid_names.specs.declared.mode.Mode.{Mode}
 use Rattle.dom_text.specs.Cuts.{cut_at}
+pub use Rattle.dom_text.specs.NameWords.{is_name}
 use Rattle.script_reader.specs.SpelledNumbers.{process_spelled}
+use Rattle.script_reader.specs.Verbs.{verb_row}
 use Rattle.script_reader.specs.declared.words.LineWord.{LineWord}
-use Rattle.script_reader.specs.declared.words.LineWord.TheVariants.{Node, Object, Fault, Phase}
+use Rattle.script_reader.specs.declared.words.LineWord.TheVariants.{Node, Object, Fault, Phase, Access, Subject}
 use Rattle.script_reader.specs.declared.words.Verb.{Verb}
 use Rattle.script_reader.specs.declared.words.Verb.TheVariants.{New, Lock, Unlock, Delete, Load, Store, Length, Map, Unmap, Loadat, Storeat, Bind, Crf, Crd, Crl, Dlf, Catf, Lnf, Apf, Cpf, Ld, Wd, Llkob}
 
@@ -18,38 +19,19 @@ line_word_text Node = codes "node"
 line_word_text Object = codes "object"
 line_word_text Fault = codes "fault"
 line_word_text Phase = codes "phase"
+line_word_text Access = codes "access"
+line_word_text Subject = codes "subject"
 
 abbrev pub line_words : List LineWord
-line_words = Node ∷ Object ∷ Fault ∷ Phase ∷ []
+line_words = Node ∷ Object ∷ Fault ∷ Phase ∷ Access ∷ Subject ∷ []
 
 -- the line word that a word is
 abbrev pub line_word_of : List ℕ → Option LineWord
 line_word_of word = written_so line_word_text line_words word
 
+-- the word of a command
 abbrev pub verb_text : Verb → List ℕ
-verb_text New = codes "new"
-verb_text Lock = codes "lock"
-verb_text Unlock = codes "unlock"
-verb_text Delete = codes "delete"
-verb_text Load = codes "load"
-verb_text Store = codes "store"
-verb_text Length = codes "length"
-verb_text Map = codes "map"
-verb_text Unmap = codes "unmap"
-verb_text Loadat = codes "loadat"
-verb_text Storeat = codes "storeat"
-verb_text Bind = codes "bind"
-verb_text Crf = codes "crf"
-verb_text Crd = codes "crd"
-verb_text Crl = codes "crl"
-verb_text Dlf = codes "dlf"
-verb_text Catf = codes "catf"
-verb_text Lnf = codes "lnf"
-verb_text Apf = codes "apf"
-verb_text Cpf = codes "cpf"
-verb_text Ld = codes "ld"
-verb_text Wd = codes "wd"
-verb_text Llkob = codes "llkob"
+verb_text verb = (verb_row verb).word
 
 abbrev pub verbs : List Verb
 verbs = New ∷ Lock ∷ Unlock ∷ Delete ∷ Load ∷ Store ∷ Length ∷ Map ∷ Unmap ∷ Loadat ∷ Storeat ∷ Bind ∷ Crf ∷ Crd ∷ Crl ∷ Dlf ∷ Catf ∷ Lnf ∷ Apf ∷ Cpf ∷ Ld ∷ Wd ∷ Llkob ∷ []
@@ -57,10 +39,6 @@ verbs = New ∷ Lock ∷ Unlock ∷ Delete ∷ Load ∷ Store ∷ Length ∷ Map
 -- the command that a word is
 abbrev pub verb_of : List ℕ → Option Verb
 verb_of word = written_so verb_text verbs word
-
--- a word is a name
-abbrev pub is_name : List ℕ → Bool
-is_name word = nat_le 1 (length word) && (nat_le (length word) 32 && list_all is_name_byte word)
 
 -- a word is of digits, one at least; it may begin with zeros
 abbrev pub are_digits : List ℕ → Bool

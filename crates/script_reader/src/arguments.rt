@@ -12,10 +12,10 @@ ghost use Rattle.script_reader.specs.Walk.Seen.{seen_argument, seen_arguments, s
 ghost use Rattle.script_reader.specs.Words.{mode_of_word};
 
 use crate::numbers::{address, count, offset, room};
-use crate::words::{Kind, is_name};
+use crate::words::Kind;
 use arrayvec::ArrayVec;
 use dir_records::is_path;
-use dom_text::TokenRef;
+use dom_text::{TokenRef, is_name};
 use std::alloc::Global;
 use uid_names::{ByteList, Mode, NoMemory, PAGE_BYTES};
 

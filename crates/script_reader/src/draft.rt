@@ -20,7 +20,8 @@ ghost use Rattle.script_reader.specs.UnknownNames.{is_known, is_unknown};
 ghost use Rattle.script_reader.specs.Repeats.{is_fresh, is_repeated};
 ghost use Rattle.script_reader.specs.Limits.{is_past_limit, pages_at};
 ghost use Rattle.script_reader.specs.SaidCommands.{command_said};
-ghost use Rattle.script_reader.specs.After.{after, declared_at, fate_said, with_command, with_declared, with_fate, with_node};
+ghost use Rattle.script_reader.specs.After.{after, declared_at, fate_said, with_access, with_command, with_declared, with_fate, with_node, with_subject};
+ghost use Rattle.script_reader.specs.Subjects.{has_subject};
 ghost use Rattle.script_reader.specs.Walk.Formed.{IsFormed, IsProcessNumber};
 ghost use Rattle.script_reader.specs.Walk.Found.{AreNodesOf, IsNodeOf};
 ghost use Rattle.script_reader.specs.Judging.{has_begun, judged_saying};
@@ -33,7 +34,7 @@ use crate::command::Command;
 use crate::index::{DeclaredVars, NamedVars, Places};
 use crate::line::{Line, LineFate};
 use crate::said::{command_of, node_named};
-use crate::script::{CommandRow, NodeRow, Script, VarRow};
+use crate::script::{CommandRow, NodeRow, Script, SubjectRow, VarRow};
 use crate::words::Verb;
 use dom_history::{Fate, FaultPlan};
 use std::alloc::Global;
@@ -60,6 +61,8 @@ pub struct Draft {
     starts: Vec<Object>,
     objects: Vec<VarRow>,
     plan: FaultPlan,
+    access: bool,
+    subjects: Vec<SubjectRow>,
     phases: u32,
     commands: Vec<CommandRow>,
     declared: DeclaredVars,
@@ -76,6 +79,8 @@ impl Drop for Draft {
             starts: _,
             objects: _,
             plan: _,
+            access: _,
+            subjects: _,
             phases: _,
             commands: _,
             declared: _,
@@ -116,6 +121,8 @@ impl Draft {
             starts: Vec::new(alloc),
             objects: Vec::new(alloc),
             plan: FaultPlan::new(alloc),
+            access: false,
+            subjects: Vec::new(alloc),
             phases: 1,
             commands: Vec::new(alloc),
             declared: DeclaredVars::new(alloc),
@@ -165,7 +172,8 @@ impl Draft {
             Line::Node { name, .. } => (self.node_named(name), None),
             Line::Object { home, .. } => (self.node_named(home), None),
             Line::Fault { from, to, .. } => (self.node_named(from), self.node_named(to)),
-            Line::Phase => (None, None),
+            Line::Phase | Line::Access => (None, None),
+            Line::Subject { node, .. } => (self.node_named(node), None),
             Line::Does { node, .. } => (self.node_named(node), None),
         };
         LineNodes { first, second }
@@ -179,8 +187,9 @@ impl Draft {
         ensures { result ≡ is_unknown self.now (seen line.entry) }
     {
         match line {
-            Line::Node { .. } | Line::Phase => false,
+            Line::Node { .. } | Line::Phase | Line::Access => false,
             Line::Object { .. } => nodes.first.is_none(),
+            Line::Subject { .. } => nodes.first.is_none(),
             Line::Fault { .. } => nodes.first.is_none() || nodes.second.is_none(),
             Line::Does {
                 number,
@@ -231,6 +240,8 @@ impl Draft {
 
     /// Whether the line declares what was declared, or makes an object for the variable of a declared one.
     fn is_repeated(&self, line: Line<'_>, nodes: &LineNodes) -> bool
+        requires formed { IsFormed self.now (seen line) }
+        requires numbers { is_no_number (seen line) ≡ false }
         requires found { AreNodesOf self.now.nodes (seen line) nodes.now }
         requires known { is_unknown self.now (seen line) ≡ false }
         ensures { result ≡ is_repeated self.now (seen line.entry) }
@@ -243,8 +254,20 @@ impl Draft {
                 self.plan.is_set(from, to, index.unwrap_or(0) as u64)
             }
             Line::Phase => false,
+            Line::Access => self.access,
+            Line::Subject { number, .. } => {
+                let owner = proc_of(known(nodes.first), number);
+                self.has_subject(owner)
+            }
             Line::Does { arguments, .. } => !self.are_fresh(arguments),
         }
+    }
+
+    /// Whether a process has its subject.
+    fn has_subject(&self, proc: ProcId) -> bool
+        ensures { result ≡ has_subject self.now.subjects proc }
+    {
+        self.subjects.as_slice().iter().any(|row| row.proc.is(proc))
     }
 
     /// Whether no argument is a new variable that a declared object has.
@@ -277,7 +300,7 @@ impl Draft {
                 let home = home_index(known(nodes.first));
                 self.pages[home] + room.unwrap_or(0) > VOLUME_ROOM
             }
-            Line::Fault { .. } => false,
+            Line::Fault { .. } | Line::Access | Line::Subject { .. } => false,
             Line::Phase => self.phases >= MAX_PHASES,
             Line::Does { .. } => self.commands.len() >= MAX_COMMANDS,
         }
@@ -308,6 +331,19 @@ impl Draft {
                 self.add_phase();
                 Ok(())
             }
+            Line::Access => {
+                self.add_access();
+                Ok(())
+            }
+            Line::Subject {
+                number,
+                person,
+                project,
+                ..
+            } => {
+                let owner = proc_of(known(nodes.first), number);
+                self.add_subject(alloc, owner, person, project)
+            }
             Line::Does {
                 number,
                 verb,
@@ -327,6 +363,38 @@ impl Draft {
         ensures { self.new ≡ record self.old { phases = self.old.phases + 1 } }
     {
         self.phases += 1;
+    }
+
+    /// Puts access lists in force.
+    fn add_access(&mut self)
+        ensures { self.new ≡ with_access self.old }
+    {
+        self.access = true;
+    }
+
+    /// Gives a process its subject.
+    fn add_subject(
+        &mut self,
+        alloc: Global,
+        proc: ProcId,
+        person: &[u8],
+        project: &[u8],
+    ) -> Result<(), NoMemory>
+        requires node { proc.node ≤ length self.old.nodes }
+        requires person { is_name person.now ≡ true }
+        requires project { is_name project.now ≡ true }
+        requires new { has_subject self.old.subjects proc ≡ false }
+        ensures { OnOk result (self.new ≡ with_subject self.old proc person.now project.now) }
+    {
+        let _range = (proc.node().number(), proc.number());
+        let person = ByteList::from_slice(alloc, person)?;
+        let project = ByteList::from_slice(alloc, project)?;
+        self.subjects.push(SubjectRow {
+            proc,
+            person,
+            project,
+        })?;
+        Ok(())
     }
 
     /// Sets the fate of a frame.
@@ -459,6 +527,8 @@ impl Draft {
             starts: _,
             objects,
             plan,
+            access,
+            subjects,
             phases,
             commands,
             declared,
@@ -467,7 +537,7 @@ impl Draft {
             pages: _,
         } = self;
         Ok(Script::new(
-            nodes, opening, objects, plan, phases, commands, declared, places,
+            nodes, opening, objects, plan, access, subjects, phases, commands, declared, places,
         ))
     }
 

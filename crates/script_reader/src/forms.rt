@@ -3,13 +3,13 @@
 ghost use Rattle.std.specs.Prelude.{◌≡◌, MatchOption, IfSome, Some, None, ◌∷◌, []};
 ghost use Rattle.dom_text.specs.Lent.{owned};
 ghost use Rattle.dom_text.specs.declared.token.Token.TheVariants.{Word};
-ghost use Rattle.script_reader.specs.Forms.{node_form as node_form_of, object_form as object_form_of, fault_form as fault_form_of, fate_form as fate_form_of};
+ghost use Rattle.script_reader.specs.Forms.{node_form as node_form_of, object_form as object_form_of, fault_form as fault_form_of, fate_form as fate_form_of, subject_form as subject_form_of};
 ghost use Rattle.script_reader.specs.Walk.Formed.{HasForm, IsFateFound};
 ghost use Rattle.script_reader.specs.Walk.Seen.{seen, seen_fate, BeginsWithNoWord, IsNotOneWord};
 
 use crate::line::{Line, LineFate};
-use crate::numbers::{frames, index, late, room};
-use dom_text::TokenRef;
+use crate::numbers::{frames, index, late, process, room};
+use dom_text::{TokenRef, cut_last};
 
 /// The word that stands first, and the tokens behind it.
 pub(crate) fn first_word<'a, 'l>(
@@ -96,6 +96,24 @@ pub(crate) fn fault_form<'a>(tokens: &'a [TokenRef<'_>]) -> Option<Line<'a>>
         to,
         index,
         fate,
+    })
+}
+
+/// A line of these tokens behind `subject`.
+pub(crate) fn subject_form<'a>(tokens: &'a [TokenRef<'_>]) -> Option<Line<'a>>
+    ensures form { MatchOption result (subject_form_of (owned tokens.now) ≡ None) (λ line. subject_form_of (owned tokens.now) ≡ Some (seen line)) }
+    ensures formed { IfSome result (λ line. HasForm (seen line)) }
+{
+    let (first, rest) = first_word(tokens)?;
+    let second = only_word(rest)?;
+    let (node, digits) = cut_last(first, b'.')?;
+    let (person, project) = cut_last(second, b'.')?;
+    let number = process(digits);
+    Some(Line::Subject {
+        node,
+        number,
+        person,
+        project,
     })
 }
 

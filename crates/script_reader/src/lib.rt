@@ -19,4 +19,4 @@ pub use cause::{Cause, ScriptFault};
 pub use command::Command;
 pub use draft::Draft;
 pub use reader::read_script;
-pub use script::{CommandRow, NodeRow, Script, VarRow};
+pub use script::{CommandRow, NodeRow, Script, SubjectRow, VarRow};

@@ -5,7 +5,8 @@ ghost use Rattle.script_reader.specs.NamesAsked.{is_no_name as is_no_name_in};
 ghost use Rattle.script_reader.specs.Walk.Seen.{seen, seen_fate};
 
 use crate::arguments::{Argument, have_names, have_numbers};
-use crate::words::{Verb, is_name};
+use crate::words::Verb;
+use dom_text::is_name;
 use std::alloc::Global;
 use uid_names::NoMemory;
 
@@ -36,6 +37,13 @@ pub(crate) enum Line<'a> {
         fate: LineFate,
     },
     Phase,
+    Access,
+    Subject {
+        node: &'a [u8],
+        number: Option<u32>,
+        person: &'a [u8],
+        project: &'a [u8],
+    },
     Does {
         node: &'a [u8],
         number: Option<u32>,
@@ -65,7 +73,8 @@ impl Line<'_> {
             Line::Node { frames, .. } => frames.is_none(),
             Line::Object { room, .. } => room.is_none(),
             Line::Fault { index, fate, .. } => !(index.is_some() && fate.has_number()),
-            Line::Phase => false,
+            Line::Phase | Line::Access => false,
+            Line::Subject { number, .. } => number.is_none(),
             Line::Does {
                 number,
                 arguments,
@@ -82,7 +91,13 @@ impl Line<'_> {
             Line::Node { name, .. } => !is_name(name),
             Line::Object { var, home, .. } => !(is_name(var) && is_name(home)),
             Line::Fault { from, to, .. } => !(is_name(from) && is_name(to)),
-            Line::Phase => false,
+            Line::Phase | Line::Access => false,
+            Line::Subject {
+                node,
+                person,
+                project,
+                ..
+            } => !(is_name(node) && (is_name(person) && is_name(project))),
             Line::Does { arguments, .. } => !have_names(alloc, arguments)?,
         })
     }

@@ -8,14 +8,14 @@ ghost use Rattle.dom_text.specs.Lent.{owned};
 ghost use Rattle.script_reader.specs.Walk.Formed.{HasForm, IsProcessNumber};
 ghost use Rattle.script_reader.specs.Walk.Results.{RefusesLines, line_answer};
 ghost use Rattle.script_reader.specs.Faults.{IsRefusal};
-ghost use Rattle.script_reader.specs.Forms.{phase_form as phase_form_of, command_form as command_form_of};
+ghost use Rattle.script_reader.specs.Forms.{access_form as access_form_of, phase_form as phase_form_of, command_form as command_form_of};
 ghost use Rattle.script_reader.specs.Walk.Seen.{seen, seen_line};
 ghost use Rattle.script_reader.specs.Words.{process_word as process_word_of};
 
 use crate::arguments::read_arguments;
 use crate::cause::{Cause, LineFault, ScriptFault};
 use crate::draft::Draft;
-use crate::forms::{fault_form, first_word, node_form, object_form};
+use crate::forms::{fault_form, first_word, node_form, object_form, subject_form};
 use crate::line::Line;
 use crate::script::Script;
 use crate::words::{LineWord, Verb, process_word, read_line_word, read_verb};
@@ -133,6 +133,8 @@ fn read_tokens(draft: &mut Draft, alloc: Global, tokens: &[TokenRef<'_>]) -> Res
         Some(LineWord::Object) => read_declaration(draft, alloc, object_form(rest)),
         Some(LineWord::Fault) => read_declaration(draft, alloc, fault_form(rest)),
         Some(LineWord::Phase) => read_phase(draft, alloc, rest),
+        Some(LineWord::Access) => read_access(draft, alloc, rest),
+        Some(LineWord::Subject) => read_declaration(draft, alloc, subject_form(rest)),
         None => read_command(draft, alloc, word, rest),
     }
 }
@@ -163,6 +165,19 @@ fn read_phase(draft: &mut Draft, alloc: Global, rest: &[TokenRef<'_>]) -> Result
         return Err(LineFault::Bad(Cause::Form));
     }
     draft.take(alloc, Line::Phase)
+}
+
+/// Reads the line that puts access lists in force, of which these tokens stand behind its word.
+fn read_access(draft: &mut Draft, alloc: Global, rest: &[TokenRef<'_>]) -> Result<(), LineFault>
+    ensures { Gives (line_answer draft.new result) (judged_place draft.old (access_form_of (owned rest.now))) }
+{
+    if draft.has_begun() {
+        return Err(LineFault::Bad(Cause::Place));
+    }
+    if !rest.is_empty() {
+        return Err(LineFault::Bad(Cause::Form));
+    }
+    draft.take(alloc, Line::Access)
 }
 
 /// Reads a command, whose first token is this word.

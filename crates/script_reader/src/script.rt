@@ -27,6 +27,14 @@ pub struct CommandRow {
     pub command: Command,
 }
 
+/// The subject of a process.
+#[derive(Drop, Debug)]
+pub struct SubjectRow {
+    pub proc: ProcId,
+    pub person: ByteList,
+    pub project: ByteList,
+}
+
 /// A script: what each of its lines declares or asks for. It keeps all that the grammar asks of a script, and
 /// beside it where a variable's object and a process's commands are found, so that nobody goes over all rows.
 pub struct Script {
@@ -34,6 +42,8 @@ pub struct Script {
     opening: Opening,
     objects: Vec<VarRow>,
     plan: FaultPlan,
+    access: bool,
+    subjects: Vec<SubjectRow>,
     phases: u32,
     commands: Vec<CommandRow>,
     declared: DeclaredVars,
@@ -48,6 +58,8 @@ impl Drop for Script {
             opening: _,
             objects: _,
             plan: _,
+            access: _,
+            subjects: _,
             phases: _,
             commands: _,
             declared: _,
@@ -74,6 +86,7 @@ impl Script {
     ghost use Rattle.script_reader.specs.Variables.{declared_object};
     ghost use Rattle.script_reader.specs.Places.{places_of};
     ghost use Rattle.script_reader.specs.Walk.Index.{HoldsDeclared};
+    ghost use Rattle.script_reader.specs.Walk.Inside.{content_made};
     ghost use Rattle.script_reader.specs.Walk.Placed.{HoldsPlaces};
 
     /// The script of these parts.
@@ -82,6 +95,8 @@ impl Script {
         opening: Opening,
         objects: Vec<VarRow>,
         plan: FaultPlan,
+        access: bool,
+        subjects: Vec<SubjectRow>,
         phases: u32,
         commands: Vec<CommandRow>,
         declared: DeclaredVars,
@@ -89,14 +104,16 @@ impl Script {
     ) -> Script
         requires declared { HoldsDeclared declared objects.items }
         requires places { HoldsPlaces places commands.items }
-        requires content { IsContent (record { nodes = nodes.items; opening = opening; objects = objects.items; plan = plan; phases = phases; commands = commands.items }) }
-        ensures { result ≡ record { nodes = nodes.items; opening = opening; objects = objects.items; plan = plan; phases = phases; commands = commands.items } }
+        requires content { IsContent (content_made nodes.items opening objects.items plan access subjects.items phases commands.items) }
+        ensures { result ≡ content_made nodes.items opening objects.items plan access subjects.items phases commands.items }
     {
         Script {
             nodes,
             opening,
             objects,
             plan,
+            access,
+            subjects,
             phases,
             commands,
             declared,
@@ -134,6 +151,21 @@ impl Script {
         ensures content { IsContent self.now }
     {
         &self.plan
+    }
+
+    /// Whether access lists are in force.
+    pub fn access(&self) -> bool
+        ensures { result ≡ self.now.access }
+    {
+        self.access
+    }
+
+    /// The subjects of processes, in script order, of each process one at most.
+    pub fn subjects(&self) -> &[SubjectRow]
+        ensures value { result.now ≡ self.now.subjects }
+        ensures content { IsContent self.now }
+    {
+        self.subjects.as_slice()
     }
 
     /// How many phases there are, 1 to 1,000.

@@ -1,8 +1,7 @@
 //! The words that begin lines and commands, and how a line names a process. No function takes memory.
 ghost use Rattle.std.specs.Prelude.{◌≡◌, ◌≢◌, ◌≤◌, length, Some, None, MatchOption, IfSome, All, IsTrue, ◌↔◌};
 ghost use Rattle.std.specs.Char.{is_ascii_digit};
-ghost use Rattle.uid_names.specs.NameTexts.{is_name_byte as may_stand_in_name};
-ghost use Rattle.script_reader.specs.Words.{are_digits as are_digits_in, is_name as is_name_text, line_word_text, process_word as process_word_of, verb_text, verbs};
+ghost use Rattle.script_reader.specs.Words.{are_digits as are_digits_in, line_word_text, process_word as process_word_of, verb_text, verbs};
 ghost use Rattle.uid_names.specs.Texts.{begun_so, written_so};
 ghost use Rattle.script_reader.specs.Shapes.{shape_of};
 ghost use Rattle.script_reader.specs.Walk.Formed.{IsProcessNumber};
@@ -10,10 +9,7 @@ ghost use Rattle.script_reader.specs.declared.words.LineWord.{LineWord};
 ghost use Rattle.script_reader.specs.declared.words.Verb.{Verb};
 
 use crate::numbers::process;
-use dom_text::cut;
-
-/// The most bytes of a name.
-const MAX_NAME: usize = 32;
+use dom_text::{cut, is_name};
 
 /// A word that begins a line, beside those that name a process.
 #[derive(Clone, Copy)]
@@ -22,6 +18,8 @@ pub(crate) enum LineWord {
     Object,
     Fault,
     Phase,
+    Access,
+    Subject,
 }
 
 /// A command's word.
@@ -158,6 +156,10 @@ pub(crate) fn read_line_word(word: &[u8]) -> Option<LineWord>
         Some(LineWord::Fault)
     } else if word == b"phase".as_slice() {
         Some(LineWord::Phase)
+    } else if word == b"access".as_slice() {
+        Some(LineWord::Access)
+    } else if word == b"subject".as_slice() {
+        Some(LineWord::Subject)
     } else {
         None
     }
@@ -228,30 +230,6 @@ pub(crate) fn process_word(word: &[u8]) -> Option<(&[u8], Option<u32>)>
     } else {
         None
     }
-}
-
-/// Whether this byte may stand in a name.
-fn is_name_byte(byte: u8) -> bool
-    ensures { result ≡ may_stand_in_name byte }
-{
-    matches!(byte, b'a'..=b'z' | b'A'..=b'Z' | b'0'..=b'9' | b'_' | b'$')
-}
-
-/// Whether each byte may stand in a name.
-fn are_name_bytes(word: &[u8]) -> bool
-    ensures { IsTrue result ↔ All (λ b. IsTrue (may_stand_in_name b)) word.now }
-{
-    word.iter().all(|b| is_name_byte(*b))
-}
-
-/// Whether a word is a name of a node or a variable.
-pub(crate) fn is_name(word: &[u8]) -> bool
-    ensures { result ≡ is_name_text word.now }
-{
-    if word.is_empty() || word.len() > MAX_NAME {
-        return false;
-    }
-    are_name_bytes(word)
 }
 
 /// Whether each byte is a digit.

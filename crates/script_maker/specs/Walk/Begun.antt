@@ -1,5 +1,5 @@
 -- The script of a seed as far as it has come.
-use Rattle.std.specs.Prelude.{ℕ, ◌≡◌, ◌+◌, List, [], ◌++◌, length, map}
+use Rattle.std.specs.Prelude.{ℕ, ◌≡◌, ◌+◌, false, List, [], ◌++◌, length, map}
 use Rattle.std.specs.List.{AllByRecursion, range_with_len}
 use Rattle.uid_names.specs.declared.limits.TheConstants.{MAX_ROOM}
 use Rattle.script_reader.specs.Arguments.{Given, Var, Offset, Count, Text, Mode}
@@ -16,6 +16,8 @@ nodes_begun n = record {
   opening = record { nodes = n; greatest = MAX_ROOM; objects = [] };
   objects = [];
   plan = [];
+  access = false;
+  subjects = [];
   phases = 1;
   commands = [];
 }
@@ -27,6 +29,8 @@ objects_begun n = record {
   opening = record { nodes = 8; greatest = MAX_ROOM; objects = map generated_object (range_with_len 0 n) };
   objects = map generated_var (range_with_len 0 n);
   plan = [];
+  access = false;
+  subjects = [];
   phases = 1;
   commands = [];
 }

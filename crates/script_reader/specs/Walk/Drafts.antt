@@ -17,6 +17,8 @@ content_of d = record {
   opening = record { nodes = length d.nodes.items; greatest = MAX_ROOM; objects = d.starts.items };
   objects = d.objects.items;
   plan = d.plan;
+  access = d.access;
+  subjects = d.subjects.items;
   phases = d.phases;
   commands = d.commands.items;
 }

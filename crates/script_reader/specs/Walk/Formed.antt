@@ -7,7 +7,7 @@ use Rattle.uid_names.specs.declared.limits.TheConstants.{NODE_PROCESSES}
 use Rattle.script_reader.specs.Arguments.{Said, Var, NewVar, Room, Offset, Count, Address, Text, Mode, Home, HomeNode, OptionalRoom, Path, OptionalPath}
 use Rattle.script_reader.specs.Commands.{IsOffset, IsCount, IsAddress}
 use Rattle.script_reader.specs.Scripts.{Content}
-use Rattle.script_reader.specs.Sayings.{Saying, Node, Object, Fault, Does, SaidFate, Lose, Twice, Late}
+use Rattle.script_reader.specs.Sayings.{Saying, Node, Object, Fault, Subject, Does, SaidFate, Lose, Twice, Late}
 use Rattle.script_reader.specs.Shapes.{shape_of}
 use Rattle.script_reader.specs.declared.words.Kind.{Kind}
 use Rattle.script_reader.specs.declared.words.Kind.TheVariants as kind
@@ -65,6 +65,7 @@ abbrev pub HasForm : Saying → Type 0
 HasForm (Node name frames) = IfSome frames AreFrames
 HasForm (Object var room home) = IfSome room IsRoom
 HasForm (Fault from to index fate) = (bytes_eq from to ≡ false) × (IfSome index IsIndex × IsFateFound fate)
+HasForm (Subject process person project) = IfSome process.number IsProcessNumber
 HasForm (Does process verb arguments) = IfSome process.number IsProcessNumber × AreFormed (shape_of verb) arguments
 HasForm _ = Unit {0}
 

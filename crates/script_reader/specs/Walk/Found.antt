@@ -1,7 +1,7 @@
 -- The nodes that a line names, each looked up once.
 use Rattle.std.specs.Prelude.{ℕ, ◌≡◌, ◌≤◌, is_some, Option, IfSome, List, length}
 use Rattle.script_reader.specs.NodeNames.{is_node_name, node_number}
-use Rattle.script_reader.specs.Sayings.{Saying, Node, Object, Fault, Phase, Does}
+use Rattle.script_reader.specs.Sayings.{Saying, Node, Object, Fault, Phase, Access, Subject, Does}
 use Rattle.script_reader.specs.declared.draft.LineNodes.{LineNodes}
 use Rattle.script_reader.specs.declared.script.NodeRow.{NodeRow}
 
@@ -18,4 +18,6 @@ AreNodesOf nodes (Node name frames) found = IsNodeOf nodes name found.first
 AreNodesOf nodes (Object var room home) found = IsNodeOf nodes home found.first
 AreNodesOf nodes (Fault from to index fate) found = IsNodeOf nodes from found.first × IsNodeOf nodes to found.second
 AreNodesOf nodes Phase found = Unit {0}
+AreNodesOf nodes Access found = Unit {0}
+AreNodesOf nodes (Subject process person project) found = IsNodeOf nodes process.node found.first
 AreNodesOf nodes (Does process verb arguments) found = IsNodeOf nodes process.node found.first

@@ -1,12 +1,13 @@
-use Rattle.std.proofs.Common.{None, ap, ◌∙◌, sym, subst}
+use Rattle.std.proofs.Common.{Option, None, ap, ◌∙◌, sym, subst}
 use Rattle.naming_tree.specs.declared.site.Site.{Site}
-use Rattle.command_talks.specs.Commands.{talk_of}
+use Rattle.command_talks.specs.Commands.{talk_for}
 use Rattle.aegis_shell.specs.AnswerTexts.{path_too_long}
 use Rattle.aegis_shell.specs.Operations.{ops_of}
 use Rattle.aegis_shell.specs.States.{begins, talk_goes}
 use Rattle.command_talks.specs.Talks.{MayBeTold}
 use Rattle.command_talks.specs.declared.outcome.Outcome.TheVariants.{Written}
 use Rattle.aegis_shell.specs.declared.stage.Turn.TheVariants as turns
+use Rattle.command_talks.specs.declared.check.Subject.{Subject}
 use Rattle.command_talks.specs.declared.talk.Talk.{Talk}
 use Rattle.command_talks.proofs.Begun.{ranged_begun}
 use Rattle.aegis_shell.proofs.Beginnings.{talk_begins, long_begins}
@@ -31,7 +32,7 @@ pub turn_of-requires : goal.turn_of-requires
 turn_of-requires c =
     let command = c.args.command.now in
     let found = rw c.in-Some.is at c.in_ok-machine.ensures in
-    subst (λ (t : Talk). MayBeTold t None) (sym found.1) (ranged_begun c.site.result.now c.args.working.now.dir command found.0 c.requires)
+    subst (λ (t : Talk). MayBeTold t None) (sym found.1) (ranged_begun c.guard.result.now c.site.result.now c.args.working.now.dir command found.0 c.requires)
 
 pub returns-in-Some : goal.returns-in-Some
 returns-in-Some c =
@@ -42,7 +43,7 @@ returns-in-Some c =
     let short = sym c.in_ok-is_too_long.ensures ∙ c.if-branch.false in
     record {
       turn = leads_same c.turn_of.result (talk_goes c.in-Some.machine None) (begins part working c.args.object command) c.turn_of.ensures.turn
-          (ap (λ (t : Talk). talk_goes t None) (found.1 ∙ ap (λ (s : Site). talk_of s working.dir command) c.site.ensures) ∙ talk_begins part working c.args.object command found.0 short c.requires);
+          (ap (λ (t : Talk). talk_goes t None) (found.1 ∙ (ap (λ (who : Option Subject). talk_for who c.site.result.now working.dir command) c.guard.ensures ∙ ap (λ (s : Site). talk_for part.guard s working.dir command) c.site.ensures)) ∙ talk_begins part working c.args.object command found.0 short c.requires);
       asks = asks_any (ops_of part.node command c.args.object) c.turn_of.result c.turn_of.ensures.asks;
     }
 

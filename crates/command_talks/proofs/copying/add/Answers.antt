@@ -1,35 +1,33 @@
-use Rattle.std.proofs.Common.{◌≡◌, Option, Some, None, ap, ◌∙◌, sym, subst}
+use Rattle.std.proofs.Common.{◌≡◌, Option, Some, ap, ◌∙◌, sym, subst}
 use Rattle.std.specs.Option.{option_copied}
 use Rattle.std.proofs.lemmas.Result.{IfOk-weaker}
-use Rattle.naming_tree.specs.ByPaths.{by_path_after, by_path_asks}
 use Rattle.naming_tree.specs.Dialogues.{IsStep}
-use Rattle.naming_tree.specs.declared.by_path.ByPath.{ByPath}
-use Rattle.command_talks.specs.FileTalks.{add_told, add_turn}
-use Rattle.command_talks.specs.NameTalks.{asked_at}
+use Rattle.naming_tree.specs.Changing.{changing_after, changing_asks}
+use Rattle.naming_tree.specs.declared.changing.Changing.{Changing}
+use Rattle.command_talks.specs.FileTalks.{added_turn, asked_at, file_turn}
 use Rattle.command_talks.specs.declared.file_talk.FileTalk.TheVariants.{Adds}
-use Rattle.command_talks.specs.declared.file_talk.FileTurn.{FileTurn}
 use Rattle.command_talks.specs.declared.file_talk.FileTurn.TheVariants.{Goes}
-use Rattle.naming_tree.specs.declared.step.Step.TheVariants.{Over}
-use Rattle.command_talks.proofs.Copies.{add_goes, add_comes}
+use Rattle.command_talks.specs.declared.file_talk.FileTurn.{FileTurn}
+use Rattle.command_talks.proofs.Copies.{named_goes, named_comes}
 use Rattle.command_talks.proofs.Machines.{asked_stood}
 use Rattle.command_talks.proofs.copying.add.Goals as goal
 
 pub returns-in-Do-clause-turn : goal.returns-in-Do-clause-turn
 returns-in-Do-clause-turn c =
-    ap (λ (m : Option ByPath). Some (Goes (Adds c.args.source m) c.in-Do.op)) c.in_ok-op.ensures.after
-    ∙ add_goes c.args.source c.args.machine (option_copied c.args.last) c.in-Do.op (sym (ap Some c.in-Do.is) ∙ c.in_ok-op.ensures.step)
+    ap (λ (w : Option Changing). Some (Goes (Adds c.args.source w) c.in-Do.op)) c.in_ok-op.ensures.after
+    ∙ named_goes changing_asks changing_after (λ w. Adds c.args.source w) (added_turn c.args.source) c.args.machine (option_copied c.args.last) c.in-Do.op (sym (ap Some c.in-Do.is) ∙ c.in_ok-op.ensures.step)
 
 pub returns-in-Do-clause-asks : goal.returns-in-Do-clause-asks
 returns-in-Do-clause-asks c = (
-  ap (asked_at by_path_asks) c.in_ok-op.ensures.after ∙ asked_stood by_path_asks by_path_after c.args.machine (option_copied c.args.last) c.in-Do.op (sym (sym (ap Some c.in-Do.is) ∙ c.in_ok-op.ensures.step)),
+  ap (asked_at changing_asks) c.in_ok-op.ensures.after ∙ asked_stood changing_asks changing_after c.args.machine (option_copied c.args.last) c.in-Do.op (sym (sym (ap Some c.in-Do.is) ∙ c.in_ok-op.ensures.step)),
   subst IsStep c.in-Do.is c.in_ok-op.ensures.range,
 )
 
 pub returns-in-Over-clause-turn : goal.returns-in-Over-clause-turn
 returns-in-Over-clause-turn c =
     let come = c.in-Over.come in
-    IfOk-weaker c.added.result (λ (turn : FileTurn). Some turn ≡ add_turn c.args.source (Some (Over come)) None) (λ (turn : FileTurn). Some turn ≡ add_told c.args.source c.args.machine (option_copied c.args.last))
-    (λ turn is. is ∙ add_comes c.args.source c.args.machine (option_copied c.args.last) come (sym (ap Some c.in-Over.is) ∙ c.in_ok-op.ensures.step)) c.added.ensures.turn
+    IfOk-weaker c.added.result (λ (turn : FileTurn). Some turn ≡ added_turn c.args.source come) (λ (turn : FileTurn). Some turn ≡ file_turn (Adds c.args.source c.args.machine) (option_copied c.args.last))
+    (λ turn is. is ∙ named_comes changing_asks changing_after (λ w. Adds c.args.source w) (added_turn c.args.source) c.args.machine (option_copied c.args.last) come (sym (ap Some c.in-Over.is) ∙ c.in_ok-op.ensures.step)) c.added.ensures.turn
 
 pub returns-in-Over-clause-asks : goal.returns-in-Over-clause-asks
 returns-in-Over-clause-asks c = c.added.ensures.asks

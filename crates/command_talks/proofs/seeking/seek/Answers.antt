@@ -1,23 +1,21 @@
-use Rattle.std.proofs.Common.{◌≡◌, Option, Some, None, ap, ◌∙◌, sym, subst}
-use Rattle.std.proofs.lemmas.Result.{IfOk-weaker}
+use Rattle.std.proofs.Common.{◌≡◌, Option, Some, ap, ◌∙◌, sym, subst}
 use Rattle.std.specs.Option.{option_copied}
+use Rattle.std.proofs.lemmas.Result.{IfOk-weaker}
 use Rattle.naming_tree.specs.Dialogues.{IsStep}
 use Rattle.naming_tree.specs.Walking.{walking_after, walking_asks}
 use Rattle.naming_tree.specs.declared.walking.Walking.{Walking}
-use Rattle.naming_tree.specs.declared.step.Step.TheVariants.{Over}
-use Rattle.command_talks.specs.FileTalks.{file_turn, seek_turn}
-use Rattle.command_talks.specs.NameTalks.{asked_at}
+use Rattle.command_talks.specs.FileTalks.{asked_at, file_turn, guarded_turn}
 use Rattle.command_talks.specs.declared.file_talk.FileTalk.TheVariants.{Seeks}
-use Rattle.command_talks.specs.declared.file_talk.FileTurn.{FileTurn}
 use Rattle.command_talks.specs.declared.file_talk.FileTurn.TheVariants.{Goes}
-use Rattle.command_talks.proofs.Copies.{seek_on, seek_comes}
+use Rattle.command_talks.specs.declared.file_talk.FileTurn.{FileTurn}
+use Rattle.command_talks.proofs.Copies.{named_goes, named_comes}
 use Rattle.command_talks.proofs.Machines.{asked_stood}
 use Rattle.command_talks.proofs.seeking.seek.Goals as goal
 
 pub returns-in-Do-clause-turn : goal.returns-in-Do-clause-turn
 returns-in-Do-clause-turn c =
-    ap (λ (w : Option Walking). Some (Goes (Seeks w c.args.errand) c.in-Do.op)) c.in_ok-op.ensures.after
-    ∙ seek_on c.args.walk c.args.errand (option_copied c.args.last) c.in-Do.op (sym (ap Some c.in-Do.is) ∙ c.in_ok-op.ensures.step)
+    ap (λ (w : Option Walking). Some (Goes (Seeks w c.args.errand c.args.guard) c.in-Do.op)) c.in_ok-op.ensures.after
+    ∙ named_goes walking_asks walking_after (λ w. Seeks w c.args.errand c.args.guard) (guarded_turn c.args.guard c.args.errand) c.args.walk (option_copied c.args.last) c.in-Do.op (sym (ap Some c.in-Do.is) ∙ c.in_ok-op.ensures.step)
 
 pub returns-in-Do-clause-asks : goal.returns-in-Do-clause-asks
 returns-in-Do-clause-asks c = (
@@ -28,8 +26,8 @@ returns-in-Do-clause-asks c = (
 pub returns-in-Over-clause-turn : goal.returns-in-Over-clause-turn
 returns-in-Over-clause-turn c =
     let come = c.in-Over.come in
-    IfOk-weaker c.sought.result (λ (turn : FileTurn). Some turn ≡ seek_turn c.args.errand (Some (Over come)) None) (λ (turn : FileTurn). Some turn ≡ file_turn (Seeks c.args.walk c.args.errand) (option_copied c.args.last))
-    (λ turn is. is ∙ seek_comes c.args.walk c.args.errand (option_copied c.args.last) come (sym (ap Some c.in-Over.is) ∙ c.in_ok-op.ensures.step)) c.sought.ensures.turn
+    IfOk-weaker c.guarded.result (λ (turn : FileTurn). Some turn ≡ guarded_turn c.args.guard c.args.errand come) (λ (turn : FileTurn). Some turn ≡ file_turn (Seeks c.args.walk c.args.errand c.args.guard) (option_copied c.args.last))
+    (λ turn is. is ∙ named_comes walking_asks walking_after (λ w. Seeks w c.args.errand c.args.guard) (guarded_turn c.args.guard c.args.errand) c.args.walk (option_copied c.args.last) come (sym (ap Some c.in-Over.is) ∙ c.in_ok-op.ensures.step)) c.guarded.ensures.turn
 
 pub returns-in-Over-clause-asks : goal.returns-in-Over-clause-asks
-returns-in-Over-clause-asks c = c.sought.ensures.asks
+returns-in-Over-clause-asks c = c.guarded.ensures.asks

@@ -1,5 +1,5 @@
 use Rattle.std.proofs.Common.{◌≡◌, true, rules}
-use Rattle.dir_records.specs.Paths.{is_node_name, along}
+use Rattle.dir_records.specs.Paths.{is_node_name}
 use Rattle.dir_records.proofs.Pieces.{node_first}
 use Rattle.dir_records.proofs.path.from_node.Goals as goal
 

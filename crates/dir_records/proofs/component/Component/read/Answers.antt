@@ -1,4 +1,4 @@
-use Rattle.std.proofs.Common.{rules, ◌≡◌, ◌≤◌, ◌-◌, ◌++◌, length, true, drop, replicate, sym, subst}
+use Rattle.std.proofs.Common.{rules, ◌≡◌, ◌≤◌, ◌++◌, length, true, drop, replicate, sym, subst}
 use Rattle.std.proofs.lemmas.List.{drop-replicate, length-drop}
 use Rattle.dir_records.specs.Components.{is_component, IsPadded}
 use Rattle.dir_records.proofs.Filling.{filled_up}

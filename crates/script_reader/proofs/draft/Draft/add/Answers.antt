@@ -1,13 +1,13 @@
 use Rattle.std.proofs.Common.{rules, ◌≡◌, false, length, sym, subst}
-use Rattle.std.specs.Prelude.{is_some}
+use Rattle.std.specs.Prelude.{◌&&◌, is_some}
 use Rattle.std.specs.List.{list_all}
-use Rattle.std.proofs.lemmas.Bool.{not-false}
+use Rattle.std.proofs.lemmas.Bool.{and_parts, not-false}
 use Rattle.script_reader.specs.Numbers.{has_number, is_fate, is_no_number}
 use Rattle.script_reader.specs.NamesAsked.{has_name, is_no_name}
 use Rattle.script_reader.specs.NodeNames.{is_node_name}
 use Rattle.script_reader.specs.Repeats.{is_fresh, is_repeated}
 use Rattle.script_reader.specs.UnknownNames.{is_known, is_unknown, proc_of}
-use Rattle.script_reader.specs.Words.{ProcessWord}
+use Rattle.script_reader.specs.Words.{ProcessWord, is_name}
 use Rattle.script_reader.specs.Walk.Formed.{IsFormed}
 use Rattle.script_reader.specs.Walk.Found.{AreNodesOf}
 use Rattle.script_reader.specs.Commands.{IsCommand}
@@ -55,6 +55,29 @@ add_command-requires-clause-spoken c =
     let fresh = not-false (list_all (is_fresh s) arguments) (subst (λ l. is_repeated s (seen l) ≡ false) c.in-Does.is c.requires.new) in
     let proc : c.proc_of-proc.result ≡ proc_of s.nodes process = search rules in
     rw (proc, c.in_ok-command-in-Does.ensures) (command_spoken s (proc_of s.nodes process) c.in-Does.verb arguments formed.1.kinds_are known.1 fresh)
+
+-- the process of a subject
+pub add_subject-requires-clause-person : goal.add_subject-requires-clause-person
+add_subject-requires-clause-person c =
+    let node = c.in-Subject.node.now in
+    let rest = is_name c.in-Subject.person.now && is_name c.in-Subject.project.now in
+    let names = both_true (is_name node) rest (subst (λ l. is_no_name (seen l) ≡ false) c.in-Subject.is c.requires.names) in
+    (and_parts (is_name c.in-Subject.person.now) (is_name c.in-Subject.project.now) names.1).0
+
+pub add_subject-requires-clause-project : goal.add_subject-requires-clause-project
+add_subject-requires-clause-project c =
+    let node = c.in-Subject.node.now in
+    let rest = is_name c.in-Subject.person.now && is_name c.in-Subject.project.now in
+    let names = both_true (is_name node) rest (subst (λ l. is_no_name (seen l) ≡ false) c.in-Subject.is c.requires.names) in
+    (and_parts (is_name c.in-Subject.person.now) (is_name c.in-Subject.project.now) names.1).1
+
+pub add_subject-requires-clause-new : goal.add_subject-requires-clause-new
+add_subject-requires-clause-new c =
+    let s = c.args.self.now in
+    let process : ProcessWord = record { node = c.in-Subject.node.now; number = c.in-Subject.number } in
+    let new = subst (λ l. is_repeated s (seen l) ≡ false) c.in-Subject.is c.requires.new in
+    let proc : c.proc_of-owner.result ≡ proc_of s.nodes process = search rules in
+    rw proc new
 
 pub returns-in-Object : goal.returns-in-Object
 returns-in-Object c =

@@ -8,7 +8,7 @@ pub invariant_of-result : goal.invariant_of-result
 invariant_of-result c = record {
   draft = search rules;
   starts = search rules;
-  declared = λ var. ap (λ rows. declared_object rows var) (c.new-7.ensures ∙ sym c.new-4.ensures.items);
-  named = λ proc is var. rw (c.in_ok-named.ensures (place_of_process proc), c.new-6.ensures.items) (λ none. absurd (omega (arith, none.1)), λ no. absurd cc);
+  declared = λ var. ap (λ rows. declared_object rows var) (c.new-8.ensures ∙ sym c.new-4.ensures.items);
+  named = λ proc is var. rw (c.in_ok-named.ensures (place_of_process proc), c.new-7.ensures.items) (λ none. absurd (omega (arith, none.1)), λ no. absurd cc);
   tallies = rw c.new-3.ensures.items tallies-none;
 }

@@ -1,0 +1,5 @@
+pub mod Carrying
+pub mod Loads
+pub mod Staying
+pub mod OnePlace
+pub mod Asked
