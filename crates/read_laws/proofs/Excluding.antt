@@ -1,14 +1,15 @@
--- In every history of one store two processes hold one object at a time only where both read it.
+-- In every history of one store two processes hold one object at a time only in modes that do not clash.
 use Rattle.std.proofs.Common.{◌≡◌, Bool, true, false, not, cond, if◌then◌else◌, Option, Some, None, List, [], ◌∷◌, ◌++◌, inl, inr, refl, sym, subst, ◌∙◌}
-use Rattle.std.specs.Prelude.{find, ◌&&◌, ◌||◌}
-use Rattle.std.proofs.lemmas.Bool.{and_parts, false≢true, or_parts}
+use Rattle.std.specs.Prelude.{find, ◌&&◌}
+use Rattle.std.proofs.lemmas.Bool.{and_parts, false≢true}
 use Rattle.std.proofs.lemmas.Option.{none-some, same_Some}
-use Rattle.uid_names.specs.Modes.{mode_writes}
+use Rattle.uid_names.specs.Modes.{modes_clash}
 use Rattle.uid_names.specs.Names.{ObjectName, ProcName, same_proc, same_uid}
 use Rattle.uid_names.specs.Openings.{Start}
 use Rattle.uid_names.specs.Rows.{is_in_conflict, same_row}
 use Rattle.uid_names.specs.declared.lock_row.LockRow.{LockRow}
 use Rattle.uid_names.specs.declared.mode.Mode.{Mode}
+use Rattle.uid_names.proofs.Codes.{modes_clash-sym}
 use Rattle.uid_names.proofs.Orders.{same_proc-sym, same_proc_is, same_row_is, same_uid_is}
 use Rattle.dom_history.specs.declared.op.Op.{Op}
 use Rattle.dom_history.specs.declared.op.Op.TheVariants.{Delete, Lock, Map, New, Store, Unlock, Unmap}
@@ -41,41 +42,45 @@ no-conflict true true clash named mine none = absurd (false≢true (sym mine))
 no-conflict false mine clash named other none = absurd (false≢true named)
 
 -- a lock is granted beside those of others alone that it does not clash with
-row-clear : (past : List StoreEffect) (a : ProcName) (v : ObjectName) (k n : Mode) (q : ProcName) → find (is_in_conflict a v k) (rows v.home past) ≡ None → holds q v past ≡ Some n → same_proc a q ≡ false → mode_writes k || mode_writes n ≡ false
+row-clear : (past : List StoreEffect) (a : ProcName) (v : ObjectName) (k n : Mode) (q : ProcName) → find (is_in_conflict a v k) (rows v.home past) ≡ None → holds q v past ≡ Some n → same_proc a q ≡ false → modes_clash a k q n ≡ false
 row-clear past a v k n q none held apart = by_found (find (same_row q v) (rows v.home past)) refl (sym (holds-rows q v past) ∙ held)
   where
-    by_found : (found : Option LockRow) → find (same_row q v) (rows v.home past) ≡ found → mode_in found ≡ Some n → mode_writes k || mode_writes n ≡ false
+    by_found : (found : Option LockRow) → find (same_row q v) (rows v.home past) ≡ found → mode_in found ≡ Some n → modes_clash a k q n ≡ false
     by_found None is mode = absurd (none-some n mode)
     by_found (Some row) is mode =
         let clear = found-clear (same_row q v) (is_in_conflict a v k) (rows v.home past) row is none in
         let of = same_row_is q v row clear.0 in
         let named = (and_parts (same_proc q row.proc) (same_uid v row.uid) clear.0).1 in
         let other : same_proc a row.proc ≡ false = subst (λ (p : ProcName). same_proc a p ≡ false) of.0 apart in
-        let beside = no-conflict (same_uid v row.uid) (same_proc a row.proc) (mode_writes k || mode_writes row.mode) named other clear.1 in
-        subst (λ (o : Mode). mode_writes k || mode_writes o ≡ false) (same_Some row.mode n mode) beside
+        let beside = no-conflict (same_uid v row.uid) (same_proc a row.proc) (modes_clash a k row.proc row.mode) named other clear.1 in
+        subst (λ (p : ProcName). modes_clash a k p n ≡ false) (sym of.0) (subst (λ (o : Mode). modes_clash a k row.proc o ≡ false) (same_Some row.mode n mode) beside)
 
--- of two processes that hold one object neither writes
+-- two processes that hold one object do so in modes that go together
 abbrev pub AreApart : List StoreEffect → Type 0
-AreApart past = (p q : ProcName) (u : ObjectName) (m n : Mode) → same_proc p q ≡ false → holds p u past ≡ Some m → holds q u past ≡ Some n → mode_writes n ≡ false
+AreApart past = (p q : ProcName) (u : ObjectName) (m n : Mode) → same_proc p q ≡ false → holds p u past ≡ Some m → holds q u past ≡ Some n → modes_clash p m q n ≡ false
 
 -- a lock is granted
 module _ (past : List StoreEffect) (a : ProcName) (v : ObjectName) (k : Mode) (none : find (is_in_conflict a v k) (rows v.home past) ≡ None) (apart : AreApart past) where
   by-tests : (p q : ProcName) (u : ObjectName) (m n : Mode) → same_proc p q ≡ false → (b c : Bool) → same_proc p a && same_uid u v ≡ b → same_proc q a && same_uid u v ≡ c
-      → (if b then Some k else holds p u past) ≡ Some m → (if c then Some k else holds q u past) ≡ Some n → mode_writes n ≡ false
+      → (if b then Some k else holds p u past) ≡ Some m → (if c then Some k else holds q u past) ≡ Some n → modes_clash p m q n ≡ false
   by-tests p q u m n other true true mine yours held_p held_q =
       let first = (and_parts (same_proc p a) (same_uid u v) mine).0 in
       let second = same_proc_is q a (and_parts (same_proc q a) (same_uid u v) yours).0 in
       absurd (false≢true (sym other ∙ subst (λ (x : ProcName). same_proc p x ≡ true) (sym second) first))
   by-tests p q u m n other true false mine yours held_p held_q =
       let parts = and_parts (same_proc p a) (same_uid u v) mine in
+      let is = same_proc_is p a parts.0 in
       let here : holds q v past ≡ Some n = subst (λ (w : ObjectName). holds q w past ≡ Some n) (same_uid_is u v parts.1) held_q in
-      let from : same_proc a q ≡ false = subst (λ (x : ProcName). same_proc x q ≡ false) (same_proc_is p a parts.0) other in
-      (or_parts (mode_writes k) (mode_writes n) (row-clear past a v k n q none here from)).1
+      let from : same_proc a q ≡ false = subst (λ (x : ProcName). same_proc x q ≡ false) is other in
+      let beside : modes_clash a m q n ≡ false = subst (λ (o : Mode). modes_clash a o q n ≡ false) (same_Some k m held_p) (row-clear past a v k n q none here from) in
+      subst (λ (x : ProcName). modes_clash x m q n ≡ false) (sym is) beside
   by-tests p q u m n other false true mine yours held_p held_q =
       let parts = and_parts (same_proc q a) (same_uid u v) yours in
+      let is = same_proc_is q a parts.0 in
       let here : holds p v past ≡ Some m = subst (λ (w : ObjectName). holds p w past ≡ Some m) (same_uid_is u v parts.1) held_p in
-      let from : same_proc a p ≡ false = same_proc-sym a p ∙ subst (λ (x : ProcName). same_proc p x ≡ false) (same_proc_is q a parts.0) other in
-      subst (λ (o : Mode). mode_writes o ≡ false) (same_Some k n held_q) (or_parts (mode_writes k) (mode_writes m) (row-clear past a v k m p none here from)).0
+      let from : same_proc a p ≡ false = same_proc-sym a p ∙ subst (λ (x : ProcName). same_proc p x ≡ false) is other in
+      let beside : modes_clash a n p m ≡ false = subst (λ (o : Mode). modes_clash a o p m ≡ false) (same_Some k n held_q) (row-clear past a v k m p none here from) in
+      modes_clash-sym p m q n ∙ subst (λ (x : ProcName). modes_clash x n p m ≡ false) (sym is) beside
   by-tests p q u m n other false false mine yours held_p held_q = apart p q u m n other held_p held_q
 
   taken-apart : AreApart (TakesLock a v k ∷ past)

@@ -1,5 +1,5 @@
 -- Replies of link faults among those that a history allows.
-use Rattle.std.proofs.Common.{◌≡◌, Bool, true, false, if◌then◌else◌, List, [], ◌∷◌, inl, inr, ◌⊎◌, refl}
+use Rattle.std.proofs.Common.{◌≡◌, Bool, true, false, if◌then◌else◌, [], ◌∷◌, inl, inr, ◌⊎◌, refl}
 use Rattle.std.specs.List.{AllByRecursion, Contains}
 use Rattle.std.proofs.lemmas.List.Elements.{All-contains, All-from_recursion}
 use Rattle.dom_history.specs.declared.op.Op.{Op}

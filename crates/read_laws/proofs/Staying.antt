@@ -1,11 +1,11 @@
 -- What a process knows that it reads nobody writes meanwhile, in every history of one store where nothing is open.
 use Rattle.std.proofs.Common.{◌≡◌, ℕ, Bool, true, false, not, if◌then◌else◌, Option, Some, None, List, [], ◌∷◌, ◌++◌, inl, inr, refl, ap, sym, subst, ◌∙◌}
 use Rattle.std.proofs.lemmas.Bool.{false≢true}
-use Rattle.uid_names.specs.Modes.{mode_writes}
+use Rattle.uid_names.specs.Modes.{mode_writes, modes_clash}
 use Rattle.uid_names.specs.Names.{ObjectName, ProcName, same_proc, same_uid}
 use Rattle.uid_names.specs.Openings.{Start}
 use Rattle.uid_names.specs.declared.mode.Mode.{Mode}
-use Rattle.uid_names.specs.declared.mode.Mode.TheVariants.{Read}
+use Rattle.uid_names.specs.declared.mode.Mode.TheVariants.{Read, Write, CoWrite}
 use Rattle.uid_names.proofs.Orders.{same_proc_is, same_uid_is}
 use Rattle.dom_history.specs.declared.deed.LockState.{LockState}
 use Rattle.dom_history.specs.declared.deed.LockState.TheVariants.{Deleting, Free, Held, Releasing, Taking}
@@ -40,6 +40,12 @@ writes-in (Taking m) may = absurd (false≢true may)
 writes-in (Releasing m) may = absurd (false≢true may)
 writes-in Deleting may = absurd (false≢true may)
 
+-- beside a reader whoever writes clashes
+beside-reader : (p q : ProcName) (n : Mode) → modes_clash p Read q n ≡ mode_writes n
+beside-reader p q Read = refl
+beside-reader p q Write = refl
+beside-reader p q CoWrite = refl
+
 same_held : (m n : Mode) → Held m ≡ Held n → m ≡ n
 same_held m n is = cc
 
@@ -62,7 +68,7 @@ module _ (opening : Start) where
     no-writer q false other w =
         let by_p = (known opening items p u Read legal rising reads).holds_it in
         let by_q = (known opening items q u w.mode legal rising w.held).holds_it in
-        false≢true (sym (all-apart opening [] items legal p q u Read w.mode other by_p by_q) ∙ w.writes)
+        false≢true (sym (all-apart opening [] items legal p q u Read w.mode other by_p by_q) ∙ (beside-reader p q w.mode ∙ w.writes))
 
     no-store : (q : ProcName) (spot : Spot) (bytes : List ℕ) (t : Target) → IsAllowed (before_op opening items q) q (Store spot bytes) Fine → target opening (done items) q spot ≡ Some t → same_uid t.uid u ≡ true → ⊥
     no-store q spot bytes t (inl is) at same =
