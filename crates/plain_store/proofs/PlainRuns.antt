@@ -56,7 +56,7 @@ link_faults-faulty (ListOp home after) s (Locks rows more) = one_faulty LinkFaul
 link_faults-faulty _ _ _ = none_faulty
 
 -- a reply of no link fault is that of one store
-reply_without_faults : (b : Before) (p : ProcName) (op : Op) (reply : Reply) → IsAllowed b p op reply → IsFaultless reply → reply ≡ reply_of b p op
+pub reply_without_faults : (b : Before) (p : ProcName) (op : Op) (reply : Reply) → IsAllowed b p op reply → IsFaultless reply → reply ≡ reply_of b p op
 reply_without_faults b p op reply (inl e) plain = e
 reply_without_faults b p op reply (inr c) plain = absurd (All-contains (λ r. IsFaultless r → ⊥) (link_faults op (unlock_state op b.told) (reply_of b p op)) reply (link_faults-faulty op (unlock_state op b.told) (reply_of b p op)) c plain)
 
