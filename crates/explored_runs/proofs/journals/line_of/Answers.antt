@@ -1,10 +1,10 @@
 use Rattle.std.proofs.Common.{◌≡◌, ℕ, List, Option}
 use Rattle.script_reader.specs.Grammar.{raw_lines}
 use Rattle.journal_text.specs.Lines.{journal}
-use Rattle.found_runs.specs.Sought.{first_with, IsSought}
+use Rattle.explored_runs.specs.Sought.{first_with, IsSought}
 use Rattle.std.proofs.lemmas.Result.{IfOk-weaker}
-use Rattle.found_runs.proofs.FirstLines.{sought-in-run}
-use Rattle.found_runs.proofs.journals.line_of.Goals as goal
+use Rattle.explored_runs.proofs.FirstLines.{sought-in-run}
+use Rattle.explored_runs.proofs.journals.line_of.Goals as goal
 
 pub returns-in-Ok : goal.returns-in-Ok
 returns-in-Ok c =

@@ -1,7 +1,7 @@
 use Rattle.std.proofs.Common.{◌∷◌, sym, ap, ◌∙◌}
 use Rattle.script_reader.specs.Grammar.{raw_lines}
 use Rattle.script_reader.proofs.Reading.{behind_the_end, lines-alone, lines-cut}
-use Rattle.found_runs.proofs.journals.cut_line.Goals as goal
+use Rattle.explored_runs.proofs.journals.cut_line.Goals as goal
 
 pub returns-in-Some-clause-lines : goal.returns-in-Some-clause-lines
 returns-in-Some-clause-lines c = ap raw_lines c.in-Some.ensures.parts.whole ∙ lines-cut c.in-Some.line.now c.in-Some.rest.now c.in-Some.ensures.parts.first

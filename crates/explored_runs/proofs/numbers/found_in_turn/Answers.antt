@@ -1,7 +1,7 @@
 use Rattle.std.proofs.Common.{◌≡◌, arith, subst, sym}
-use Rattle.found_runs.specs.Sought.{HasNone, IsSought}
-use Rattle.found_runs.proofs.Halves.{none-yet, none-push}
-use Rattle.found_runs.proofs.numbers.found_in_turn.Goals as goal
+use Rattle.explored_runs.specs.Sought.{HasNone, IsSought}
+use Rattle.explored_runs.proofs.Halves.{none-yet, none-push}
+use Rattle.explored_runs.proofs.numbers.found_in_turn.Goals as goal
 
 pub loop-number-init : goal.loop-number-init
 loop-number-init c = none-yet c.args.script.now c.args.words.now c.args.from

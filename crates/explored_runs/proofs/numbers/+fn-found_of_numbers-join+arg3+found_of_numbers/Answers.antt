@@ -1,8 +1,8 @@
 use Rattle.std.proofs.Common.{◌≡◌, ◌+◌, ◌-◌, ◌/◌, ◌≤◌, sym, subst, arith, rules}
 use Rattle.std.proofs.lemmas.Grind.{common_steps}
-use Rattle.found_runs.specs.Sought.{IsFound}
-use Rattle.found_runs.proofs.Halves.{found-append}
-use Rattle.found_runs.proofs.numbers.+fn-found_of_numbers-join+arg3+found_of_numbers.Goals as goal
+use Rattle.explored_runs.specs.Sought.{IsFound}
+use Rattle.explored_runs.proofs.Halves.{found-append}
+use Rattle.explored_runs.proofs.numbers.+fn-found_of_numbers-join+arg3+found_of_numbers.Goals as goal
 
 pub returns : goal.returns
 returns g t c =

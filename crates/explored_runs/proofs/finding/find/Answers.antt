@@ -1,9 +1,9 @@
 use Rattle.std.proofs.Common.{◌≡◌, arith, subst, sym, map}
 use Rattle.dom_history.specs.NodeTexts.{AreNodeNames}
 use Rattle.aegis_shell.proofs.Parts.{node_names}
-use Rattle.found_runs.specs.Sought.{IsFound}
-use Rattle.found_runs.proofs.Halves.{none-yet, none-append, found_here}
-use Rattle.found_runs.proofs.finding.find.Goals as goal
+use Rattle.explored_runs.specs.Sought.{IsFound}
+use Rattle.explored_runs.proofs.Halves.{none-yet, none-append, found_here}
+use Rattle.explored_runs.proofs.finding.find.Goals as goal
 
 pub names_of-requires : goal.names_of-requires
 names_of-requires g c = subst (λ rows. AreNodeNames (map (λ n. n.name) rows)) (sym c.nodes.ensures.value) (node_names c.args.script.now c.nodes.ensures.content)

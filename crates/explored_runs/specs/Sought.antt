@@ -9,7 +9,7 @@ use Rattle.script_runner.specs.declared.run.Ran.{Ran}
 use Rattle.script_runner.specs.Reports.{RunOf}
 use Rattle.script_runner.specs.Faults.{ComesToLastTick}
 use Rattle.event_views.specs.LineWords.{words_in, are_found}
-use Rattle.found_runs.specs.declared.numbers.Found.{Found}
+use Rattle.explored_runs.specs.declared.numbers.Found.{Found}
 
 -- the first of these lines that has the words in order
 abbrev pub first_with : List (List ℕ) → List (List ℕ) → Option (List ℕ)

@@ -3,7 +3,7 @@ ghost use Rattle.std.specs.Prelude.{◌≡◌, ◌∷◌, ◌<◌, length, All, 
 ghost use Rattle.script_reader.specs.Grammar.{raw_lines};
 ghost use Rattle.script_runs.specs.Reports.{names_of as names_in};
 ghost use Rattle.journal_text.specs.Lines.{Names, journal};
-ghost use Rattle.found_runs.specs.Sought.{first_with, IsSought};
+ghost use Rattle.explored_runs.specs.Sought.{first_with, IsSought};
 
 use dom_history::NodeNames;
 use dom_text::cut;

@@ -5,8 +5,8 @@ use Rattle.std.specs.Option.{option_or}
 use Rattle.std.proofs.lemmas.Bool.Decides.{nat_tests}
 use Rattle.uid_names.proofs.ListLemmas.{by_cases}
 use Rattle.script_reader.specs.Scripts.{Content}
-use Rattle.found_runs.specs.declared.numbers.Found.{Found}
-use Rattle.found_runs.specs.Sought.{IsSought, HasNone, IsLowest, IsFound}
+use Rattle.explored_runs.specs.declared.numbers.Found.{Found}
+use Rattle.explored_runs.specs.Sought.{IsSought, HasNone, IsLowest, IsFound}
 
 -- no number has it of none
 pub none-yet : (s : Content) (words : List (List ℕ)) (from : ℕ) → HasNone s words from from

@@ -1,10 +1,10 @@
 //! Finds a number of turns.
 ghost use Rattle.std.specs.Prelude.{◌≤◌, IfOk};
-ghost use Rattle.found_runs.specs.Sought.{IsFound};
+ghost use Rattle.explored_runs.specs.Sought.{IsFound};
 
+use crate::batches::{MOST_THREADS, batch_end, tell};
 use crate::numbers::{Found, found_of_numbers};
 use dom_io::Sink;
-use explored_runs::batches::{MOST_THREADS, batch_end, tell};
 use script_reader::Script;
 use script_runner::names::names_of;
 use std::alloc::Global;
