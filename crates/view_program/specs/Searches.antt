@@ -5,9 +5,9 @@ use Rattle.script_runs.specs.Reports.{names_of}
 use Rattle.explored_counts.specs.declared.seen.Explored.{Explored}
 use Rattle.explored_counts.specs.Told.{IsTold}
 use Rattle.explored_runs.specs.Explored.{IsExplored}
-use Rattle.found_runs.specs.declared.numbers.Found.{Found}
-use Rattle.found_runs.specs.Sought.{IsFound}
-use Rattle.domain_view.specs.declared.reading.Said.{Said}
+use Rattle.explored_runs.specs.declared.numbers.Found.{Found}
+use Rattle.explored_runs.specs.Sought.{IsFound}
+use Rattle.view_program.specs.declared.reading.Said.{Said}
 
 -- this status, and this text
 abbrev pub saying : ℕ → List ℕ → Said

@@ -12,11 +12,19 @@ pub(crate) struct Numbers {
     ghost order: { first ≤ end },
 }
 
+/// Two numbers of turns whose runs are compared, and how wide lanes are drawn, if that is said.
+#[derive(Clone, Copy, Debug, PartialEq, Eq)]
+pub(crate) struct Compared {
+    pub(crate) first: u64,
+    pub(crate) second: u64,
+    pub(crate) width: Option<u64>,
+}
+
 /// Which events of a run are shown, by names, and how.
 #[derive(Drop, Debug)]
 pub(crate) struct Shown {
     pub(crate) is_picture: bool,
-    pub(crate) width: u64,
+    pub(crate) width: Option<u64>,
     pub(crate) from: Option<u64>,
     pub(crate) to: Option<u64>,
     pub(crate) object: Option<ByteList>,
@@ -31,8 +39,8 @@ pub(crate) enum Asked {
     Lanes(u64, Shown),
     /// What a run counts.
     Counts(u64),
-    /// Where a run differs from that of another number.
-    Diff(u64, u64),
+    /// Where the runs of two numbers differ; a journal stands for the first.
+    Diff(Compared),
     /// What comes of each of these numbers.
     Explore(Numbers),
     /// The lowest of them whose journal has a line with these words in order.

@@ -1,6 +1,6 @@
 //! Tells what a run counts.
 use crate::reading::Said;
-use dom_text::put_decimal;
+use dom_text::{cut, put_decimal};
 use event_counts::{
     Became, commands_of_kind, frames_noticed, frames_sent, locks_refused, pages_asked,
     pages_dropped, pages_sent_home, spans_of_kind,
@@ -99,8 +99,8 @@ fn put_pages(to: &mut ByteList, run: &RunView, node: NodeId) -> Result<(), NoMem
 
 /// The first word of a command, which is its kind.
 fn first_word(words: &[u8]) -> &[u8] {
-    match words.iter().position(|b| *b == b' ') {
-        Some(at) => &words[..at],
+    match cut(words, b' ') {
+        Some((word, _)) => word,
         None => words,
     }
 }

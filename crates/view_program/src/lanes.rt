@@ -1,7 +1,8 @@
 //! Draws a run.
 use crate::asked::Shown;
-use crate::reading::Said;
-use dom_text::decimal;
+use crate::host::Host;
+use crate::reading::{NOT_TAKEN, Said};
+use dom_text::{cut_last, decimal};
 use event_charts::chart_of;
 use event_views::{Choice, CommandName, RunView};
 use lane_charts::{draw_svg, draw_text};
@@ -18,16 +19,10 @@ fn object_of(run: &RunView, name: &[u8]) -> Option<Uid> {
     Uid::read(name).ok()
 }
 
-/// What stands before the last point of a text, and what stands behind it.
-fn last_cut(text: &[u8]) -> Option<(&[u8], &[u8])> {
-    let at = text.iter().rposition(|b| *b == b'.')?;
-    Some((&text[..at], &text[at + 1..]))
-}
-
 /// The command of this name, as `a.1.3`.
 fn command_of(run: &RunView, name: &[u8]) -> Option<CommandName> {
-    let (process, index) = last_cut(name)?;
-    let (node, number) = last_cut(process)?;
+    let (process, index) = cut_last(name, b'.')?;
+    let (node, number) = cut_last(process, b'.')?;
     let node = run.names().number_of(node)?;
     let number = u8::try_from(decimal(number).ok()?).ok()?;
     let index = u32::try_from(decimal(index).ok()?).ok()?;
@@ -44,7 +39,7 @@ fn unknown(alloc: Global, what: &[u8], name: &[u8]) -> Result<Said, NoMemory> {
     text.extend(b" ")?;
     text.extend(name)?;
     text.extend(b"\n")?;
-    Ok(Said::new(2, text))
+    Ok(Said::new(NOT_TAKEN, text))
 }
 
 /// Which events of a run are shown.
@@ -72,12 +67,11 @@ fn choice_of(alloc: Global, run: &RunView, shown: &Shown) -> Result<Choice, Said
 }
 
 /// The chosen events of a run, drawn.
-pub(crate) fn drawn(alloc: Global, run: &RunView, shown: &Shown) -> Result<Said, Said> {
+pub(crate) fn drawn(alloc: Global, run: &RunView, shown: &Shown, host: Host) -> Result<Said, Said> {
     let choice = choice_of(alloc, run, shown)?;
     let chart = chart_of(alloc, run, &choice)?;
     if shown.is_picture {
         return Ok(Said::new(0, draw_svg(alloc, &chart)?));
     }
-    let width = usize::try_from(shown.width).unwrap_or(usize::MAX);
-    Ok(Said::new(0, draw_text(alloc, &chart, width)?))
+    Ok(Said::new(0, draw_text(alloc, &chart, host.width(shown.width))?))
 }

@@ -12,6 +12,9 @@ use script_runner::parted::parted;
 use std::alloc::Global;
 use uid_names::{ByteList, NoMemory, SCRIPT_BYTES};
 
+/// The status of words that are not taken, or that name what the script does not have.
+pub(crate) const NOT_TAKEN: u8 = 2;
+
 /// What is said, and the status that says it. Nothing is said where a read failed, a node came to the last tick or memory was wanted.
 #[derive(Drop, Debug)]
 pub(crate) struct Said {
@@ -87,15 +90,32 @@ pub(crate) fn read_input<S: Source>(alloc: Global, source: &mut S) -> Result<Scr
     script_of(alloc, bytes.bytes())
 }
 
+/// A run of a script, and the number of turns that picked it; None where a journal did.
+#[derive(Drop)]
+pub(crate) struct ReadRun {
+    pub(crate) run: RunView,
+    pub(crate) turns: Option<u64>,
+}
+
+/// Two runs of a script.
+#[derive(Drop)]
+pub(crate) struct BothRuns {
+    pub(crate) first: ReadRun,
+    pub(crate) second: ReadRun,
+}
+
 /// The run of a script in the turns of a number.
 fn run_of_turns(
     alloc: Global,
     script: &Script,
     source: &[u8],
     turns: u64,
-) -> Result<RunView, Said> {
+) -> Result<ReadRun, Said> {
     match run_in_turns(alloc, script, source, turns) {
-        Ok(run) => Ok(run),
+        Ok(run) => Ok(ReadRun {
+            run,
+            turns: Some(turns),
+        }),
         Err(RunFault::TickLimit(_)) => Err(Said::nothing(8)),
         Err(RunFault::NoMemory) => Err(Said::nothing(7)),
     }
@@ -107,11 +127,11 @@ fn run_of_text(
     script: &Script,
     source: &[u8],
     journal: &[u8],
-) -> Result<RunView, Said>
+) -> Result<ReadRun, Said>
     requires { length journal.now ≤ JOURNAL_BYTES }
 {
     match run_of_journal(alloc, script, source, journal) {
-        Ok(run) => Ok(run),
+        Ok(run) => Ok(ReadRun { run, turns: None }),
         Err(CheckFault::No { line, cause }) => {
             Err(Said::new(9, line_text(alloc, line, cause.text())?))
         }
@@ -119,66 +139,63 @@ fn run_of_text(
     }
 }
 
-/// A run of a script, and another one, if one is asked for.
-#[derive(Drop)]
-pub(crate) struct ReadRuns {
-    pub(crate) run: RunView,
-    pub(crate) other: Option<RunView>,
-}
-
-/// The run of a script in the turns of another number, if one is given.
-fn other_run(
-    alloc: Global,
-    script: &Script,
-    source: &[u8],
-    turns: Option<u64>,
-) -> Result<Option<RunView>, Said> {
-    match turns {
-        Some(turns) => Ok(Some(run_of_turns(alloc, script, source, turns)?)),
-        None => Ok(None),
-    }
-}
-
-/// The runs of the script of these bytes in the turns of these numbers.
-fn runs_of_turns(
-    alloc: Global,
-    source: &[u8],
-    turns: u64,
-    other: Option<u64>,
-) -> Result<ReadRuns, Said> {
+/// The run of the script of these bytes in the turns of a number.
+fn run_in(alloc: Global, source: &[u8], turns: u64) -> Result<ReadRun, Said> {
     let script = script_of(alloc, source)?;
-    let run = run_of_turns(alloc, &script, source, turns)?;
-    let other = other_run(alloc, &script, source, other)?;
-    Ok(ReadRuns { run, other })
+    run_of_turns(alloc, &script, source, turns)
 }
 
-/// The run of the script of these bytes that has this journal, and that of a number.
-fn runs_of_journal(
-    alloc: Global,
-    source: &[u8],
-    journal: &[u8],
-    other: Option<u64>,
-) -> Result<ReadRuns, Said>
+/// The run of the script of these bytes that has this journal.
+fn run_behind(alloc: Global, source: &[u8], journal: &[u8]) -> Result<ReadRun, Said>
     requires { length journal.now ≤ JOURNAL_BYTES }
 {
     let script = script_of(alloc, source)?;
-    let run = run_of_text(alloc, &script, source, journal)?;
-    let other = other_run(alloc, &script, source, other)?;
-    Ok(ReadRuns { run, other })
+    run_of_text(alloc, &script, source, journal)
 }
 
-/// The run of the script that a source has: that of the journal behind it, or that of the number where there is none; and that of another number, if one
-/// is given.
+/// The runs of the script of these bytes in the turns of two numbers.
+fn both_in(alloc: Global, source: &[u8], first: u64, second: u64) -> Result<BothRuns, Said> {
+    let script = script_of(alloc, source)?;
+    let first = run_of_turns(alloc, &script, source, first)?;
+    let second = run_of_turns(alloc, &script, source, second)?;
+    Ok(BothRuns { first, second })
+}
+
+/// The run of the script of these bytes that has this journal, and that of a number.
+fn both_behind(alloc: Global, source: &[u8], journal: &[u8], second: u64) -> Result<BothRuns, Said>
+    requires { length journal.now ≤ JOURNAL_BYTES }
+{
+    let script = script_of(alloc, source)?;
+    let first = run_of_text(alloc, &script, source, journal)?;
+    let second = run_of_turns(alloc, &script, source, second)?;
+    Ok(BothRuns { first, second })
+}
+
+/// The run of the script that a source has: that of the journal behind it, or that of the number where there is none.
 #[tactic(auto, using(crate::proofs::Behind::behind_is_few))]
-pub(crate) fn read_runs<S: Source>(
+pub(crate) fn read_run<S: Source>(
     alloc: Global,
     source: &mut S,
     turns: u64,
-    other: Option<u64>,
-) -> Result<ReadRuns, Said> {
+) -> Result<ReadRun, Said> {
     let bytes = bytes_of(alloc, source, JOURNAL_BYTES)?;
     let Some((text, journal)) = parted(bytes.bytes()) else {
-        return runs_of_turns(alloc, bytes.bytes(), turns, other);
+        return run_in(alloc, bytes.bytes(), turns);
     };
-    runs_of_journal(alloc, text, journal, other)
+    run_behind(alloc, text, journal)
+}
+
+/// Two runs of the script that a source has: that of the journal behind it, or that of the first number where there is none; and that of the second.
+#[tactic(auto, using(crate::proofs::Behind::behind_is_few))]
+pub(crate) fn read_both<S: Source>(
+    alloc: Global,
+    source: &mut S,
+    first: u64,
+    second: u64,
+) -> Result<BothRuns, Said> {
+    let bytes = bytes_of(alloc, source, JOURNAL_BYTES)?;
+    let Some((text, journal)) = parted(bytes.bytes()) else {
+        return both_in(alloc, bytes.bytes(), first, second);
+    };
+    both_behind(alloc, text, journal, second)
 }

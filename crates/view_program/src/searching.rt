@@ -1,27 +1,19 @@
 //! What is told of many numbers of turns.
 ghost use Rattle.std.specs.Prelude.{◌≡◌, IfOk};
-ghost use Rattle.domain_view.specs.Searches.{SaysExplored, SaysFound, found_line};
+ghost use Rattle.view_program.specs.Searches.{SaysExplored, SaysFound, found_line};
 
 use crate::asked::Numbers;
+use crate::host::Host;
 use crate::reading::Said;
 use dom_io::Sink;
 use dom_text::put_decimal;
 use explored_counts::explored_text;
-use explored_runs::explore;
-use found_runs::{Found, find};
+use explored_runs::{Found, explore, find};
 use script_reader::Script;
 use script_runner::names::names_of;
 use std::alloc::Global;
 use std::thread::Threads;
 use uid_names::{ByteList, NoMemory};
-
-/// How many threads run these numbers.
-fn threads_of(numbers: &Numbers, processors: usize) -> usize {
-    match numbers.threads {
-        Some(threads) => usize::try_from(threads).unwrap_or(usize::MAX),
-        None => processors,
-    }
-}
 
 /// What comes of each of these numbers.
 pub(crate) fn explored<R: Threads, N: Sink>(
@@ -29,12 +21,12 @@ pub(crate) fn explored<R: Threads, N: Sink>(
     alloc: Global,
     script: &Script,
     numbers: &Numbers,
-    processors: usize,
+    host: Host,
     notes: Option<&mut N>,
 ) -> Result<Said, Said>
     ensures { IfOk result (SaysExplored script.now numbers.now.first numbers.now.end) }
 {
-    let threads = threads_of(numbers, processors);
+    let threads = host.threads(numbers.threads);
     let all = numbers.end - numbers.first;
     let explored = explore(
         rt,
@@ -69,12 +61,12 @@ pub(crate) fn found<R: Threads, N: Sink>(
     script: &Script,
     words: &[ByteList],
     numbers: &Numbers,
-    processors: usize,
+    host: Host,
     notes: Option<&mut N>,
 ) -> Result<Said, Said>
     ensures { IfOk result (SaysFound script.now words.now numbers.now.first numbers.now.end) }
 {
-    let threads = threads_of(numbers, processors);
+    let threads = host.threads(numbers.threads);
     match find(
         rt,
         alloc,

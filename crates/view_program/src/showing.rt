@@ -2,8 +2,9 @@
 use crate::asked::Asked;
 use crate::counting::counted;
 use crate::differing::differing;
+use crate::host::Host;
 use crate::lanes::drawn;
-use crate::reading::{Said, read_input, read_runs};
+use crate::reading::{NOT_TAKEN, Said, read_both, read_input, read_run};
 use crate::searching::{explored, found};
 use crate::words_asked::asked;
 use clap::Error;
@@ -21,11 +22,15 @@ fn write_text<O: Sink>(out: &mut O, text: &[u8], status: u8) -> u8 {
     }
 }
 
-/// Writes what is said.
-fn write_said<O: Sink>(out: &mut O, said: &Said) -> u8 {
-    match &said.text {
-        Some(text) => write_text(out, text.bytes(), said.status),
-        None => said.status,
+/// Writes what is said: of what the words name and the script does not have to `notes`, all else to `out`.
+fn write_said<O: Sink, N: Sink>(out: &mut O, notes: &mut N, said: &Said) -> u8 {
+    let Some(text) = &said.text else {
+        return said.status;
+    };
+    if said.status == NOT_TAKEN {
+        write_text(notes, text.bytes(), said.status)
+    } else {
+        write_text(out, text.bytes(), said.status)
     }
 }
 
@@ -43,7 +48,7 @@ fn write_error<O: Sink, N: Sink>(alloc: Global, error: &Error, out: &mut O, note
         return 7;
     };
     if error.use_stderr() {
-        write_text(notes, text.as_bytes(), 2)
+        write_text(notes, text.as_bytes(), NOT_TAKEN)
     } else {
         write_text(out, text.as_bytes(), 0)
     }
@@ -54,41 +59,30 @@ fn said_to<R: Threads, S: Source, N: Sink>(
     rt: &R,
     alloc: Global,
     asked: &Asked,
-    processors: usize,
+    host: Host,
     notes: Option<&mut N>,
     input: &mut S,
 ) -> Result<Said, Said> {
     match asked {
         Asked::Lanes(turns, shown) => {
-            let read = read_runs(alloc, input, *turns, None)?;
-            drawn(alloc, &read.run, shown)
+            let read = read_run(alloc, input, *turns)?;
+            drawn(alloc, &read.run, shown, host)
         }
         Asked::Counts(turns) => {
-            let read = read_runs(alloc, input, *turns, None)?;
+            let read = read_run(alloc, input, *turns)?;
             counted(alloc, &read.run)
         }
-        Asked::Diff(turns, other) => {
-            let read = read_runs(alloc, input, *turns, Some(*other))?;
-            match &read.other {
-                Some(other) => differing(alloc, &read.run, other),
-                None => Ok(Said::nothing(0)),
-            }
+        Asked::Diff(compared) => {
+            let both = read_both(alloc, input, compared.first, compared.second)?;
+            differing(alloc, &both, host.width(compared.width))
         }
         Asked::Explore(numbers) => {
             let script = read_input(alloc, input)?;
-            explored(rt, alloc, &script, numbers, processors, notes)
+            explored(rt, alloc, &script, numbers, host, notes)
         }
         Asked::Find(numbers, words) => {
             let script = read_input(alloc, input)?;
-            found(
-                rt,
-                alloc,
-                &script,
-                words.items(),
-                numbers,
-                processors,
-                notes,
-            )
+            found(rt, alloc, &script, words.items(), numbers, host, notes)
         }
     }
 }
@@ -98,19 +92,18 @@ fn said_to<R: Threads, S: Source, N: Sink>(
 ///
 /// - 0: what was asked for was written, or help;
 /// - 1: `find` found no number;
-/// - 2: the words are not taken, and what is wrong with them was written to `notes`;
+/// - 2: the words are not taken, or name an object or a command that the script does not have, and what is wrong with them was written to `notes`;
 /// - 3: the input has no script, and its first bad line was named with the cause;
 /// - 4: a read failed;
-/// - 5: a write to `out` failed;
+/// - 5: a write failed;
 /// - 7: there was no memory;
 /// - 8: a node came to the last tick;
 /// - 9: the journal is not that of a run of the script, and its line at fault was named with the cause.
-pub(crate) fn show<R: Threads, S: Source, O: Sink, N: Sink>(
+pub fn show<R: Threads, S: Source, O: Sink, N: Sink>(
     rt: &R,
     alloc: Global,
     words: &[String],
-    processors: usize,
-    tells: bool,
+    host: Host,
     input: &mut S,
     out: &mut O,
     notes: &mut N,
@@ -119,8 +112,8 @@ pub(crate) fn show<R: Threads, S: Source, O: Sink, N: Sink>(
         Ok(asked) => asked,
         Err(error) => return write_error(alloc, &error, out, notes),
     };
-    let told = if tells { Some(&mut *notes) } else { None };
-    match said_to(rt, alloc, &asked, processors, told, input) {
-        Ok(said) | Err(said) => write_said(out, &said),
+    let told = if host.tells { Some(&mut *notes) } else { None };
+    match said_to(rt, alloc, &asked, host, told, input) {
+        Ok(said) | Err(said) => write_said(out, notes, &said),
     }
 }

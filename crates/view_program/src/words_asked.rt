@@ -1,12 +1,9 @@
 //! The words of the command line.
-use crate::asked::{Asked, Numbers, Shown};
+use crate::asked::{Asked, Compared, Numbers, Shown};
 use clap::error::ErrorKind;
 use clap::{Arg, ArgAction, ArgMatches, Command, Error, value_parser};
 use std::alloc::Global;
 use uid_names::{ByteList, ItemList, NoMemory};
-
-/// How wide lanes are drawn for a terminal, in characters, where that is not said.
-const WIDTH: u64 = 120;
 
 /// A number that has to be said.
 fn number<'a>(alloc: Global, id: &'a str, name: &'a str, help: &'a str) -> Arg<'a> {
@@ -37,6 +34,15 @@ fn turns<'a>(alloc: Global) -> Arg<'a> {
         alloc,
         "turns",
         "The number of turns that picks the run, 0 without this; a journal behind the script picks its own",
+    )
+}
+
+/// The option that says how wide lanes are drawn.
+fn width<'a>(alloc: Global) -> Arg<'a> {
+    option(
+        alloc,
+        "width",
+        "So many characters wide; without this as wide as COLUMNS of the environment says, or 120",
     )
 }
 
@@ -73,22 +79,27 @@ fn lanes_command<'a>(alloc: Global) -> Result<Command<'a>, Error> {
         .about("Draws the events of a run, a lane for each node and an arrow for each frame")
         .arg(turns(alloc))?
         .arg(svg)?
-        .arg(option(alloc, "width", "So many characters wide, without --svg"))?;
+        .arg(width(alloc))?;
     with_choice(alloc, command)
 }
 
 fn diff_command<'a>(alloc: Global) -> Result<Command<'a>, Error> {
+    let second = Arg::new(alloc, "second")
+        .value_name("M")
+        .help("That of the second run; without it the runs are those of 0 and N")
+        .value_parser(value_parser!(u64));
     let command = Command::new(alloc, "diff")
         .about(
-            "Tells where two runs differ: the first event at which they part, and the answers that are not the same",
+            "Tells where the runs of two numbers of turns differ: the first event at which they part, the lanes around it, and the answers that are not the same",
         )
-        .arg(turns(alloc))?
         .arg(number(
             alloc,
-            "other",
-            "OTHER",
-            "The number of turns that picks the other run",
-        ))?;
+            "first",
+            "N",
+            "The number of turns that picks the first run; a journal behind the script stands for it, and then one number is that of the second run",
+        ))?
+        .arg(second)?
+        .arg(width(alloc))?;
     Ok(command)
 }
 
@@ -165,13 +176,27 @@ fn named(alloc: Global, matches: &ArgMatches<'_>, id: &str) -> Result<Option<Byt
 fn shown(alloc: Global, matches: &ArgMatches<'_>) -> Result<Shown, NoMemory> {
     Ok(Shown {
         is_picture: matches.get_flag("svg"),
-        width: said(matches, "width").unwrap_or(WIDTH),
+        width: said(matches, "width"),
         from: said(matches, "from"),
         to: said(matches, "to"),
         object: named(alloc, matches, "object")?,
         page: matches.get_one::<u32>("page"),
         command: named(alloc, matches, "command")?,
     })
+}
+
+/// The two numbers whose runs are compared: the first is 0 where one is said.
+fn compared(matches: &ArgMatches<'_>) -> Compared {
+    let one = said(matches, "first").unwrap_or(0);
+    let (first, second) = match said(matches, "second") {
+        Some(other) => (one, other),
+        None => (0, one),
+    };
+    Compared {
+        first,
+        second,
+        width: said(matches, "width"),
+    }
 }
 
 /// The numbers that are said; None where the last is below the first or too great to have one behind it.
@@ -212,9 +237,7 @@ fn asked_by(
         return Ok(Some(Asked::Counts(turns)));
     }
     if name == "diff" {
-        let turns = said(matches, "turns").unwrap_or(0);
-        let other = said(matches, "other").unwrap_or(0);
-        return Ok(Some(Asked::Diff(turns, other)));
+        return Ok(Some(Asked::Diff(compared(matches))));
     }
     let Some(numbers) = numbers(matches) else {
         return Ok(None);
