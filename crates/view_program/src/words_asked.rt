@@ -18,7 +18,7 @@ fn number<'a>(alloc: Global, id: &'a str, name: &'a str, help: &'a str) -> Arg<'
 fn option<'a>(alloc: Global, id: &'a str, help: &'a str) -> Arg<'a> {
     Arg::new(alloc, id)
         .long(id)
-        .value_name("N")
+        .value_name("NUMBER")
         .help(help)
         .value_parser(value_parser!(u64))
 }
@@ -86,7 +86,7 @@ fn lanes_command<'a>(alloc: Global) -> Result<Command<'a>, Error> {
 fn diff_command<'a>(alloc: Global) -> Result<Command<'a>, Error> {
     let second = Arg::new(alloc, "second")
         .value_name("M")
-        .help("That of the second run; without it the runs are those of 0 and N")
+        .help("The number that picks the second run; without it the runs are those of 0 and N")
         .value_parser(value_parser!(u64));
     let command = Command::new(alloc, "diff")
         .about(
@@ -96,7 +96,7 @@ fn diff_command<'a>(alloc: Global) -> Result<Command<'a>, Error> {
             alloc,
             "first",
             "N",
-            "The number of turns that picks the first run; a journal behind the script stands for it, and then one number is that of the second run",
+            "The number of turns that picks the first run; a journal behind the script is the first run, and then one number is enough",
         ))?
         .arg(second)?
         .arg(width(alloc))?;
