@@ -19,6 +19,16 @@ fn object_of(run: &RunView, name: &[u8]) -> Option<Uid> {
     Uid::read(name).ok()
 }
 
+/// Whether a run has this command.
+fn has_command(run: &RunView, name: &CommandName) -> bool {
+    for row in run.commands() {
+        if row.name.is(name) {
+            return true;
+        }
+    }
+    false
+}
+
 /// The command of this name, as `a.1.3`.
 fn command_of(run: &RunView, name: &[u8]) -> Option<CommandName> {
     let (process, index) = cut_last(name, b'.')?;
@@ -26,10 +36,15 @@ fn command_of(run: &RunView, name: &[u8]) -> Option<CommandName> {
     let node = run.names().number_of(node)?;
     let number = u8::try_from(decimal(number).ok()?).ok()?;
     let index = u32::try_from(decimal(index).ok()?).ok()?;
-    Some(CommandName {
+    let command = CommandName {
         proc: ProcId::new(node, number)?,
         index,
-    })
+    };
+    if has_command(run, &command) {
+        Some(command)
+    } else {
+        None
+    }
 }
 
 /// What is said of a name that the run does not have.
