@@ -1,10 +1,9 @@
 -- Which processes count, and that the others do nothing.
-use Rattle.std.proofs.Common.{◌≡◌, ℕ, Bool, true, false, List, [], ◌∷◌, refl, inl, inr, arith}
+use Rattle.std.proofs.Common.{◌≡◌, ℕ, Bool, true, false, List, [], ◌∷◌, refl, inl, inr}
 use Rattle.std.specs.Prelude.{◌⊎◌, All}
-use Rattle.std.proofs.lemmas.Bool.Decides.{nat_tests}
 use Rattle.std.proofs.lemmas.List.Elements.{All-cons, All-nil}
 use Rattle.uid_names.specs.Names.{ProcName, same_proc}
-use Rattle.uid_names.proofs.Orders.{same_proc_is}
+use Rattle.uid_names.proofs.Orders.{same_proc_is, same_proc-itself}
 use Rattle.dom_history.specs.declared.op.Entry.{Entry}
 use Rattle.dom_history.specs.declared.op.Want.{Want}
 use Rattle.dom_history.specs.declared.op.Want.TheVariants.{Done}
@@ -32,9 +31,6 @@ who_is p = by_tests (same_proc p (name_of One)) (same_proc p (name_of Two)) (sam
         none Two = two
         none Three = three
 
-itself : (p : ProcName) → same_proc p p ≡ true
-itself p = grind (arith, nat_tests)
-
 -- where the others have no entries, each entry is of one of the three
 pub of_three : (es : List Entry) → ((p : ProcName) → ((v : Who) → same_proc p (name_of v) ≡ false) → entries_of p es ≡ []) → All (λ e. (v : Who) × (e.proc ≡ name_of v)) es
 of_three [] none = All-nil (λ e. (v : Who) × (e.proc ≡ name_of v))
@@ -42,7 +38,7 @@ of_three (e ∷ es) none = All-cons (λ e. (v : Who) × (e.proc ≡ name_of v)) 
   where
     by_who : ((v : Who) × (e.proc ≡ name_of v)) ⊎ ((v : Who) → same_proc e.proc (name_of v) ≡ false) → (v : Who) × (e.proc ≡ name_of v)
     by_who (inl one) = one
-    by_who (inr out) = let here : e ∷ entries_of e.proc es ≡ [] = rw (itself e.proc) at (none e.proc out) in absurd (cc here)
+    by_who (inr out) = let here : e ∷ entries_of e.proc es ≡ [] = rw (same_proc-itself e.proc) at (none e.proc out) in absurd (cc here)
 
     rest : (p : ProcName) → entries_of p (e ∷ es) ≡ [] → entries_of p es ≡ []
     rest p is = by_test (same_proc e.proc p) refl

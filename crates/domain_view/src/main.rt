@@ -1,23 +1,14 @@
 //! The program `domain_view`, which shows runs of a script: the words of the command line, standard input, output and error, and the exit status.
 #![tactic(auto)]
 
-mod asked;
-mod counting;
-mod differing;
-mod lanes;
-mod reading;
-mod searching;
-mod showing;
-mod words_asked;
-
 use dom_io::{RealSink, RealSource};
-use showing::show;
 use std::io::IsTerminal;
 use std::process::ExitCode;
 use std::rt::Runtime;
 use std::thread::available_parallelism;
 use std::{env, io};
 use uid_names::NoMemory;
+use view_program::{Host, show};
 
 /// The exit status for want of memory.
 const NO_MEMORY: u8 = 7;
@@ -37,6 +28,11 @@ fn words<R: Runtime + AllocGlobal>(rt: &R) -> Result<Vec<String>, NoMemory> {
     }
 }
 
+/// How many characters stand side by side, where the environment says it in COLUMNS.
+fn columns<R: Runtime + AllocGlobal>(rt: &R) -> Option<u64> {
+    env::var(rt, "COLUMNS").ok()?.parse().ok()
+}
+
 fn main(rt: HostRuntime) -> ExitCode {
     let Ok(words) = words(&rt) else {
         return ExitCode::from(NO_MEMORY);
@@ -45,7 +41,11 @@ fn main(rt: HostRuntime) -> ExitCode {
         Ok(count) => count.get(),
         Err(_) => 1,
     };
-    let tells = rt.stderr().is_terminal();
+    let host = Host {
+        processors,
+        tells: rt.stderr().is_terminal(),
+        columns: columns(&rt),
+    };
     let mut input = RealSource::new(rt.reader());
     let mut out = RealSink::new(io::writer(&rt));
     let mut notes = RealSink::new(rt.stderr());
@@ -53,8 +53,7 @@ fn main(rt: HostRuntime) -> ExitCode {
         &rt,
         rt.alloc(),
         words.as_slice(),
-        processors,
-        tells,
+        host,
         &mut input,
         &mut out,
         &mut notes,

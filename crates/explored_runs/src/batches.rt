@@ -10,7 +10,7 @@ use uid_names::{ByteList, NoMemory};
 const BATCH: u64 = 32;
 
 /// No more threads are started at a time than this.
-pub const MOST_THREADS: usize = 1_024;
+pub(crate) const MOST_THREADS: usize = 1_024;
 
 /// How many numbers of all were run, in words.
 fn progress_text(alloc: Global, done: u64, all: u64) -> Result<ByteList, NoMemory> {
@@ -23,14 +23,14 @@ fn progress_text(alloc: Global, done: u64, all: u64) -> Result<ByteList, NoMemor
 }
 
 /// Tells how many numbers of all were run. That is no part of what came of them, and is left out where there is no memory or a write fails.
-pub fn tell<N: Sink>(alloc: Global, notes: &mut N, done: u64, all: u64) {
+pub(crate) fn tell<N: Sink>(alloc: Global, notes: &mut N, done: u64, all: u64) {
     if let Ok(text) = progress_text(alloc, done, all) {
         let _told = write_all(notes, text.bytes());
     }
 }
 
 /// Where the numbers of a batch end that begins here.
-pub fn batch_end(next: u64, end: u64, threads: usize) -> u64
+pub(crate) fn batch_end(next: u64, end: u64, threads: usize) -> u64
     requires left { next < end }
     ensures onward { next < result }
     ensures within { result ≤ end }

@@ -4,22 +4,11 @@ ghost use Rattle.explored_runs.specs.Came.{IsCameOf, IsOutcomeOf, outcome_row};
 
 use explored_counts::CameOf;
 use node_core::RunFault;
-use run_outcomes::{Outcome, OutcomeRow};
+use run_outcomes::{Outcome, OutcomeRow, copy_answers};
 use script_reader::Script;
 use script_runner::{AnswerRow, LAST_TICK, Ran, run_script_in_turns};
 use std::alloc::Global;
-use uid_names::{ByteList, ItemList, NoMemory};
-
-/// Copies of answers.
-fn copy_answers(alloc: Global, answers: &[ByteList]) -> Result<ItemList<ByteList>, NoMemory>
-    ensures { IfOk result (λ copy. copy ≡ answers.now) }
-{
-    let mut copies = ItemList::new(alloc);
-    for answer in answers {
-        copies.push(answer.copy(alloc)?)?;
-    }
-    Ok(copies)
-}
+use uid_names::NoMemory;
 
 /// The outcome that has these answers.
 fn outcome_of(alloc: Global, rows: &[AnswerRow]) -> Result<Outcome, NoMemory>

@@ -1,10 +1,10 @@
 -- Outcomes that pass as the same are the same.
-use Rattle.std.proofs.Common.{◌≡◌, ◌↔◌, Bool, true, List, [], ◌∷◌, refl, arith, ap, subst, ◌∙◌}
+use Rattle.std.proofs.Common.{◌≡◌, ◌↔◌, Bool, true, List, [], ◌∷◌, refl, ap, subst, ◌∙◌}
 use Rattle.std.specs.Cmp.Lexicographic.{pointwise}
 use Rattle.std.specs.Prelude.{bytes_eq}
-use Rattle.std.proofs.lemmas.Bool.Decides.{nat_tests}
 use Rattle.std.proofs.lemmas.Slice.Eq.{bytes_eq-Decides}
-use Rattle.uid_names.specs.Names.{ProcName, same_proc}
+use Rattle.uid_names.specs.Names.{same_proc}
+use Rattle.uid_names.proofs.Orders.{same_proc_is, same_proc-itself}
 use Rattle.uid_names.proofs.Passed.{left-true, right-true}
 use Rattle.run_outcomes.specs.declared.outcome.OutcomeRow.{OutcomeRow}
 use Rattle.run_outcomes.specs.Outcomes.{same_answers, same_row, same_outcome}
@@ -23,19 +23,14 @@ module _ {K : Type 0} (E : K → K → Bool) where
   list-own each [] = refl
   list-own each (x ∷ xs) = rw (each x) (list-own each xs)
 
-proc-same : (p q : ProcName) → same_proc p q ≡ true → p ≡ q
-proc-same p q is = let node : p.node ≡ q.node = grind (arith, nat_tests) in let number : p.number ≡ q.number = grind (arith, nat_tests) in rw (node, number) refl
-
 row-same : (r s : OutcomeRow) → same_row r s ≡ true → r ≡ s
 row-same r s is =
-    let proc = proc-same r.proc s.proc (left-true (same_proc r.proc s.proc) (same_answers r.answers s.answers) is) in
+    let proc = same_proc_is r.proc s.proc (left-true (same_proc r.proc s.proc) (same_answers r.answers s.answers) is) in
     let answers = list-same bytes_eq (λ x y same. (bytes_eq-Decides x y).0 same) r.answers s.answers (right-true (same_proc r.proc s.proc) (same_answers r.answers s.answers) is) in
     ap (λ p. record { proc = p; answers = r.answers }) proc ∙ ap (λ a. record { proc = s.proc; answers = a }) answers
 
 row-own : (r : OutcomeRow) → same_row r r ≡ true
-row-own r =
-    let proc : same_proc r.proc r.proc ≡ true = grind (arith, nat_tests) in
-    rw proc (list-own bytes_eq (λ x. (bytes_eq-Decides x x).1 refl) r.answers)
+row-own r = rw (same_proc-itself r.proc) (list-own bytes_eq (λ x. (bytes_eq-Decides x x).1 refl) r.answers)
 
 pub outcome-same : (a b : List OutcomeRow) → same_outcome a b ≡ true → a ≡ b
 outcome-same a b is = list-same same_row row-same a b is

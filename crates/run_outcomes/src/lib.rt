@@ -7,5 +7,5 @@ pub mod outcome;
 pub mod tally;
 
 pub use difference::{Difference, differences};
-pub use outcome::{Outcome, OutcomeRow, is_same_outcome};
+pub use outcome::{Outcome, OutcomeRow, copy_answers, is_same_outcome};
 pub use tally::{KEPT_OUTCOMES, KeptOutcome, Tally, commonest};

@@ -53,7 +53,7 @@ pub fn is_same_outcome(first: &[OutcomeRow], second: &[OutcomeRow]) -> bool
 }
 
 /// A copy of a process's answers.
-fn copy_answers(alloc: Global, answers: &[ByteList]) -> Result<ItemList<ByteList>, NoMemory>
+pub fn copy_answers(alloc: Global, answers: &[ByteList]) -> Result<ItemList<ByteList>, NoMemory>
     ensures { IfOk result (λ copy. copy ≡ answers.now) }
 {
     let mut copies = ItemList::new(alloc);

@@ -1,5 +1,0 @@
-use Rattle.found_runs.specs.Sought.{HasNone}
-use Rattle.found_runs.proofs.numbers.found_in_turn.Given as goal
-
-abbrev pub invariant-loop-number : goal.invariant-loop-number
-invariant-loop-number l = HasNone l.script l.words l.from l.number
