@@ -7,6 +7,7 @@ use Rattle.dom_history.specs.declared.event.What.TheVariants.{Take}
 use Rattle.dom_history.specs.declared.plan.Fate.{Fate}
 use Rattle.dom_history.specs.declared.plan.Fate.TheVariants as fates
 use Rattle.lane_charts.specs.Charts.{Drawing}
+use Rattle.lane_charts.specs.Places.{place_if}
 use Rattle.lane_charts.specs.declared.chart.ChartRow.{ChartRow}
 use Rattle.lane_charts.specs.declared.chart.Arrow.{Arrow}
 use Rattle.lane_charts.specs.declared.chart.Arrival.{Arrival}
@@ -32,10 +33,6 @@ takes_from from index _ = false
 
 abbrev pub takes : ℕ → Sent → EventView → Bool
 takes from sent v = (v.event.place.node == sent.to) && takes_from from sent.index v.event.what
-
-abbrev pub place_if : Bool → ℕ → List ℕ → List ℕ
-place_if true n places = n ∷ places
-place_if false n places = places
 
 -- the places of those that take a frame which a node sent, where the first one has the place n
 abbrev pub takers : ℕ → ℕ → Sent → List EventView → List ℕ

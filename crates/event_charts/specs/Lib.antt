@@ -1,2 +1,3 @@
 pub mod ChartsOfRuns
 pub mod LentViews
+pub mod Slots

@@ -1,19 +1,21 @@
 //! The chart of a run's events.
-ghost use Rattle.std.specs.Prelude.{◌≡◌, ◌-◌, ◌<◌, ◌++◌, ◌∷◌, [], true, Some, length, map, All, IfOk, OnOk};
+ghost use Rattle.std.specs.Prelude.{◌≡◌, ◌-◌, ◌<◌, ◌^◌, ◌++◌, ◌∷◌, [], true, Some, length, map, slice_get, All, IfSome, IfOk, OnOk};
 ghost use Rattle.dom_history.specs.Events.{IsKindNumber};
 ghost use Rattle.journal_text.specs.Lines.{IsNamed, Names};
 ghost use Rattle.lane_charts.specs.Charts.{EndsAmong, with_row, with_arrow};
+ghost use Rattle.lane_charts.specs.Places.{place_if};
 ghost use Rattle.lane_charts.specs.declared.chart.Arrival.TheVariants.{Row};
 ghost use Rattle.event_views.specs.Runs.{AreNamed};
 ghost use Rattle.event_views.specs.Chosen.{chosen};
-ghost use Rattle.event_charts.specs.ChartsOfRuns.{title_of, row_of, takes_from as is_taken_from, takes as is_taken, takers as places_of_takers, place_if, is_late as is_late_fate, not_taken as became, arrow_of, arrows_sent, arrows_at, arrows_from, with_arrows, chart_of as chart_of_events};
+ghost use Rattle.event_charts.specs.ChartsOfRuns.{title_of, row_of, takes_from as is_taken_from, takes as is_taken, takers as places_of_takers, is_late as is_late_fate, not_taken as became, arrow_of, arrows_sent, arrows_at, arrows_from, with_arrows, chart_of as chart_of_events};
 ghost use Rattle.event_charts.specs.LentViews.{lent_views};
+ghost use Rattle.event_charts.specs.Slots.{AreBySlots, passes, slot_of, slot_of_taken, slots_for};
 
 use dom_history::{Fate, NodeNames, Sent, What};
 use dom_text::put_decimal;
 use event_views::labels::{event_label, is_mark, sent_label, sent_title};
 use event_views::{Choice, EventView, RunView};
-use lane_charts::{Arrival, Arrow, Chart, ChartRow};
+use lane_charts::{Arrival, Arrow, Chart, ChartRow, KeyedPlaces};
 use std::alloc::Global;
 use uid_names::{ByteList, ItemList, NoMemory, NodeId};
 
@@ -120,19 +122,75 @@ fn push_if(rows: &mut Vec<usize>, asked: bool, at: usize) -> Result<(), NoMemory
     Ok(())
 }
 
+/// Whether the event at a place takes a frame that a node sent.
+fn takes_at(shown: &[&EventView], from: NodeId, sent: &Sent, at: usize) -> bool
+    requires { at < length shown.now }
+    ensures { result ≡ passes (is_taken from sent.now) (slice_get (lent_views shown.now) at) }
+{
+    takes(from, sent, shown[at])
+}
+
+/// How many slots so many events have, an odd number.
+fn slot_count(events: usize) -> usize
+    requires { events < 2 ^ 63 }
+    ensures value { result ≡ slots_for events }
+    ensures some { 0 < result }
+{
+    events / 2 * 2 + 1
+}
+
+/// The slot of a frame by its number and its link. Frames that lie side by side have slots of their own.
+#[tactic(auto, unfolding(crate::specs::Slots::slot_of))]
+fn slot(slots: usize, from: NodeId, to: NodeId, index: u64) -> usize
+    requires { 0 < slots }
+    ensures value { result ≡ slot_of slots from to index }
+    ensures bound { result < slots }
+{
+    let link = from.number() as u64 * 8 + to.number() as u64;
+    (index.wrapping_mul(64).wrapping_add(link) % slots as u64) as usize
+}
+
+/// The slot of the frame that an event takes.
+fn slot_taken(slots: usize, view: &EventView) -> Option<usize>
+    requires { 0 < slots }
+    ensures value { result ≡ slot_of_taken slots view.now }
+    ensures bound { IfSome result (λ slot. slot < slots) }
+{
+    match view.event.what() {
+        What::Take(from, index) => Some(slot(slots, from, view.event.place().node, index)),
+        _ => None,
+    }
+}
+
+/// The events by the slots of the frames that they take.
+fn by_slots(alloc: Global, shown: &[&EventView]) -> Result<KeyedPlaces, NoMemory>
+    ensures { IfOk result (λ places. AreBySlots places (lent_views shown.now)) }
+{
+    let slots = slot_count(shown.len());
+    let mut places = KeyedPlaces::new(alloc, slots)?;
+    for (at, &view) in shown.iter().enumerate() {
+        places.put(slot_taken(slots, view), at)?;
+    }
+    Ok(places)
+}
+
 /// The places of those that take a frame which a node sent.
 fn takers(
     alloc: Global,
     shown: &[&EventView],
+    by_slots: &KeyedPlaces,
     from: NodeId,
     sent: &Sent,
 ) -> Result<Vec<usize>, NoMemory>
+    requires { AreBySlots by_slots.now (lent_views shown.now) }
     ensures places { IfOk result (λ rows. rows.items ≡ places_of_takers 0 from sent.now (lent_views shown.now)) }
     ensures bound { IfOk result (λ rows. All (λ row. row < length shown.now) rows.items) }
 {
+    let slot = slot(slot_count(shown.len()), from, sent.to, sent.index);
+    let places = by_slots.of(slot);
     let mut rows = Vec::new(alloc);
-    for (at, &view) in shown.iter().enumerate() {
-        push_if(&mut rows, takes(from, sent, view), at)?;
+    for at in places {
+        push_if(&mut rows, takes_at(shown, from, sent, *at), *at)?;
     }
     Ok(rows)
 }
@@ -213,10 +271,12 @@ fn add_sent(
     chart: &mut Chart,
     run: &RunView,
     shown: &[&EventView],
+    by_slots: &KeyedPlaces,
     at: usize,
     view: &EventView,
     sent: &Sent,
 ) -> Result<(), NoMemory>
+    requires slots { AreBySlots by_slots.now (lent_views shown.now) }
     requires lanes { chart.old.lanes ≡ run.now.names }
     requires rows { length chart.old.rows ≡ length shown.now }
     requires at { at < length shown.now }
@@ -226,7 +286,7 @@ fn add_sent(
 {
     let from = view.event.place().node;
     let fate = run.plan().fate(from, sent.to, sent.index);
-    let rows = takers(alloc, shown, from, sent)?;
+    let rows = takers(alloc, shown, by_slots, from, sent)?;
     let Some((first, copies)) = rows.split_first() else {
         return add_arrow(alloc, chart, run, at, view, sent, not_taken(fate), false);
     };
@@ -242,9 +302,11 @@ fn add_arrows(
     choice: &Choice,
     run: &RunView,
     shown: &[&EventView],
+    by_slots: &KeyedPlaces,
     at: usize,
     view: &EventView,
 ) -> Result<(), NoMemory>
+    requires slots { AreBySlots by_slots.now (lent_views shown.now) }
     requires lanes { chart.old.lanes ≡ run.now.names }
     requires rows { length chart.old.rows ≡ length shown.now }
     requires at { at < length shown.now }
@@ -257,7 +319,7 @@ fn add_arrows(
     let Some(sent) = view.event.effects().sent else {
         return Ok(());
     };
-    add_sent(alloc, chart, run, shown, at, view, &sent)
+    add_sent(alloc, chart, run, shown, by_slots, at, view, &sent)
 }
 
 /// Puts the rows of these events last.
@@ -292,8 +354,9 @@ fn add_all_arrows(
     requires named { AreNamed run.now.names (lent_views shown.now) }
     ensures { OnOk result (chart.new ≡ record chart.old { arrows = arrows_from choice.now run.now (lent_views shown.now) 0 (lent_views shown.now) }) }
 {
+    let by_slots = by_slots(alloc, shown)?;
     for (at, &view) in shown.iter().enumerate() {
-        add_arrows(alloc, chart, choice, run, shown, at, view)?;
+        add_arrows(alloc, chart, choice, run, shown, &by_slots, at, view)?;
     }
     Ok(())
 }

@@ -1,3 +1,4 @@
 pub mod FrameCounts
 pub mod NodeCounts
 pub mod CommandCounts
+pub mod PageCounts

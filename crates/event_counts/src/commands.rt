@@ -11,7 +11,7 @@ use event_views::{CommandName, CommandView, EventView, RunView};
 use std::alloc::Global;
 use uid_names::{ByteList, ItemList, NoMemory};
 
-fn is_named(command: &CommandName, named: &Option<CommandName>) -> bool
+pub(crate) fn is_named(command: &CommandName, named: &Option<CommandName>) -> bool
     ensures { result ≡ names_command command.now named.now }
 {
     match named {
@@ -64,7 +64,7 @@ pub fn span_of(run: &RunView, command: &CommandName) -> Option<usize>
 }
 
 /// The first word of a text.
-fn first_word(words: &[u8]) -> &[u8]
+pub(crate) fn first_word(words: &[u8]) -> &[u8]
     ensures { result.now ≡ front_of (cut_at 32 words.now) words.now }
 {
     match cut(words, b' ') {

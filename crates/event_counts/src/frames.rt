@@ -99,7 +99,7 @@ pub fn frames_sent(
     count
 }
 
-fn is_of_kind(kind: FrameKind, frame: &Option<FrameView>) -> bool
+pub(crate) fn is_of_kind(kind: FrameKind, frame: &Option<FrameView>) -> bool
     ensures { result ≡ is_kind_of kind frame.now }
 {
     match frame {

@@ -22,7 +22,7 @@ fn is_notice(what: &What) -> bool
     matches!(what, What::Notice(_, _, _, _))
 }
 
-fn asks(node: NodeId, kind: FrameKind, view: &EventView) -> bool
+pub(crate) fn asks(node: NodeId, kind: FrameKind, view: &EventView) -> bool
     ensures { result ≡ asks_first node kind view.now }
 {
     view.event.place().node.number() == node.number()
@@ -57,7 +57,7 @@ pub fn pages_sent_home(run: &RunView, node: NodeId) -> usize
     asked(run.events(), node, FrameKind::PageOut)
 }
 
-fn dropped_at(node: NodeId, view: &EventView) -> usize
+pub(crate) fn dropped_at(node: NodeId, view: &EventView) -> usize
     ensures { result ≡ dropped_of node view.now }
 {
     if view.event.place().node.number() == node.number() {

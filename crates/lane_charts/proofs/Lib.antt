@@ -1,3 +1,5 @@
 pub mod Again
 pub mod Puts
+pub mod Keyed
+pub mod ByRow
 pub mod Lines

@@ -1,6 +1,6 @@
 -- Where things stand in a picture, in pixels. A line is 20 of them high, and each text has a line of its own: the title, the names
 -- of the lanes, each row, and below a row each arrow that it sends.
-use Rattle.std.specs.Prelude.{ℕ, ◌+◌, ◌-◌, ◌*◌, ◌/◌, ◌==◌, nat_lt, count_by, List, length, take}
+use Rattle.std.specs.Prelude.{ℕ, zero, suc, ◌+◌, ◌-◌, ◌*◌, ◌/◌, ◌==◌, nat_lt, count_by, List, [], ◌∷◌, ◌++◌, length, take}
 use Rattle.lane_charts.specs.Charts.{Drawing}
 use Rattle.lane_charts.specs.declared.chart.Arrow.{Arrow}
 use Rattle.lane_charts.specs.declared.way.Way.{Way}
@@ -40,6 +40,11 @@ sent_at at arrows = count_by (λ a. a.sender == at) arrows
 -- send, and the names once more at each fiftieth row
 unfoldable pub line_of : List Arrow → ℕ → ℕ
 line_of arrows at = 2 + at + at / 50 + sent_above at arrows
+
+-- the lines of the rows below an index
+abbrev pub lines_to : List Arrow → ℕ → List ℕ
+lines_to arrows zero = []
+lines_to arrows (suc at) = lines_to arrows at ++ line_of arrows at ∷ []
 
 -- how many lines the picture has, the last of them empty
 unfoldable pub lines_in : Drawing → ℕ

@@ -1,10 +1,14 @@
 pub mod Charts
+pub mod Places
+pub mod ArrowKeys
 pub mod Escapes
 pub mod Readings
 pub mod Heads
 pub mod Ways
 pub mod TextCells
 pub mod TextCharts
+pub mod ByRow
 pub mod Layout
+pub mod Lines
 pub mod Markup
 pub mod Pictures

@@ -1,10 +1,11 @@
 -- A chart as a picture: a head, a group for each row in their order, each with the arrows that it sends, and an end.
-use Rattle.std.specs.Prelude.{ℕ, zero, suc, ◌+◌, ◌-◌, ◌==◌, Bool, true, false, List, [], ◌∷◌, ◌++◌, codes, decimal, length}
+use Rattle.std.specs.Prelude.{ℕ, zero, suc, ◌+◌, ◌-◌, ◌==◌, Bool, true, false, List, [], ◌∷◌, ◌++◌, codes, decimal, length, slice_get}
 use Rattle.lane_charts.specs.Charts.{Drawing}
 use Rattle.lane_charts.specs.Escapes.{escaped_text}
 use Rattle.lane_charts.specs.Heads.{is_headed}
 use Rattle.lane_charts.specs.Layout.{fitting, lane_x, line_of, line_y, lines_in, right_of, stub_x, width_of, words_x}
 use Rattle.lane_charts.specs.Markup.{attribute, point_at, titled, words}
+use Rattle.lane_charts.specs.Places.{drawn}
 use Rattle.lane_charts.specs.Ways.{way_of}
 use Rattle.lane_charts.specs.declared.chart.ChartRow.{ChartRow}
 use Rattle.lane_charts.specs.declared.chart.Arrow.{Arrow}
@@ -73,6 +74,11 @@ abbrev pub arrows_of : Drawing → ℕ → ℕ → ℕ → List Arrow → List �
 arrows_of c at from line [] = []
 arrows_of c at from line (arrow ∷ arrows) =
     group_if (arrow.sender == at) c from line arrow ++ arrows_of c at from (line_after (arrow.sender == at) line) arrows
+
+-- of the arrows of a chart those at these places, from a line on
+abbrev pub groups_at : Drawing → ℕ → ℕ → List ℕ → List ℕ
+groups_at c from line [] = []
+groups_at c from line (place ∷ places) = drawn (arrow_group c from line) (slice_get c.arrows place) ++ groups_at c from (line + 1) places
 
 -- ---- rows
 

@@ -38,10 +38,14 @@ arrow_line column lanes from arrow =
     let low = min from arrow.to in
     codes "         " ++ (arrow_cells column lanes from low (max (max from arrow.to) (low + 1)) arrow ++ codes "\n")
 
+-- the line of an arrow of a chart
+abbrev pub arrow_in : ℕ → Drawing → Arrow → List ℕ
+arrow_in column c arrow = arrow_line column (length c.lanes) (lane_at c.rows arrow.sender) arrow
+
 -- the line of an arrow where this says that it is drawn
 abbrev pub arrow_if : Bool → ℕ → Drawing → Arrow → List ℕ
 arrow_if false column c arrow = []
-arrow_if true column c arrow = arrow_line column (length c.lanes) (lane_at c.rows arrow.sender) arrow
+arrow_if true column c arrow = arrow_in column c arrow
 
 -- an arrow is taken by the row of this index
 abbrev pub is_taken_at : ℕ → Arrival → Bool

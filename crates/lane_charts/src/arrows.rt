@@ -1,10 +1,12 @@
 //! Draws the arrows of pictures.
-ghost use Rattle.std.specs.Prelude.{◌≡◌, ◌+◌, ◌≤◌, ◌<◌, ◌^◌, ◌++◌, length, OnOk};
+ghost use Rattle.std.specs.Prelude.{◌≡◌, ◌+◌, ◌≤◌, ◌<◌, ◌^◌, ◌++◌, length, slice_get, All, OnOk};
 ghost use Rattle.lane_charts.specs.Charts.{EndsAmong, IsArrowOf};
-ghost use Rattle.lane_charts.specs.Pictures.{arrow_group, arrow_open, arrow_path, arrows_of, copy_class, end_class, end_path, group_if, line_after, note, taken_path, tie};
+ghost use Rattle.lane_charts.specs.Lines.{AreLinesOf};
+ghost use Rattle.lane_charts.specs.Pictures.{arrow_group, arrow_open, arrow_path, arrows_of, copy_class, end_class, end_path, groups_at, note, taken_path, tie};
+ghost use Rattle.lane_charts.specs.Places.{drawn};
 
-use crate::chart::{Arrival, Arrow, Chart, MOST_LANES};
-use crate::layout::{LINE, fitting, lane_x, right_end, row_line, stub_x, words_x};
+use crate::chart::{Arrival, Arrow, Chart, MOST_LANES, MOST_ROWS};
+use crate::layout::{LINE, RowLines, fitting, lane_x, right_end, stub_x, words_x};
 use crate::markup::{put_attribute, put_point, put_title, put_words};
 use crate::way::{Way, way_between};
 use dom_text::put_decimal;
@@ -14,53 +16,62 @@ use uid_names::{ByteList, NoMemory};
 pub(crate) fn put_arrows(
     to: &mut ByteList,
     chart: &Chart,
+    lines: &RowLines,
     at: usize,
     from: usize,
     line: u64,
 ) -> Result<(), NoMemory>
+    requires lines { AreLinesOf chart.now lines.now }
+    requires there { at < length chart.now.rows }
     requires placed { from < length chart.now.lanes }
     requires low { 1 ≤ line }
     requires high { line < 2 ^ 40 }
     ensures { OnOk result (to.new ≡ to.old ++ arrows_of chart.now at from line chart.now.arrows) }
 {
-    let mut here = line;
-    for arrow in chart.arrows() {
-        let is_sent = arrow.sender == at;
-        put_arrow_if(to, is_sent, chart, from, here, arrow)?;
-        here = line_below(is_sent, here);
+    let _few = chart.arrows();
+    put_groups(to, chart, lines, from, line, lines.sent.of(at))
+}
+
+/// The arrows at these places, each in a line of its own, from a line on.
+fn put_groups(
+    to: &mut ByteList,
+    chart: &Chart,
+    lines: &RowLines,
+    from: usize,
+    line: u64,
+    places: &[usize],
+) -> Result<(), NoMemory>
+    requires lines { AreLinesOf chart.now lines.now }
+    requires placed { from < length chart.now.lanes }
+    requires low { 1 ≤ line }
+    requires high { line < 2 ^ 40 }
+    requires there { All (λ place. place < length chart.now.arrows) places.now }
+    requires few { length places.now ≤ MOST_ROWS }
+    ensures { OnOk result (to.new ≡ to.old ++ groups_at chart.now from line places.now) }
+{
+    for (below, place) in places.iter().enumerate() {
+        put_arrow_at(to, chart, lines, from, line + below as u64, *place)?;
     }
     Ok(())
 }
 
-/// The line below one, if that is taken.
-fn line_below(is_taken: bool, line: u64) -> u64
-    requires { line < 2 ^ 41 }
-    ensures value { result ≡ line_after is_taken line }
-    ensures low { line ≤ result }
-    ensures high { result ≤ line + 1 }
-{
-    if is_taken { line + 1 } else { line }
-}
-
-/// The group of an arrow that starts in a lane, if it does.
-fn put_arrow_if(
+/// The group of the arrow at a place.
+fn put_arrow_at(
     to: &mut ByteList,
-    is_sent: bool,
     chart: &Chart,
+    lines: &RowLines,
     from: usize,
     line: u64,
-    arrow: &Arrow,
+    place: usize,
 ) -> Result<(), NoMemory>
+    requires lines { AreLinesOf chart.now lines.now }
     requires placed { from < length chart.now.lanes }
-    requires arrow { IsArrowOf chart.now.lanes chart.now.rows arrow.now }
     requires low { 1 ≤ line }
     requires high { line < 2 ^ 41 }
-    ensures { OnOk result (to.new ≡ to.old ++ group_if is_sent chart.now from line arrow.now) }
+    requires there { place < length chart.now.arrows }
+    ensures { OnOk result (to.new ≡ to.old ++ drawn (arrow_group chart.now from line) (slice_get chart.now.arrows place)) }
 {
-    if !is_sent {
-        return Ok(());
-    }
-    put_arrow(to, chart, from, line, arrow)
+    put_arrow(to, chart, lines, from, line, chart.arrow(place))
 }
 
 /// The class of an arrow by its end.
@@ -87,10 +98,12 @@ fn copy_class_of(is_copy: bool) -> &'static [u8]
 fn put_arrow(
     to: &mut ByteList,
     chart: &Chart,
+    lines: &RowLines,
     from: usize,
     line: u64,
     arrow: &Arrow,
 ) -> Result<(), NoMemory>
+    requires lines { AreLinesOf chart.now lines.now }
     requires placed { from < length chart.now.lanes }
     requires arrow { IsArrowOf chart.now.lanes chart.now.rows arrow.now }
     requires low { 1 ≤ line }
@@ -101,7 +114,7 @@ fn put_arrow(
     put_open(to, arrow)?;
     put_title(to, arrow.title.bytes())?;
     put_tie(to, from, line)?;
-    put_path(to, chart, arrow, from, LINE * line + 20)?;
+    put_path(to, chart, lines, arrow, from, LINE * line + 20)?;
     put_note(to, lanes, from, line, arrow.label.bytes())?;
     to.extend(b"</g>\n")
 }
@@ -160,10 +173,12 @@ fn put_tie(to: &mut ByteList, from: usize, line: u64) -> Result<(), NoMemory>
 fn put_path(
     to: &mut ByteList,
     chart: &Chart,
+    lines: &RowLines,
     arrow: &Arrow,
     from: usize,
     y: u64,
 ) -> Result<(), NoMemory>
+    requires lines { AreLinesOf chart.now lines.now }
     requires few { length chart.now.lanes ≤ MOST_LANES }
     requires placed { from < length chart.now.lanes }
     requires arrow { IsArrowOf chart.now.lanes chart.now.rows arrow.now }
@@ -175,6 +190,7 @@ fn put_path(
     put_end(
         to,
         chart,
+        lines,
         arrow.end,
         way,
         (lane_x(from), y),
@@ -188,11 +204,13 @@ fn put_path(
 fn put_end(
     to: &mut ByteList,
     chart: &Chart,
+    lines: &RowLines,
     end: Arrival,
     way: Way,
     start: (u64, u64),
     to_x: u64,
 ) -> Result<(), NoMemory>
+    requires lines { AreLinesOf chart.now lines.now }
     requires there { EndsAmong chart.now.rows end }
     requires low { 60 ≤ start.0 }
     requires high { start.0 < 2 ^ 16 }
@@ -201,7 +219,7 @@ fn put_end(
     let (x, y) = start;
     match end {
         Arrival::Row(at) => {
-            let to_y = LINE * row_line(chart, at) + 4;
+            let to_y = LINE * lines.line(chart, at) + 4;
             put_taken(to, way, (x, y), (to_x, to_y))
         }
         Arrival::Lost | Arrival::Never => {

@@ -1,5 +1,5 @@
 //! What a chart shows.
-ghost use Rattle.std.specs.Prelude.{◌≡◌, ◌<◌, ◌≤◌, length, All, IfOk, OnOk, OnErr};
+ghost use Rattle.std.specs.Prelude.{◌≡◌, ◌<◌, ◌≤◌, Some, length, slice_get, All, IfOk, OnOk, OnErr};
 
 use std::alloc::Global;
 use std::marker::Model;
@@ -144,6 +144,15 @@ impl Chart {
         ensures few { length self.now.arrows ≤ MOST_ROWS }
     {
         self.arrows.items()
+    }
+
+    /// The arrow at this place among them.
+    pub fn arrow(&self, place: usize) -> &Arrow
+        requires { place < length self.now.arrows }
+        ensures value { slice_get self.now.arrows place ≡ Some result.now }
+        ensures placed { IsArrowOf self.now.lanes self.now.rows result.now }
+    {
+        &self.arrows.items()[place]
     }
 
     /// The lane of the row of this index.

@@ -12,8 +12,9 @@ pub fn texts_in_pictures_are_read_again()
     ensures again { (text : List ℕ) → All (λ b. b < 256) text → read_again (escaped_text text) ≡ text }
 {}
 
-/// No two texts of a picture meet: the arrows that a row sends end above the next row, and above the names of the lanes where these
-/// stand once more; and no text goes past its right end, at 7.3 for a letter.
+/// The labels of rows and of their arrows stand in lines apart: behind the line of a row come those of the arrows that it sends, all above
+/// the next row, and above the names of the lanes where these stand once more; and no text that is cut goes past its right end, at 7.3 px
+/// for a letter.
 pub fn texts_in_pictures_do_not_meet()
     ensures rows { (arrows : List Arrow) (at : ℕ) → line_of arrows at + sent_at at arrows < line_of arrows (at + 1) }
     ensures names { (arrows : List Arrow) (at : ℕ) → is_headed (at + 1) ≡ true → line_of arrows at + sent_at at arrows + 1 < line_of arrows (at + 1) }

@@ -1,13 +1,14 @@
 //! Draws charts as pictures.
 ghost use Rattle.std.specs.Prelude.{◌≡◌, ◌≤◌, ◌<◌, ◌^◌, ◌++◌, length, IfOk, OnOk};
 ghost use Rattle.lane_charts.specs.Charts.{IsRowOf};
+ghost use Rattle.lane_charts.specs.Lines.{AreLinesOf};
 ghost use Rattle.lane_charts.specs.Pictures.{across, across_if, described, dot, lane_line, lane_lines, name_line, names_from, names_if, opening, picture_head, picture_of, row_group, row_head, row_title, sizes, tick_words};
 
 use crate::arrows::put_arrows;
 use crate::chart::{Chart, ChartRow, MOST_LANES};
 use crate::escape::put_escaped;
 use crate::heads::is_headed;
-use crate::layout::{LINE, fitting, lane_x, line_count, right_end, row_line, width, words_x};
+use crate::layout::{LINE, RowLines, fitting, lane_x, right_end, width, words_x};
 use crate::markup::{put_attribute, put_point, put_title, put_words};
 use dom_text::put_decimal;
 use std::alloc::Global;
@@ -52,10 +53,11 @@ circle{fill:#4f6fb3;fill:var(--dot);stroke:#fcfcfd;stroke:var(--back)}\n\
 pub fn draw_svg(alloc: Global, chart: &Chart) -> Result<ByteList, NoMemory>
     ensures { IfOk result (λ picture. picture ≡ picture_of chart.now) }
 {
+    let lines = RowLines::of(alloc, chart)?;
     let mut picture = ByteList::new(alloc);
-    put_head(&mut picture, chart)?;
+    put_head(&mut picture, chart, &lines)?;
     for (at, row) in chart.rows().iter().enumerate() {
-        put_row(&mut picture, chart, at, row)?;
+        put_row(&mut picture, chart, &lines, at, row)?;
     }
     picture.extend(b"</svg>\n")?;
     Ok(picture)
@@ -63,12 +65,13 @@ pub fn draw_svg(alloc: Global, chart: &Chart) -> Result<ByteList, NoMemory>
 
 /// All that stands before the rows.
 #[tactic(auto, unfolding(crate::specs::Pictures::picture_head))]
-fn put_head(to: &mut ByteList, chart: &Chart) -> Result<(), NoMemory>
+fn put_head(to: &mut ByteList, chart: &Chart, lines: &RowLines) -> Result<(), NoMemory>
+    requires { AreLinesOf chart.now lines.now }
     ensures { OnOk result (to.new ≡ to.old ++ picture_head chart.now) }
 {
     let lanes = chart.lanes();
-    put_opening(to, chart)?;
-    put_lane_lines(to, LINE * line_count(chart) - 8, lanes.len())?;
+    put_opening(to, chart, lines)?;
+    put_lane_lines(to, LINE * lines.count(chart) - 8, lanes.len())?;
     put_words(
         to,
         b"head",
@@ -82,11 +85,12 @@ fn put_head(to: &mut ByteList, chart: &Chart) -> Result<(), NoMemory>
 
 /// The element itself, what it is called, and its style.
 #[tactic(auto, unfolding(crate::specs::Pictures::opening))]
-fn put_opening(to: &mut ByteList, chart: &Chart) -> Result<(), NoMemory>
+fn put_opening(to: &mut ByteList, chart: &Chart, lines: &RowLines) -> Result<(), NoMemory>
+    requires { AreLinesOf chart.now lines.now }
     ensures { OnOk result (to.new ≡ to.old ++ opening chart.now) }
 {
     to.extend(b"<svg xmlns=\"http://www.w3.org/2000/svg\" role=\"img\"")?;
-    put_sizes(to, width(chart.lanes().len()), LINE * line_count(chart))?;
+    put_sizes(to, width(chart.lanes().len()), LINE * lines.count(chart))?;
     to.extend(b">\n")?;
     put_title(to, chart.title())?;
     to.extend(b"\n")?;
@@ -183,17 +187,24 @@ fn put_names_if(
 
 /// The group of the row of an index.
 #[tactic(auto, unfolding(crate::specs::Pictures::row_group))]
-fn put_row(to: &mut ByteList, chart: &Chart, at: usize, row: &ChartRow) -> Result<(), NoMemory>
+fn put_row(
+    to: &mut ByteList,
+    chart: &Chart,
+    lines: &RowLines,
+    at: usize,
+    row: &ChartRow,
+) -> Result<(), NoMemory>
+    requires lines { AreLinesOf chart.now lines.now }
     requires there { at < length chart.now.rows }
     requires placed { IsRowOf chart.now.lanes row.now }
     ensures { OnOk result (to.new ≡ to.old ++ row_group chart.now at row.now) }
 {
-    let line = row_line(chart, at);
+    let line = lines.line(chart, at);
     put_names_if(to, is_headed(at), line, chart.lanes())?;
     to.extend(b"<g class=\"row\">")?;
     put_row_head(to, chart.lanes().len(), line, row)?;
     to.extend(b"\n")?;
-    put_arrows(to, chart, at, row.lane, line + 1)?;
+    put_arrows(to, chart, lines, at, row.lane, line + 1)?;
     to.extend(b"</g>\n")
 }
 

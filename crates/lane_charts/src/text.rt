@@ -1,14 +1,19 @@
 //! Draws charts for terminals.
-ghost use Rattle.std.specs.Prelude.{◌≡◌, ◌<◌, ◌≤◌, ◌++◌, IfOk, OnOk};
+ghost use Rattle.std.specs.Prelude.{◌≡◌, ◌<◌, ◌≤◌, ◌++◌, length, slice_get, All, IfOk, OnOk};
 ghost use Rattle.std.specs.List.{flat_map};
-ghost use Rattle.lane_charts.specs.Charts.{IsArrowOf, IsRowOf};
-ghost use Rattle.lane_charts.specs.TextCharts.{arrow_if, arrow_line, fails_at, is_taken_at, names_line, row_block, row_cells, row_line, text_of};
+ghost use Rattle.lane_charts.specs.ArrowKeys.{failing_at, taken_at};
+ghost use Rattle.lane_charts.specs.ByRow.{AreOfRows};
+ghost use Rattle.lane_charts.specs.Charts.{IsRowOf};
+ghost use Rattle.lane_charts.specs.Places.{AreKeyed, drawn};
+ghost use Rattle.lane_charts.specs.TextCharts.{arrow_if, arrow_in, arrow_line, fails_at, is_taken_at, names_line, row_block, row_cells, row_line, text_of};
 
+use crate::by_row::RowArrows;
 use crate::cells::{
     column_width, put_lifelines, put_margin, put_repeated, put_shaft, put_shown, put_worded,
 };
-use crate::chart::{Arrival, Arrow, Chart, ChartRow};
+use crate::chart::{Arrow, Chart, ChartRow};
 use crate::heads::is_headed;
+use crate::places::KeyedPlaces;
 use crate::way::way_between;
 use std::alloc::Global;
 use uid_names::{ByteList, NoMemory};
@@ -25,8 +30,9 @@ pub fn draw_text(alloc: Global, chart: &Chart, width: usize) -> Result<ByteList,
     put_shown(&mut text, chart.title())?;
     text.extend(b"\n")?;
     put_names(&mut text, column, chart.lanes())?;
+    let arrows = RowArrows::of(alloc, chart)?;
     for (at, row) in chart.rows().iter().enumerate() {
-        put_block(alloc, &mut text, column, chart, at, row)?;
+        put_block(alloc, &mut text, column, chart, &arrows, at, row)?;
     }
     Ok(text)
 }
@@ -48,79 +54,90 @@ fn put_block(
     to: &mut ByteList,
     column: usize,
     chart: &Chart,
+    arrows: &RowArrows,
     at: usize,
     row: &ChartRow,
 ) -> Result<(), NoMemory>
     requires low { 8 ≤ column }
     requires high { column ≤ 60 }
+    requires there { at < length chart.now.rows }
+    requires arrows { AreOfRows chart.now arrows.now }
     requires placed { IsRowOf chart.now.lanes row.now }
     ensures { OnOk result (to.new ≡ to.old ++ row_block column chart.now at row.now) }
 {
     if is_headed(at) {
         put_names(to, column, chart.lanes())?;
     }
-    put_taken(to, column, chart, at)?;
+    put_taken(to, column, chart, &arrows.taken, at)?;
     put_row(alloc, to, column, chart.lanes().len(), row)?;
-    put_failed(to, column, chart, at)
+    put_failed(to, column, chart, &arrows.failed, at)
 }
 
 /// The arrows that the row of this index takes.
-fn put_taken(to: &mut ByteList, column: usize, chart: &Chart, at: usize) -> Result<(), NoMemory>
-    requires low { 8 ≤ column }
-    requires high { column ≤ 60 }
-    ensures { OnOk result (to.new ≡ to.old ++ flat_map (λ a. arrow_if (is_taken_at at a.end) column chart.now a) chart.now.arrows) }
-{
-    for arrow in chart.arrows() {
-        put_arrow_if(to, is_taken(at, arrow.end), column, chart, arrow)?;
-    }
-    Ok(())
-}
-
-/// The arrows that start at the row of this index, and that no row takes.
-fn put_failed(to: &mut ByteList, column: usize, chart: &Chart, at: usize) -> Result<(), NoMemory>
-    requires low { 8 ≤ column }
-    requires high { column ≤ 60 }
-    ensures { OnOk result (to.new ≡ to.old ++ flat_map (λ a. arrow_if (fails_at at a) column chart.now a) chart.now.arrows) }
-{
-    for arrow in chart.arrows() {
-        put_arrow_if(to, fails(at, arrow), column, chart, arrow)?;
-    }
-    Ok(())
-}
-
-/// Whether the row of this index takes an arrow with this end.
-fn is_taken(at: usize, end: Arrival) -> bool
-    ensures { result ≡ is_taken_at at end }
-{
-    match end {
-        Arrival::Row(row) => row == at,
-        Arrival::Lost | Arrival::Never => false,
-    }
-}
-
-/// Whether an arrow starts at the row of this index, and no row takes it.
-fn fails(at: usize, arrow: &Arrow) -> bool
-    ensures { result ≡ fails_at at arrow.now }
-{
-    arrow.sender == at && !matches!(arrow.end, Arrival::Row(_))
-}
-
-/// The line of an arrow, if it is to be drawn.
-fn put_arrow_if(
+fn put_taken(
     to: &mut ByteList,
-    is_drawn: bool,
     column: usize,
     chart: &Chart,
-    arrow: &Arrow,
+    taken: &KeyedPlaces,
+    at: usize,
 ) -> Result<(), NoMemory>
     requires low { 8 ≤ column }
     requires high { column ≤ 60 }
-    requires placed { IsArrowOf chart.now.lanes chart.now.rows arrow.now }
-    ensures { OnOk result (to.new ≡ to.old ++ arrow_if is_drawn column chart.now arrow.now) }
+    requires there { at < length chart.now.rows }
+    requires taken { AreKeyed taken_at (length chart.now.rows) taken.now chart.now.arrows }
+    ensures { OnOk result (to.new ≡ to.old ++ flat_map (λ a. arrow_if (is_taken_at at a.end) column chart.now a) chart.now.arrows) }
 {
-    if !is_drawn {
-        return Ok(());
+    put_arrows(to, column, chart, taken.of(at))
+}
+
+/// The arrows that start at the row of this index, and that no row takes.
+fn put_failed(
+    to: &mut ByteList,
+    column: usize,
+    chart: &Chart,
+    failed: &KeyedPlaces,
+    at: usize,
+) -> Result<(), NoMemory>
+    requires low { 8 ≤ column }
+    requires high { column ≤ 60 }
+    requires there { at < length chart.now.rows }
+    requires failed { AreKeyed failing_at (length chart.now.rows) failed.now chart.now.arrows }
+    ensures { OnOk result (to.new ≡ to.old ++ flat_map (λ a. arrow_if (fails_at at a) column chart.now a) chart.now.arrows) }
+{
+    put_arrows(to, column, chart, failed.of(at))
+}
+
+/// The arrows at these places.
+fn put_arrows(
+    to: &mut ByteList,
+    column: usize,
+    chart: &Chart,
+    places: &[usize],
+) -> Result<(), NoMemory>
+    requires low { 8 ≤ column }
+    requires high { column ≤ 60 }
+    requires there { All (λ place. place < length chart.now.arrows) places.now }
+    ensures { OnOk result (to.new ≡ to.old ++ flat_map (λ place. drawn (arrow_in column chart.now) (slice_get chart.now.arrows place)) places.now) }
+{
+    for place in places {
+        put_arrow_at(to, column, chart, *place)?;
     }
+    Ok(())
+}
+
+/// The arrow at a place.
+fn put_arrow_at(
+    to: &mut ByteList,
+    column: usize,
+    chart: &Chart,
+    place: usize,
+) -> Result<(), NoMemory>
+    requires low { 8 ≤ column }
+    requires high { column ≤ 60 }
+    requires there { place < length chart.now.arrows }
+    ensures { OnOk result (to.new ≡ to.old ++ drawn (arrow_in column chart.now) (slice_get chart.now.arrows place)) }
+{
+    let arrow = chart.arrow(place);
     let from = chart.lane_of(arrow.sender);
     put_arrow(to, column, chart.lanes().len(), from, arrow)
 }

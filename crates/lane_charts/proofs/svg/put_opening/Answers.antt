@@ -7,5 +7,5 @@ pub returns : goal.returns
 unfolding opening
 returns c =
     on_ok c.extend-4.result
-    (λ h. h ∙ simp (c.in_ok-put_description.ensures, c.in_ok-extend-3.ensures.ok, c.in_ok-put_title.ensures, c.in_ok-extend-2.ensures.ok, c.in_ok-put_sizes.ensures, c.in_ok-extend.ensures.ok, c.lanes.ensures.value, c.width.ensures, c.line_count.ensures.value, c.title.ensures, append_assoc))
+    (λ h. h ∙ simp (c.in_ok-put_description.ensures, c.in_ok-extend-3.ensures.ok, c.in_ok-put_title.ensures, c.in_ok-extend-2.ensures.ok, c.in_ok-put_sizes.ensures, c.in_ok-extend.ensures.ok, c.lanes.ensures.value, c.width.ensures, c.count.ensures.value, c.title.ensures, append_assoc))
     c.extend-4.ensures.ok

@@ -7,5 +7,5 @@ pub returns : goal.returns
 unfolding row_group
 returns c =
     on_ok c.extend-3.result
-    (λ h. h ∙ simp (c.in_ok-put_arrows.ensures, c.in_ok-extend-2.ensures.ok, c.in_ok-put_row_head.ensures, c.in_ok-extend.ensures.ok, c.in_ok-put_names_if.ensures, c.row_line-line.ensures.value, c.is_headed.ensures, c.lanes.ensures.value, c.lanes-2.ensures.value, append_assoc))
+    (λ h. h ∙ simp (c.in_ok-put_arrows.ensures, c.in_ok-extend-2.ensures.ok, c.in_ok-put_row_head.ensures, c.in_ok-extend.ensures.ok, c.in_ok-put_names_if.ensures, c.line-line.ensures.value, c.is_headed.ensures, c.lanes.ensures.value, c.lanes-2.ensures.value, append_assoc))
     c.extend-3.ensures.ok
