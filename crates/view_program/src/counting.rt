@@ -2,8 +2,9 @@
 use crate::reading::Said;
 use dom_text::{cut, put_decimal};
 use event_counts::{
-    Became, commands_of_kind, frames_noticed, frames_sent, locks_refused, pages_asked,
-    pages_dropped, pages_sent_home, spans_of_kind,
+    Became, Cause, Errand, commands_of_kind, frames_noticed, frames_sent, locks_refused, page_hits,
+    pages_asked, pages_dropped, pages_dropped_for, pages_sent_home, pages_sent_home_for,
+    spans_of_kind,
 };
 use event_views::RunView;
 use std::alloc::Global;
@@ -84,16 +85,36 @@ fn nodes_of(alloc: Global, run: &RunView) -> Result<Vec<NodeId>, NoMemory> {
     Ok(nodes)
 }
 
-/// Puts what a node asked for, dropped and gave back.
+/// Puts how many pages a node dropped, and how many of these for each cause.
+fn put_dropped(to: &mut ByteList, run: &RunView, node: NodeId) -> Result<(), NoMemory> {
+    let all = pages_dropped(run, node).unwrap_or(usize::MAX);
+    let for_room = pages_dropped_for(run, node, Cause::Room).unwrap_or(usize::MAX);
+    let written = pages_dropped_for(run, node, Cause::Written).unwrap_or(usize::MAX);
+    let gone = pages_dropped_for(run, node, Cause::Gone).unwrap_or(usize::MAX);
+    put_number(to, b"; dropped ", all)?;
+    put_number(to, b": for room ", for_room)?;
+    put_number(to, b", written elsewhere ", written)?;
+    put_number(to, b", of removed objects ", gone)
+}
+
+/// Puts how many pages a node sent home, and how many of these on each errand.
+fn put_sent_home(to: &mut ByteList, run: &RunView, node: NodeId) -> Result<(), NoMemory> {
+    let for_room = pages_sent_home_for(run, node, Errand::Room);
+    let released = pages_sent_home_for(run, node, Errand::Release);
+    let others = pages_sent_home_for(run, node, Errand::Other);
+    put_number(to, b"; sent home ", pages_sent_home(run, node))?;
+    put_number(to, b": for room ", for_room)?;
+    put_number(to, b", before a lock was given up ", released)?;
+    put_number(to, b", by other commands ", others)
+}
+
+/// Puts how often a node had the page that it wanted, and what it asked for, dropped and gave back.
 fn put_pages(to: &mut ByteList, run: &RunView, node: NodeId) -> Result<(), NoMemory> {
     put_node(to, run, node)?;
-    put_number(to, b": pages asked for ", pages_asked(run, node))?;
-    put_number(
-        to,
-        b", dropped ",
-        pages_dropped(run, node).unwrap_or(usize::MAX),
-    )?;
-    put_number(to, b", sent home ", pages_sent_home(run, node))?;
+    put_number(to, b": page hits ", page_hits(run, node))?;
+    put_number(to, b", pages asked for ", pages_asked(run, node))?;
+    put_dropped(to, run, node)?;
+    put_sent_home(to, run, node)?;
     to.extend(b"\n")
 }
 
