@@ -49,7 +49,7 @@ fn numbered(text: &[u8]) -> Result<(u64, &[u8])> {
 fn read_line(alloc: Global, chart: &mut Chart, line: &[u8]) -> Result<()> {
     let (kind, rest) = parted(line)?;
     let is_mark = kind == b"mark".as_slice();
-    if is_mark || kind == b"row".as_slice() {
+    if is_mark || kind == b"event".as_slice() {
         return read_row(alloc, chart, rest, is_mark);
     }
     let is_copy = kind == b"copy".as_slice();

@@ -5,15 +5,15 @@
 //! ```text
 //! two nodes
 //! a b
-//! row 1 0 a.1.1 lock x w
-//! row 2 1 takes LockAsk
+//! event 1 0 a.1.1 lock x w
+//! event 2 1 takes LockAsk
 //! mark 5 1 phase 1
 //! sent 0 1 1 LockAsk x w
 //! copy 0 1 lost LockAsk x w
 //! ```
 //!
-//! The first line is the title, the second has the names of the lanes. A row or a mark has its tick, its lane and its label. An arrow
-//! has the row that it starts at, the lane that it goes to, the row that takes it or `lost` or `never`, and its label.
+//! The first line is the title, the second has the names of the lanes. An event or a mark has its tick, its lane and its label. An arrow
+//! has the place of the event that it starts at, the lane that it goes to, that of the event that takes it or `lost` or `never`, and its label.
 #![tactic(auto)]
 
 mod described;

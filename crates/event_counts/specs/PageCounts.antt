@@ -1,8 +1,7 @@
 -- What of the pages of a node is counted: which loads and stores asked no home, why pages were dropped, and for what they were sent home.
-use Rattle.std.specs.Prelude.{ℕ, ◌==◌, ◌&&◌, ◌||◌, Bool, true, false, not, is_none, is_some, if◌then◌else◌, Option, Some, None, List, [], codes, bytes_eq, nat_eq}
+use Rattle.std.specs.Prelude.{ℕ, ◌==◌, ◌&&◌, ◌||◌, Bool, false, not, is_none, is_some, if◌then◌else◌, Option, Some, None, List, [], codes, bytes_eq, nat_eq}
 use Rattle.std.specs.List.{list_any, starts_with}
 use Rattle.uid_names.specs.FrameKinds.{kind_number}
-use Rattle.uid_names.specs.declared.frame_kind.FrameKind.{FrameKind}
 use Rattle.uid_names.specs.declared.frame_kind.FrameKind.TheVariants.{Granted, PageIn, PageOut}
 use Rattle.dom_history.specs.declared.event.Sent.{Sent}
 use Rattle.dom_text.specs.Cuts.{cut_at}

@@ -1,11 +1,12 @@
 -- What the places of arrows by rows say of what is drawn of them.
 use Rattle.std.proofs.Common.{◌≡◌, ◌∙◌, ℕ, ◌+◌, Bool, true, false, Some, List, [], ◌∷◌, ◌++◌, refl, ap, suc, arith}
 use Rattle.std.specs.Prelude.{◌==◌, ◌&&◌, slice_get}
-use Rattle.lane_charts.specs.ArrowKeys.{failing_at, failing_of, sent_from, taken_at, taker_of}
+use Rattle.lane_charts.specs.ArrowKeys.{failing_of, key_as, taker_of}
 use Rattle.lane_charts.specs.Charts.{Drawing}
 use Rattle.lane_charts.specs.Pictures.{arrow_group, arrows_of, group_if, groups_at, line_after}
 use Rattle.lane_charts.specs.Places.{drawn, is_key, place_if, places_of}
 use Rattle.lane_charts.specs.TextCharts.{arrow_if, fails_at, is_not_taken, is_taken_at}
+use Rattle.lane_charts.specs.declared.by_row.Standing.TheVariants.{Failed, Sent, Taken}
 use Rattle.lane_charts.specs.declared.chart.Arrow.{Arrow}
 use Rattle.lane_charts.specs.declared.chart.Arrival.{Arrival}
 use Rattle.lane_charts.specs.declared.chart.Arrival.TheVariants.{Row, Lost, Never}
@@ -30,10 +31,10 @@ failing_so k sender (Row at) = and_false (sender == k)
 failing_so k sender Lost = and_true (sender == k)
 failing_so k sender Never = and_true (sender == k)
 
-pub taken-if : (column : ℕ) (c : Drawing) (k : ℕ) (b : Bool) (a : Arrow) → is_key k (taken_at a) ≡ b → arrow_if (is_taken_at k a.end) column c a ≡ arrow_if b column c a
+pub taken-if : (column : ℕ) (c : Drawing) (k : ℕ) (b : Bool) (a : Arrow) → is_key k (key_as Taken a) ≡ b → arrow_if (is_taken_at k a.end) column c a ≡ arrow_if b column c a
 taken-if column c k b a is = ap (λ t. arrow_if t column c a) (taken_so k a.end ∙ is)
 
-pub failing-if : (column : ℕ) (c : Drawing) (k : ℕ) (b : Bool) (a : Arrow) → is_key k (failing_at a) ≡ b → arrow_if (fails_at k a) column c a ≡ arrow_if b column c a
+pub failing-if : (column : ℕ) (c : Drawing) (k : ℕ) (b : Bool) (a : Arrow) → is_key k (key_as Failed a) ≡ b → arrow_if (fails_at k a) column c a ≡ arrow_if b column c a
 failing-if column c k b a is = ap (λ t. arrow_if t column c a) (failing_so k a.sender a.end ∙ is)
 
 -- ---- in a picture
@@ -47,13 +48,13 @@ module _ (c : Drawing) (at from : ℕ) where
   groups_if false n line a ps more there rest = rest line
 
   groups-places : (n line : ℕ) (arrows : List Arrow) → ((i j : ℕ) → i ≡ n + j → slice_get c.arrows i ≡ slice_get arrows j)
-      → groups_at c from line (places_of (λ a. is_key at (sent_from a)) n arrows) ≡ arrows_of c at from line arrows
+      → groups_at c from line (places_of (λ a. is_key at (key_as Sent a)) n arrows) ≡ arrows_of c at from line arrows
   groups-places n line [] agree = refl
   groups-places n line (a ∷ arrows) agree =
-      groups_if (a.sender == at) n line a (places_of (λ a. is_key at (sent_from a)) (n + 1) arrows) (λ l. arrows_of c at from l arrows) (agree n 0 (omega arith))
+      groups_if (a.sender == at) n line a (places_of (λ a. is_key at (key_as Sent a)) (n + 1) arrows) (λ l. arrows_of c at from l arrows) (agree n 0 (omega arith))
       (λ l. groups-places (n + 1) l arrows (λ i j is. agree i (suc j) (omega (arith, is))))
 
-  pub groups-all : (line : ℕ) (ps : List ℕ) → ps ≡ places_of (λ a. is_key at (sent_from a)) 0 c.arrows → groups_at c from line ps ≡ arrows_of c at from line c.arrows
+  pub groups-all : (line : ℕ) (ps : List ℕ) → ps ≡ places_of (λ a. is_key at (key_as Sent a)) 0 c.arrows → groups_at c from line ps ≡ arrows_of c at from line c.arrows
   groups-all line ps is =
       ap (groups_at c from line) is
       ∙ groups-places 0 line c.arrows (λ i j same. ap (slice_get c.arrows) (let here : i ≡ j = omega (arith, same) in here))

@@ -7,8 +7,11 @@ use Rattle.std.proofs.lemmas.List.{get_or-replicate, length-replicate, length-ta
 use Rattle.std.proofs.lemmas.Option.{slice_get-get_or, get_or_from_slice_get}
 use Rattle.std.proofs.lemmas.List.Elements.{All-cons, All-nil}
 use Rattle.uid_names.proofs.ListLemmas.{by_cases, count_by-cons, set-there, set-else}
-use Rattle.lane_charts.specs.ArrowKeys.{failing_of, taker_of}
-use Rattle.lane_charts.specs.Charts.{EndsAmong}
+use Rattle.lane_charts.specs.ArrowKeys.{failing_of, key_as, taker_of}
+use Rattle.lane_charts.specs.Charts.{EndsAmong, IsArrowOf}
+use Rattle.lane_charts.specs.declared.by_row.Standing.{Standing}
+use Rattle.lane_charts.specs.declared.by_row.Standing.TheVariants.{Failed, Sent, Taken}
+use Rattle.lane_charts.specs.declared.chart.Arrow.{Arrow}
 use Rattle.lane_charts.specs.declared.chart.ChartRow.{ChartRow}
 use Rattle.lane_charts.specs.declared.chart.Arrival.{Arrival}
 use Rattle.lane_charts.specs.declared.chart.Arrival.TheVariants.{Row, Lost, Never}
@@ -103,15 +106,20 @@ module _ {X : Type 0} (test : X → Bool) where
 
 -- ---- the rows of arrows are among those of the chart
 
-pub taker-low : (rows : List ChartRow) (end : Arrival) → EndsAmong rows end → IfSome (taker_of end) (λ k. k < length rows)
+taker-low : (rows : List ChartRow) (end : Arrival) → EndsAmong rows end → IfSome (taker_of end) (λ k. k < length rows)
 taker-low rows (Row at) low = low
 taker-low rows Lost low = tt
 taker-low rows Never low = tt
 
-pub failing-low : (n sender : ℕ) (end : Arrival) → sender < n → IfSome (failing_of sender end) (λ k. k < n)
+failing-low : (n sender : ℕ) (end : Arrival) → sender < n → IfSome (failing_of sender end) (λ k. k < n)
 failing-low n sender (Row at) low = tt
 failing-low n sender Lost low = low
 failing-low n sender Never low = low
+
+pub key-low : (lanes : List (List ℕ)) (rows : List ChartRow) (standing : Standing) (arrow : Arrow) → IsArrowOf lanes rows arrow → IfSome (key_as standing arrow) (λ k. k < length rows)
+key-low lanes rows Taken arrow placed = taker-low rows arrow.end placed.end
+key-low lanes rows Failed arrow placed = failing-low (length rows) arrow.sender arrow.end placed.sender
+key-low lanes rows Sent arrow placed = placed.sender
 
 -- ---- reading by places
 

@@ -5,10 +5,11 @@ use Rattle.std.proofs.lemmas.Bool.{eqb-true}
 use Rattle.std.proofs.lemmas.List.{get_or_append_left, get_or_push}
 use Rattle.std.proofs.lemmas.List.Sums.{count_by-le-length}
 use Rattle.uid_names.proofs.ListLemmas.{count_by-cons}
-use Rattle.lane_charts.specs.ArrowKeys.{sent_from}
+use Rattle.lane_charts.specs.ArrowKeys.{key_as}
 use Rattle.lane_charts.specs.Heads.{is_headed}
 use Rattle.lane_charts.specs.Layout.{fitting, letters_between, line_of, lines_to, sent_above, sent_at}
 use Rattle.lane_charts.specs.Places.{is_key, places_of}
+use Rattle.lane_charts.specs.declared.by_row.Standing.TheVariants.{Sent}
 use Rattle.lane_charts.specs.declared.chart.Arrow.{Arrow}
 use Rattle.lane_charts.proofs.Again.{both}
 use Rattle.lane_charts.proofs.Keyed.{length-places_of}
@@ -42,7 +43,7 @@ unfolding sent_above
 few_above arrows at = count_by-le-length (λ a. nat_lt a.sender at) arrows
 
 -- the arrows above the next row, by the places of those that a row sends
-pub next_above : (arrows : List Arrow) (at : ℕ) (ps : List ℕ) → ps ≡ places_of (λ a. is_key at (sent_from a)) 0 arrows → sent_above (at + 1) arrows ≡ sent_above at arrows + length ps
+pub next_above : (arrows : List Arrow) (at : ℕ) (ps : List ℕ) → ps ≡ places_of (λ a. is_key at (key_as Sent a)) 0 arrows → sent_above (at + 1) arrows ≡ sent_above at arrows + length ps
 unfolding sent_at
 next_above arrows at ps is = omega (arith, more_above arrows at, ap length is, length-places_of (λ (a : Arrow). a.sender == at) 0 arrows)
 

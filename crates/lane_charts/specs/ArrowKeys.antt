@@ -3,6 +3,8 @@ use Rattle.std.specs.Prelude.{ℕ, Option, Some, None}
 use Rattle.lane_charts.specs.declared.chart.Arrow.{Arrow}
 use Rattle.lane_charts.specs.declared.chart.Arrival.{Arrival}
 use Rattle.lane_charts.specs.declared.chart.Arrival.TheVariants.{Row, Lost, Never}
+use Rattle.lane_charts.specs.declared.by_row.Standing.{Standing}
+use Rattle.lane_charts.specs.declared.by_row.Standing.TheVariants.{Taken, Failed, Sent}
 
 -- the row that takes an arrow with this end
 abbrev pub taker_of : Arrival → Option ℕ
@@ -16,12 +18,8 @@ failing_of sender (Row at) = None
 failing_of sender Lost = Some sender
 failing_of sender Never = Some sender
 
-abbrev pub taken_at : Arrow → Option ℕ
-taken_at a = taker_of a.end
-
-abbrev pub failing_at : Arrow → Option ℕ
-failing_at a = failing_of a.sender a.end
-
--- the row that sends it
-abbrev pub sent_from : Arrow → Option ℕ
-sent_from a = Some a.sender
+-- the row at which an arrow stands, as one that is taken, that fails, or that is sent
+abbrev pub key_as : Standing → Arrow → Option ℕ
+key_as Taken a = taker_of a.end
+key_as Failed a = failing_of a.sender a.end
+key_as Sent a = Some a.sender

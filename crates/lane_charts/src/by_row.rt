@@ -1,10 +1,10 @@
 //! The arrows of a chart by their rows.
 ghost use Rattle.std.specs.Prelude.{◌≡◌, length, IfOk};
-ghost use Rattle.lane_charts.specs.ArrowKeys.{failing_at, failing_of, sent_from, taken_at, taker_of};
+ghost use Rattle.lane_charts.specs.ArrowKeys.{failing_of, key_as, taker_of};
 ghost use Rattle.lane_charts.specs.ByRow.{AreOfRows};
 ghost use Rattle.lane_charts.specs.Places.{AreKeyed};
 
-use crate::chart::{Arrival, Chart};
+use crate::chart::{Arrival, Arrow, Chart};
 use crate::places::KeyedPlaces;
 use std::alloc::Global;
 use uid_names::NoMemory;
@@ -29,35 +29,39 @@ fn failing(sender: usize, end: Arrival) -> Option<usize>
     }
 }
 
-/// The arrows by the rows that take them.
-fn taken(alloc: Global, chart: &Chart) -> Result<KeyedPlaces, NoMemory>
-    ensures { IfOk result (λ places. AreKeyed taken_at (length chart.now.rows) places chart.now.arrows) }
-{
-    let mut places = KeyedPlaces::new(alloc, chart.rows().len())?;
-    for (place, arrow) in chart.arrows().iter().enumerate() {
-        places.put(taker(arrow.end), place)?;
-    }
-    Ok(places)
+/// As what an arrow stands at a row.
+#[derive(Clone, Copy, Debug, PartialEq, Eq)]
+pub(crate) enum Standing {
+    /// The row takes it.
+    Taken,
+    /// The row sends it, and no row takes it.
+    Failed,
+    /// The row sends it.
+    Sent,
 }
 
-/// The arrows that no row takes, by the rows that send them.
-fn failed(alloc: Global, chart: &Chart) -> Result<KeyedPlaces, NoMemory>
-    ensures { IfOk result (λ places. AreKeyed failing_at (length chart.now.rows) places chart.now.arrows) }
+/// The row at which an arrow stands as this.
+fn row_of(standing: Standing, arrow: &Arrow) -> Option<usize>
+    ensures { result ≡ key_as standing arrow.now }
 {
-    let mut places = KeyedPlaces::new(alloc, chart.rows().len())?;
-    for (place, arrow) in chart.arrows().iter().enumerate() {
-        places.put(failing(arrow.sender, arrow.end), place)?;
+    match standing {
+        Standing::Taken => taker(arrow.end),
+        Standing::Failed => failing(arrow.sender, arrow.end),
+        Standing::Sent => Some(arrow.sender),
     }
-    Ok(places)
 }
 
-/// The arrows by the rows that send them.
-pub(crate) fn sent(alloc: Global, chart: &Chart) -> Result<KeyedPlaces, NoMemory>
-    ensures { IfOk result (λ places. AreKeyed sent_from (length chart.now.rows) places chart.now.arrows) }
+/// The arrows by the rows at which they stand as this.
+pub(crate) fn by_rows(
+    alloc: Global,
+    chart: &Chart,
+    standing: Standing,
+) -> Result<KeyedPlaces, NoMemory>
+    ensures { IfOk result (λ places. AreKeyed (key_as standing) (length chart.now.rows) places chart.now.arrows) }
 {
     let mut places = KeyedPlaces::new(alloc, chart.rows().len())?;
     for (place, arrow) in chart.arrows().iter().enumerate() {
-        places.put(Some(arrow.sender), place)?;
+        places.put(row_of(standing, arrow), place)?;
     }
     Ok(places)
 }
@@ -75,8 +79,8 @@ impl RowArrows {
     pub(crate) fn of(alloc: Global, chart: &Chart) -> Result<RowArrows, NoMemory>
         ensures { IfOk result (AreOfRows chart.now) }
     {
-        let taken = taken(alloc, chart)?;
-        let failed = failed(alloc, chart)?;
+        let taken = by_rows(alloc, chart, Standing::Taken)?;
+        let failed = by_rows(alloc, chart, Standing::Failed)?;
         Ok(RowArrows { taken, failed })
     }
 }

@@ -1,11 +1,12 @@
 //! Where things stand in a picture, in pixels.
 ghost use Rattle.std.specs.Prelude.{◌≡◌, ◌≤◌, ◌<◌, ◌+◌, ◌/◌, ◌^◌, length, IfOk};
-ghost use Rattle.lane_charts.specs.ArrowKeys.{sent_from};
+ghost use Rattle.lane_charts.specs.ArrowKeys.{key_as};
 ghost use Rattle.lane_charts.specs.Layout.{fitting as fitting_text, lane_x as lane_x_of, line_of, lines_in, lines_to, right_of, stub_x as stub_x_of, width_of, words_x as words_x_of};
 ghost use Rattle.lane_charts.specs.Lines.{AreLinesOf};
 ghost use Rattle.lane_charts.specs.Places.{AreKeyed};
+ghost use Rattle.lane_charts.specs.declared.by_row.Standing.TheVariants.{Sent};
 
-use crate::by_row::sent;
+use crate::by_row::{Standing, by_rows};
 use crate::chart::{Chart, MOST_LANES, MOST_ROWS};
 use crate::cuts::first_of;
 use crate::places::KeyedPlaces;
@@ -72,7 +73,7 @@ fn line_at(at: usize, above: usize) -> u64
 
 /// The lines of all rows, and the first below all rows and arrows.
 fn lines_of(alloc: Global, chart: &Chart, sent: &KeyedPlaces) -> Result<ItemList<u64>, NoMemory>
-    requires { AreKeyed sent_from (length chart.now.rows) sent.now chart.now.arrows }
+    requires { AreKeyed (key_as Sent) (length chart.now.rows) sent.now chart.now.arrows }
     ensures { IfOk result (λ lines. lines ≡ lines_to chart.now.arrows (length chart.now.rows + 1)) }
 {
     let rows = chart.rows().len();
@@ -98,7 +99,7 @@ impl RowLines {
     pub(crate) fn of(alloc: Global, chart: &Chart) -> Result<RowLines, NoMemory>
         ensures { IfOk result (AreLinesOf chart.now) }
     {
-        let sent = sent(alloc, chart)?;
+        let sent = by_rows(alloc, chart, Standing::Sent)?;
         let lines = lines_of(alloc, chart, &sent)?;
         Ok(RowLines { lines, sent })
     }

@@ -32,7 +32,7 @@ impl KeyedPlaces {
         Ok(KeyedPlaces { lists })
     }
 
-    /// Puts a place last among those of its key, if it has one. Without memory nothing changes.
+    /// Puts a place last among those of its key, if it has one. Without memory nothing is said of the places any more.
     pub fn put(&mut self, key: Option<usize>, place: usize) -> Result<(), NoMemory>
         requires { IfSome key (λ key. key < length self.old) }
         ensures { OnOk result (self.new ≡ with_place key place self.old) }

@@ -1,11 +1,12 @@
 //! Draws charts for terminals.
 ghost use Rattle.std.specs.Prelude.{◌≡◌, ◌<◌, ◌≤◌, ◌++◌, length, slice_get, All, IfOk, OnOk};
 ghost use Rattle.std.specs.List.{flat_map};
-ghost use Rattle.lane_charts.specs.ArrowKeys.{failing_at, taken_at};
+ghost use Rattle.lane_charts.specs.ArrowKeys.{key_as};
 ghost use Rattle.lane_charts.specs.ByRow.{AreOfRows};
 ghost use Rattle.lane_charts.specs.Charts.{IsRowOf};
 ghost use Rattle.lane_charts.specs.Places.{AreKeyed, drawn};
 ghost use Rattle.lane_charts.specs.TextCharts.{arrow_if, arrow_in, arrow_line, fails_at, is_taken_at, names_line, row_block, row_cells, row_line, text_of};
+ghost use Rattle.lane_charts.specs.declared.by_row.Standing.TheVariants.{Failed, Taken};
 
 use crate::by_row::RowArrows;
 use crate::cells::{
@@ -84,7 +85,7 @@ fn put_taken(
     requires low { 8 ≤ column }
     requires high { column ≤ 60 }
     requires there { at < length chart.now.rows }
-    requires taken { AreKeyed taken_at (length chart.now.rows) taken.now chart.now.arrows }
+    requires taken { AreKeyed (key_as Taken) (length chart.now.rows) taken.now chart.now.arrows }
     ensures { OnOk result (to.new ≡ to.old ++ flat_map (λ a. arrow_if (is_taken_at at a.end) column chart.now a) chart.now.arrows) }
 {
     put_arrows(to, column, chart, taken.of(at))
@@ -101,7 +102,7 @@ fn put_failed(
     requires low { 8 ≤ column }
     requires high { column ≤ 60 }
     requires there { at < length chart.now.rows }
-    requires failed { AreKeyed failing_at (length chart.now.rows) failed.now chart.now.arrows }
+    requires failed { AreKeyed (key_as Failed) (length chart.now.rows) failed.now chart.now.arrows }
     ensures { OnOk result (to.new ≡ to.old ++ flat_map (λ a. arrow_if (fails_at at a) column chart.now a) chart.now.arrows) }
 {
     put_arrows(to, column, chart, failed.of(at))

@@ -1,7 +1,8 @@
 use Rattle.std.proofs.Common.{◌∙◌, List, ℕ, ◌++◌, ap, length, arith}
 use Rattle.std.proofs.lemmas.List.Sums.{count_by-le-length}
-use Rattle.lane_charts.specs.ArrowKeys.{sent_from}
+use Rattle.lane_charts.specs.ArrowKeys.{key_as}
 use Rattle.lane_charts.specs.Places.{is_key}
+use Rattle.lane_charts.specs.declared.by_row.Standing.TheVariants.{Sent}
 use Rattle.lane_charts.specs.declared.chart.Arrow.{Arrow}
 use Rattle.lane_charts.proofs.ByRow.{groups-all}
 use Rattle.lane_charts.proofs.Keyed.{keyed-list, length-places_of, listed-within}
@@ -11,14 +12,14 @@ use Rattle.lane_charts.proofs.arrows.put_arrows.Goals as goal
 pub put_groups-requires-clause-there : goal.put_groups-requires-clause-there
 put_groups-requires-clause-there c =
     let chart = c.args.chart.now in
-    listed-within (λ (a : Arrow). is_key c.args.at (sent_from a)) chart.arrows c.of.result.now
-    (keyed-list sent_from (length chart.rows) c.args.lines.now.sent chart.arrows c.args.at c.of.result.now c.requires.lines.sent c.requires.there c.of.ensures)
+    listed-within (λ (a : Arrow). is_key c.args.at (key_as Sent a)) chart.arrows c.of.result.now
+    (keyed-list (key_as Sent) (length chart.rows) c.args.lines.now.sent chart.arrows c.args.at c.of.result.now c.requires.lines.sent c.requires.there c.of.ensures)
 
 pub put_groups-requires-clause-few : goal.put_groups-requires-clause-few
 put_groups-requires-clause-few c =
     let chart = c.args.chart.now in
-    let test = λ (a : Arrow). is_key c.args.at (sent_from a) in
-    let list = keyed-list sent_from (length chart.rows) c.args.lines.now.sent chart.arrows c.args.at c.of.result.now c.requires.lines.sent c.requires.there c.of.ensures in
+    let test = λ (a : Arrow). is_key c.args.at (key_as Sent a) in
+    let list = keyed-list (key_as Sent) (length chart.rows) c.args.lines.now.sent chart.arrows c.args.at c.of.result.now c.requires.lines.sent c.requires.there c.of.ensures in
     omega (arith, ap length list, length-places_of test 0 chart.arrows, count_by-le-length test chart.arrows)
 
 pub returns : goal.returns
@@ -29,5 +30,5 @@ returns c =
     h
     ∙ ap (λ (t : List ℕ). c.args.to.now ++ t)
     (groups-all chart c.args.at c.args.from c.args.line c.of.result.now
-    (keyed-list sent_from (length chart.rows) c.args.lines.now.sent chart.arrows c.args.at c.of.result.now c.requires.lines.sent c.requires.there c.of.ensures)))
+    (keyed-list (key_as Sent) (length chart.rows) c.args.lines.now.sent chart.arrows c.args.at c.of.result.now c.requires.lines.sent c.requires.there c.of.ensures)))
     c.put_groups.ensures

@@ -1,5 +1,6 @@
 use Rattle.std.proofs.Common.{◌≡◌, ◌∙◌, ◌+◌, ◌/◌, length, ap, sym, arith}
-use Rattle.lane_charts.specs.ArrowKeys.{sent_from}
+use Rattle.lane_charts.specs.ArrowKeys.{key_as}
+use Rattle.lane_charts.specs.declared.by_row.Standing.TheVariants.{Sent}
 use Rattle.lane_charts.specs.Layout.{lines_to}
 use Rattle.lane_charts.proofs.Keyed.{keyed-list}
 use Rattle.lane_charts.proofs.Lines.{few_above, lines_next, next_above, none_above}
@@ -15,14 +16,14 @@ pub overflow_add-above : goal.overflow_add-above
 overflow_add-above c =
     let chart = c.args.chart.now in
     let at = c.loop-at.at in
-    let list = keyed-list sent_from (length chart.rows) c.args.sent.now chart.arrows at c.of.result.now c.requires (omega (arith, c.loop-at-test.true, ap length c.rows-rows.ensures.value)) c.of.ensures in
+    let list = keyed-list (key_as Sent) (length chart.rows) c.args.sent.now chart.arrows at c.of.result.now c.requires (omega (arith, c.loop-at-test.true, ap length c.rows-rows.ensures.value)) c.of.ensures in
     omega (arith, next_above chart.arrows at c.of.result.now list, few_above chart.arrows (at + 1), c.loop-at.invariant.above, c.arrows-few.ensures.few)
 
 pub loop-at-preserved : goal.loop-at-preserved
 loop-at-preserved c =
     let chart = c.args.chart.now in
     let at = c.loop-at.at in
-    let list = keyed-list sent_from (length chart.rows) c.args.sent.now chart.arrows at c.of.result.now c.requires (omega (arith, c.loop-at-test.true, ap length c.rows-rows.ensures.value)) c.of.ensures in
+    let list = keyed-list (key_as Sent) (length chart.rows) c.args.sent.now chart.arrows at c.of.result.now c.requires (omega (arith, c.loop-at-test.true, ap length c.rows-rows.ensures.value)) c.of.ensures in
     record {
       lines = lines_next chart.arrows at c.loop-at.above c.line_at.result c.loop-at.lines c.push.new.self c.loop-at.invariant.above c.line_at.ensures c.loop-at.invariant.lines c.in_ok-push.ensures.ok;
       above = omega (arith, next_above chart.arrows at c.of.result.now list, c.loop-at.invariant.above);
