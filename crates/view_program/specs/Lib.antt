@@ -1,1 +1,5 @@
+pub mod Saying
+pub mod Drawn
+pub mod Read
 pub mod Searches
+pub mod Answers

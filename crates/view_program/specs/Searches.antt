@@ -8,10 +8,7 @@ use Rattle.explored_runs.specs.Explored.{IsExplored}
 use Rattle.explored_runs.specs.declared.numbers.Found.{Found}
 use Rattle.explored_runs.specs.Sought.{IsFound}
 use Rattle.view_program.specs.declared.reading.Said.{Said}
-
--- this status, and this text
-abbrev pub saying : ℕ → List ℕ → Said
-saying status text = record { status = status; text = Some text }
+use Rattle.view_program.specs.Saying.{saying}
 
 -- what is told of what came of a script in the turns of each number from one up to another, which is none of them
 pub record SaysExplored (s : Content) (from to : ℕ) (said : Said) : Type 0 where

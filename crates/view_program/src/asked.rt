@@ -5,36 +5,36 @@ use uid_names::{ByteList, ItemList};
 
 /// Numbers of turns, from the first up to the end, which is none of them, and how many threads run them, if that is said.
 #[derive(Clone, Copy, Debug, PartialEq, Eq)]
-pub(crate) struct Numbers {
-    pub(crate) first: u64,
-    pub(crate) end: u64,
-    pub(crate) threads: Option<u64>,
+pub struct Numbers {
+    pub first: u64,
+    pub end: u64,
+    pub threads: Option<u64>,
     ghost order: { first ≤ end },
 }
 
 /// Two numbers of turns whose runs are compared, and how wide lanes are drawn, if that is said.
 #[derive(Clone, Copy, Debug, PartialEq, Eq)]
-pub(crate) struct Compared {
-    pub(crate) first: u64,
-    pub(crate) second: u64,
-    pub(crate) width: Option<u64>,
+pub struct Compared {
+    pub first: u64,
+    pub second: u64,
+    pub width: Option<u64>,
 }
 
 /// Which events of a run are shown, by names, and how.
 #[derive(Drop, Debug)]
-pub(crate) struct Shown {
-    pub(crate) is_picture: bool,
-    pub(crate) width: Option<u64>,
-    pub(crate) from: Option<u64>,
-    pub(crate) to: Option<u64>,
-    pub(crate) object: Option<ByteList>,
-    pub(crate) page: Option<u32>,
-    pub(crate) command: Option<ByteList>,
+pub struct Shown {
+    pub is_picture: bool,
+    pub width: Option<u64>,
+    pub from: Option<u64>,
+    pub to: Option<u64>,
+    pub object: Option<ByteList>,
+    pub page: Option<u32>,
+    pub command: Option<ByteList>,
 }
 
 /// What is asked of the program.
 #[derive(Drop, Debug)]
-pub(crate) enum Asked {
+pub enum Asked {
     /// The events of a run as lanes; the number picks the run where no journal does.
     Lanes(u64, Shown),
     /// What a run counts.

@@ -1,5 +1,8 @@
 //! Tells what a run counts.
-use crate::reading::Said;
+ghost use Rattle.std.specs.Prelude.{◌≡◌, IfOk};
+
+use crate::reading::{Said, read_run};
+use dom_io::Source;
 use dom_text::{cut, put_decimal};
 use event_counts::{
     Became, Cause, Errand, commands_of_kind, frames_noticed, frames_sent, locks_refused, page_hits,
@@ -204,7 +207,14 @@ fn count_text(alloc: Global, run: &RunView) -> Result<ByteList, NoMemory> {
     Ok(text)
 }
 
-/// What a run counts, as it is told.
-pub(crate) fn counted(alloc: Global, run: &RunView) -> Result<Said, Said> {
-    Ok(Said::new(0, count_text(alloc, run)?))
+/// What the run counts that a source and a number pick.
+pub(crate) fn said_of_counts<S: Source>(
+    alloc: Global,
+    source: &mut S,
+    turns: u64,
+) -> Result<Said, Said>
+    ensures { IfOk result (λ said. said.status ≡ 0) }
+{
+    let read = read_run(alloc, source, turns)?;
+    Ok(Said::new(0, count_text(alloc, &read.run)?))
 }

@@ -1,6 +1,10 @@
 //! Tells where two runs differ.
-use crate::reading::{BothRuns, ReadRun, Said};
+ghost use Rattle.std.specs.Prelude.{◌≡◌, IfOk};
+
+use crate::asked::Compared;
+use crate::reading::{BothRuns, ReadRun, Said, read_both};
 use dom_history::EventList;
+use dom_io::Source;
 use dom_text::put_decimal;
 use event_charts::chart_of;
 use event_views::{AnswerDiff, Choice, EventView, RunView, diff, put_command};
@@ -134,7 +138,15 @@ fn diff_text(alloc: Global, both: &BothRuns, width: usize) -> Result<ByteList, N
     Ok(text)
 }
 
-/// Where two runs of one script differ, as it is told.
-pub(crate) fn differing(alloc: Global, both: &BothRuns, width: usize) -> Result<Said, Said> {
-    Ok(Said::new(0, diff_text(alloc, both, width)?))
+/// Where the runs differ that a source and two numbers pick.
+pub(crate) fn said_of_difference<S: Source>(
+    alloc: Global,
+    source: &mut S,
+    compared: &Compared,
+    width: usize,
+) -> Result<Said, Said>
+    ensures { IfOk result (λ said. said.status ≡ 0) }
+{
+    let both = read_both(alloc, source, compared.first, compared.second)?;
+    Ok(Said::new(0, diff_text(alloc, &both, width)?))
 }

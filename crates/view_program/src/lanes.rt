@@ -1,11 +1,16 @@
 //! Draws a run.
+ghost use Rattle.std.specs.Prelude.{◌≡◌, None, IfOk};
+ghost use Rattle.script_runner.specs.Outside.{from_to};
+ghost use Rattle.view_program.specs.Answers.{SaysLanes};
+ghost use Rattle.view_program.specs.Drawn.{IsChoiceOf, SaysDrawn, drawing};
+
 use crate::asked::Shown;
-use crate::host::Host;
-use crate::reading::{NOT_TAKEN, Said};
+use crate::reading::{NOT_TAKEN, Said, read_run};
+use dom_io::Source;
 use dom_text::{cut_last, decimal};
 use event_charts::chart_of;
 use event_views::{Choice, CommandName, RunView};
-use lane_charts::{draw_svg, draw_text};
+use lane_charts::{Chart, draw_svg, draw_text};
 use std::alloc::Global;
 use uid_names::{ByteList, NoMemory, ProcId, Uid};
 
@@ -57,36 +62,80 @@ fn unknown(alloc: Global, what: &[u8], name: &[u8]) -> Result<Said, NoMemory> {
     Ok(Said::new(NOT_TAKEN, text))
 }
 
+/// The object of this name, where one is asked for.
+fn object_asked(alloc: Global, run: &RunView, asked: &Option<ByteList>) -> Result<Option<Uid>, Said>
+    ensures { asked.now ≡ None → IfOk result (λ object. object ≡ None) }
+{
+    let Some(name) = asked else {
+        return Ok(None);
+    };
+    match object_of(run, name.bytes()) {
+        Some(object) => Ok(Some(object)),
+        None => Err(unknown(alloc, b"object", name.bytes())?),
+    }
+}
+
+/// The command of this name, where one is asked for.
+fn command_asked(
+    alloc: Global,
+    run: &RunView,
+    asked: &Option<ByteList>,
+) -> Result<Option<CommandName>, Said>
+    ensures { asked.now ≡ None → IfOk result (λ command. command ≡ None) }
+{
+    let Some(name) = asked else {
+        return Ok(None);
+    };
+    match command_of(run, name.bytes()) {
+        Some(command) => Ok(Some(command)),
+        None => Err(unknown(alloc, b"command", name.bytes())?),
+    }
+}
+
 /// Which events of a run are shown.
-fn choice_of(alloc: Global, run: &RunView, shown: &Shown) -> Result<Choice, Said> {
-    let mut choice = Choice {
+fn choice_of(alloc: Global, run: &RunView, shown: &Shown) -> Result<Choice, Said>
+    ensures { IfOk result (IsChoiceOf shown.now) }
+{
+    Ok(Choice {
         from: shown.from,
         to: shown.to,
-        object: None,
+        object: object_asked(alloc, run, &shown.object)?,
         page: shown.page,
-        command: None,
-    };
-    if let Some(name) = &shown.object {
-        choice.object = object_of(run, name.bytes());
-        if choice.object.is_none() {
-            return Err(unknown(alloc, b"object", name.bytes())?);
-        }
+        command: command_asked(alloc, run, &shown.command)?,
+    })
+}
+
+/// A chart as a picture, or as text of so many characters.
+fn drawn(alloc: Global, chart: &Chart, is_picture: bool, width: usize) -> Result<ByteList, NoMemory>
+    ensures { IfOk result (λ text. text ≡ drawing is_picture width chart.now) }
+{
+    if is_picture {
+        draw_svg(alloc, chart)
+    } else {
+        draw_text(alloc, chart, width)
     }
-    if let Some(name) = &shown.command {
-        choice.command = command_of(run, name.bytes());
-        if choice.command.is_none() {
-            return Err(unknown(alloc, b"command", name.bytes())?);
-        }
-    }
-    Ok(choice)
 }
 
 /// The chosen events of a run, drawn.
-pub(crate) fn drawn(alloc: Global, run: &RunView, shown: &Shown, host: Host) -> Result<Said, Said> {
+fn lanes(alloc: Global, run: &RunView, shown: &Shown, width: usize) -> Result<Said, Said>
+    ensures { IfOk result (SaysDrawn shown.now width run.now) }
+{
     let choice = choice_of(alloc, run, shown)?;
     let chart = chart_of(alloc, run, &choice)?;
-    if shown.is_picture {
-        return Ok(Said::new(0, draw_svg(alloc, &chart)?));
-    }
-    Ok(Said::new(0, draw_text(alloc, &chart, host.width(shown.width))?))
+    let text = drawn(alloc, &chart, shown.is_picture, width)?;
+    Ok(Said::new(0, text))
+}
+
+/// The chosen events of the run that a source and a number pick, drawn.
+pub(crate) fn said_of_lanes<S: Source>(
+    alloc: Global,
+    source: &mut S,
+    turns: u64,
+    shown: &Shown,
+    width: usize,
+) -> Result<Said, Said>
+    ensures { IfOk result (SaysLanes shown.now turns (from_to (S.left source.old) (S.left source.new))) }
+{
+    let read = read_run(alloc, source, turns)?;
+    lanes(alloc, &read.run, shown, width)
 }

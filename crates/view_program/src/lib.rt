@@ -11,5 +11,7 @@ mod searching;
 pub mod showing;
 mod words_asked;
 
+pub use asked::{Asked, Compared, Numbers, Shown};
 pub use host::Host;
-pub use showing::show;
+pub use reading::Said;
+pub use showing::{said_to, show};

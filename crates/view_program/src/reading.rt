@@ -1,5 +1,11 @@
 //! Standard input: a script, or a script and a journal behind it.
-ghost use Rattle.std.specs.Prelude.{◌≡◌, ◌≤◌, length, Some, None, IfOk};
+ghost use Rattle.std.specs.Prelude.{◌≡◌, ◌≤◌, length, Some, None, IfOk, OnOk};
+ghost use Rattle.std.specs.Io.KnownBytes.{IsAtEnd};
+ghost use Rattle.script_reader.specs.Grammar.{IsScript};
+ghost use Rattle.script_runner.specs.Domain.{AreLeft, IsSourceOf};
+ghost use Rattle.script_runner.specs.Outside.{from_to};
+ghost use Rattle.run_views.specs.Shown.{AreOfTurns, AreOfJournal};
+ghost use Rattle.view_program.specs.Read.{IsRead, IsRunOfTurns, IsRunOfJournal};
 
 use dom_io::{ReadEnd, Source, read_all};
 use dom_text::put_decimal;
@@ -17,14 +23,14 @@ pub(crate) const NOT_TAKEN: u8 = 2;
 
 /// What is said, and the status that says it. Nothing is said where a read failed, a node came to the last tick or memory was wanted.
 #[derive(Drop, Debug)]
-pub(crate) struct Said {
-    pub(crate) status: u8,
-    pub(crate) text: Option<ByteList>,
+pub struct Said {
+    pub status: u8,
+    pub text: Option<ByteList>,
 }
 
 impl Said {
     /// This text.
-    pub(crate) fn new(status: u8, text: ByteList) -> Said
+    pub fn new(status: u8, text: ByteList) -> Said
         ensures { result ≡ record { status = status; text = Some text } }
     {
         Said {
@@ -34,7 +40,7 @@ impl Said {
     }
 
     /// Nothing but the status.
-    pub(crate) fn nothing(status: u8) -> Said
+    pub fn nothing(status: u8) -> Said
         ensures { result ≡ record { status = status; text = None } }
     {
         Said { status, text: None }
@@ -65,7 +71,9 @@ fn refusal(alloc: Global, line: u32, cause: Cause) -> Result<Said, NoMemory> {
 
 /// All bytes of a source that may have so many.
 fn bytes_of<S: Source>(alloc: Global, source: &mut S, limit: u32) -> Result<ByteList, Said>
-    ensures { IfOk result (λ bytes. length bytes ≤ limit) }
+    ensures all { IfOk result (AreLeft (S.left source.old)) }
+    ensures end { OnOk result (IsAtEnd (S.left source.new)) }
+    ensures within { IfOk result (λ bytes. length bytes ≤ limit) }
 {
     match read_all(alloc, source, limit) {
         Ok(bytes) => Ok(bytes),
@@ -76,7 +84,9 @@ fn bytes_of<S: Source>(alloc: Global, source: &mut S, limit: u32) -> Result<Byte
 }
 
 /// The script of these bytes.
-fn script_of(alloc: Global, bytes: &[u8]) -> Result<Script, Said> {
+fn script_of(alloc: Global, bytes: &[u8]) -> Result<Script, Said>
+    ensures { IfOk result (IsScript bytes.now) }
+{
     match read_script(alloc, bytes) {
         Ok(script) => Ok(script),
         Err(ScriptFault::Bad { line, cause }) => Err(refusal(alloc, line, cause)?),
@@ -85,7 +95,9 @@ fn script_of(alloc: Global, bytes: &[u8]) -> Result<Script, Said> {
 }
 
 /// The script that a source has.
-pub(crate) fn read_input<S: Source>(alloc: Global, source: &mut S) -> Result<Script, Said> {
+pub(crate) fn read_input<S: Source>(alloc: Global, source: &mut S) -> Result<Script, Said>
+    ensures { IfOk result (IsSourceOf (from_to (S.left source.old) (S.left source.new))) }
+{
     let bytes = bytes_of(alloc, source, SCRIPT_BYTES)?;
     script_of(alloc, bytes.bytes())
 }
@@ -105,12 +117,9 @@ pub(crate) struct BothRuns {
 }
 
 /// The run of a script in the turns of a number.
-fn run_of_turns(
-    alloc: Global,
-    script: &Script,
-    source: &[u8],
-    turns: u64,
-) -> Result<ReadRun, Said> {
+fn run_of_turns(alloc: Global, script: &Script, source: &[u8], turns: u64) -> Result<ReadRun, Said>
+    ensures { IfOk result (λ read. AreOfTurns script.now turns read.run.events) }
+{
     match run_in_turns(alloc, script, source, turns) {
         Ok(run) => Ok(ReadRun {
             run,
@@ -129,6 +138,7 @@ fn run_of_text(
     journal: &[u8],
 ) -> Result<ReadRun, Said>
     requires { length journal.now ≤ JOURNAL_BYTES }
+    ensures { IfOk result (λ read. AreOfJournal script.now journal.now read.run.events) }
 {
     match run_of_journal(alloc, script, source, journal) {
         Ok(run) => Ok(ReadRun { run, turns: None }),
@@ -140,7 +150,9 @@ fn run_of_text(
 }
 
 /// The run of the script of these bytes in the turns of a number.
-fn run_in(alloc: Global, source: &[u8], turns: u64) -> Result<ReadRun, Said> {
+fn run_in(alloc: Global, source: &[u8], turns: u64) -> Result<ReadRun, Said>
+    ensures { IfOk result (λ read. IsRunOfTurns source.now turns read.run.events) }
+{
     let script = script_of(alloc, source)?;
     run_of_turns(alloc, &script, source, turns)
 }
@@ -148,6 +160,7 @@ fn run_in(alloc: Global, source: &[u8], turns: u64) -> Result<ReadRun, Said> {
 /// The run of the script of these bytes that has this journal.
 fn run_behind(alloc: Global, source: &[u8], journal: &[u8]) -> Result<ReadRun, Said>
     requires { length journal.now ≤ JOURNAL_BYTES }
+    ensures { IfOk result (λ read. IsRunOfJournal source.now journal.now read.run.events) }
 {
     let script = script_of(alloc, source)?;
     run_of_text(alloc, &script, source, journal)
@@ -177,7 +190,9 @@ pub(crate) fn read_run<S: Source>(
     alloc: Global,
     source: &mut S,
     turns: u64,
-) -> Result<ReadRun, Said> {
+) -> Result<ReadRun, Said>
+    ensures { IfOk result (λ read. IsRead (from_to (S.left source.old) (S.left source.new)) turns read.run.events) }
+{
     let bytes = bytes_of(alloc, source, JOURNAL_BYTES)?;
     let Some((text, journal)) = parted(bytes.bytes()) else {
         return run_in(alloc, bytes.bytes(), turns);

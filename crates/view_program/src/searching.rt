@@ -1,11 +1,13 @@
 //! What is told of many numbers of turns.
 ghost use Rattle.std.specs.Prelude.{◌≡◌, IfOk};
+ghost use Rattle.script_runner.specs.Outside.{from_to};
+ghost use Rattle.view_program.specs.Answers.{SaysAll, SaysLowest};
 ghost use Rattle.view_program.specs.Searches.{SaysExplored, SaysFound, found_line};
 
 use crate::asked::Numbers;
 use crate::host::Host;
-use crate::reading::Said;
-use dom_io::Sink;
+use crate::reading::{Said, read_input};
+use dom_io::{Sink, Source};
 use dom_text::put_decimal;
 use explored_counts::explored_text;
 use explored_runs::{Found, explore, find};
@@ -16,7 +18,7 @@ use std::thread::Threads;
 use uid_names::{ByteList, NoMemory};
 
 /// What comes of each of these numbers.
-pub(crate) fn explored<R: Threads, N: Sink>(
+fn explored<R: Threads, N: Sink>(
     rt: &R,
     alloc: Global,
     script: &Script,
@@ -55,7 +57,7 @@ fn found_text(alloc: Global, found: &Found) -> Result<ByteList, NoMemory>
 }
 
 /// The lowest of these numbers whose journal has a line with these words, and the line.
-pub(crate) fn found<R: Threads, N: Sink>(
+fn found<R: Threads, N: Sink>(
     rt: &R,
     alloc: Global,
     script: &Script,
@@ -80,4 +82,35 @@ pub(crate) fn found<R: Threads, N: Sink>(
         Some(found) => Ok(Said::new(0, found_text(alloc, &found)?)),
         None => Ok(Said::nothing(1)),
     }
+}
+
+/// What comes of a source's script in the turns of each of these numbers.
+pub(crate) fn said_of_all<R: Threads, S: Source, N: Sink>(
+    rt: &R,
+    alloc: Global,
+    source: &mut S,
+    numbers: &Numbers,
+    host: Host,
+    notes: Option<&mut N>,
+) -> Result<Said, Said>
+    ensures { IfOk result (SaysAll numbers.now (from_to (S.left source.old) (S.left source.new))) }
+{
+    let script = read_input(alloc, source)?;
+    explored(rt, alloc, &script, numbers, host, notes)
+}
+
+/// The lowest of these numbers whose journal of a source's script has a line with these words, and the line.
+pub(crate) fn said_of_lowest<R: Threads, S: Source, N: Sink>(
+    rt: &R,
+    alloc: Global,
+    source: &mut S,
+    words: &[ByteList],
+    numbers: &Numbers,
+    host: Host,
+    notes: Option<&mut N>,
+) -> Result<Said, Said>
+    ensures { IfOk result (SaysLowest numbers.now words.now (from_to (S.left source.old) (S.left source.new))) }
+{
+    let script = read_input(alloc, source)?;
+    found(rt, alloc, &script, words, numbers, host, notes)
 }

@@ -1,11 +1,15 @@
 //! Shows what is asked for.
+ghost use Rattle.std.specs.Prelude.{IfOk};
+ghost use Rattle.script_runner.specs.Outside.{from_to};
+ghost use Rattle.view_program.specs.Answers.{IsAnswer};
+
 use crate::asked::Asked;
-use crate::counting::counted;
-use crate::differing::differing;
+use crate::counting::said_of_counts;
+use crate::differing::said_of_difference;
 use crate::host::Host;
-use crate::lanes::drawn;
-use crate::reading::{NOT_TAKEN, Said, read_both, read_input, read_run};
-use crate::searching::{explored, found};
+use crate::lanes::said_of_lanes;
+use crate::reading::{NOT_TAKEN, Said};
+use crate::searching::{said_of_all, said_of_lowest};
 use crate::words_asked::asked;
 use clap::Error;
 use clap::error::ErrorKind;
@@ -54,35 +58,29 @@ fn write_error<O: Sink, N: Sink>(alloc: Global, error: &Error, out: &mut O, note
     }
 }
 
-/// What is said of many numbers of turns, or of a run.
-fn said_to<R: Threads, S: Source, N: Sink>(
+/// What is said to what is asked, of the script that the input has, or of the run whose journal stands behind it. An error is what is said where that
+/// cannot be: of a bad line, of a name that the script lacks, or no more than a status.
+pub fn said_to<R: Threads, S: Source, N: Sink>(
     rt: &R,
     alloc: Global,
     asked: &Asked,
     host: Host,
     notes: Option<&mut N>,
     input: &mut S,
-) -> Result<Said, Said> {
+) -> Result<Said, Said>
+    ensures { IfOk result (IsAnswer asked.now (from_to (S.left input.old) (S.left input.new))) }
+{
     match asked {
         Asked::Lanes(turns, shown) => {
-            let read = read_run(alloc, input, *turns)?;
-            drawn(alloc, &read.run, shown, host)
+            said_of_lanes(alloc, input, *turns, shown, host.width(shown.width))
         }
-        Asked::Counts(turns) => {
-            let read = read_run(alloc, input, *turns)?;
-            counted(alloc, &read.run)
-        }
+        Asked::Counts(turns) => said_of_counts(alloc, input, *turns),
         Asked::Diff(compared) => {
-            let both = read_both(alloc, input, compared.first, compared.second)?;
-            differing(alloc, &both, host.width(compared.width))
+            said_of_difference(alloc, input, compared, host.width(compared.width))
         }
-        Asked::Explore(numbers) => {
-            let script = read_input(alloc, input)?;
-            explored(rt, alloc, &script, numbers, host, notes)
-        }
+        Asked::Explore(numbers) => said_of_all(rt, alloc, input, numbers, host, notes),
         Asked::Find(numbers, words) => {
-            let script = read_input(alloc, input)?;
-            found(rt, alloc, &script, words.items(), numbers, host, notes)
+            said_of_lowest(rt, alloc, input, words.items(), numbers, host, notes)
         }
     }
 }
