@@ -1,4 +1,3 @@
 pub mod Lanes
 pub mod Drawing
 pub mod Slots
-pub mod OneName

@@ -2,7 +2,5 @@
 #![tactic(auto)]
 
 pub mod charts;
-#[cfg(test)]
-mod tests;
 
 pub use charts::chart_of;
