@@ -1,3 +1,4 @@
 pub mod Lanes
 pub mod Drawing
 pub mod Slots
+pub mod OneName

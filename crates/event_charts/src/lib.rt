@@ -2,5 +2,7 @@
 #![tactic(auto)]
 
 pub mod charts;
+#[cfg(test)]
+mod tests;
 
 pub use charts::chart_of;
