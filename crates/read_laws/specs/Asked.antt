@@ -11,14 +11,13 @@ use Rattle.naming_tree.specs.Dialogues.{Ends}
 use Rattle.naming_tree.specs.declared.step.NameResult.{NameResult}
 use Rattle.mapped_streams.specs.Streams.{read_all}
 use Rattle.mapped_streams.specs.declared.step.StreamResult.TheVariants.{Bytes}
-use Rattle.command_talks.specs.Checks.{list_name, of_text, on_verdict}
+use Rattle.command_talks.specs.Checks.{check_of, list_name, of_text, on_verdict}
 use Rattle.command_talks.specs.Files.{behind, fails_of, guarded}
 use Rattle.command_talks.specs.declared.check.Check.{Check}
 use Rattle.command_talks.specs.declared.check.Subject.{Subject}
 use Rattle.command_talks.specs.declared.errand.Errand.{Errand}
 use Rattle.read_laws.specs.Carrying.{CarriesOn, carried}
 use Rattle.read_laws.specs.Loads.{LoadsTell, loaded}
-use Rattle.read_laws.specs.OnePlace.{AreOfOnePlace}
 
 -- the process reads an object whole between these items, and these are the bytes
 pub record ReadsWhole (p : ProcName) (u : ObjectName) (items : List Item) (bytes : List ℕ) : Type 0 where
@@ -57,6 +56,6 @@ GoesByStore opening h p who errand come c =
     (newer later earlier older : List Item) (row : DirRow) (text : List ℕ) → h.items ≡ newer ++ (later ++ (earlier ++ older)) → ReadsList p c.dir earlier later row text
     → IsDecided opening p who errand come c older earlier later row text
 
--- wherever a process reads an object whole, all its loads are of one place
-abbrev pub ReadsAtOnePlace : Start → History → ProcName → ObjectName → Type 0
-ReadsAtOnePlace opening h p u = (newer items older : List Item) (bytes : List ℕ) → h.items ≡ newer ++ (items ++ older) → ReadsWhole p u items bytes → AreOfOnePlace opening p u older items
+-- so does each check of each command
+abbrev pub ChecksGoByStore : Start → History → Type 0
+ChecksGoByStore opening h = (p : ProcName) (who : Subject) (errand : Errand) (come : NameResult) (c : Check) → check_of errand come ≡ Some c → GoesByStore opening h p who errand come c

@@ -3,6 +3,6 @@ use Rattle.read_laws.proofs.histories.objects_are_read_as_one_store_has_them.Goa
 
 pub returns : goal.returns
 returns c = record {
-  loads = λ opening h p u newer items older legal is carries. loads-tell opening p u h newer items older legal is carries;
-  whole = λ opening h p u newer items older bytes legal is carries ends. whole-loaded opening p u h newer items older bytes legal is carries ends;
+  loads = λ opening h legal p u newer items older is carries. loads-tell opening p u h newer items older legal is carries;
+  whole = λ opening h legal p u newer items older bytes is carries ends. whole-loaded opening p u h newer items older bytes legal is carries ends;
 }
