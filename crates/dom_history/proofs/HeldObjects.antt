@@ -57,7 +57,7 @@ held-before u (Delete v) Doubt s h = by_test (same_uid u v) refl h
 held-before u _ _ s h = inl h
 
 -- a lock that was granted is of an object that is there
-granted-present : (b : Before) (p : ProcName) (u : ObjectName) (m : Mode) → Fine ≡ lock_reply b p u m → is_present b.opening b.past u ≡ true
+pub granted-present : (b : Before) (p : ProcName) (u : ObjectName) (m : Mode) → Fine ≡ lock_reply b p u m → is_present b.opening b.past u ≡ true
 granted-present b p u m e = by_tests _ _ _ (is_present b.opening b.past u) _ e
   where
     by_tests : (x y z there : Bool) (rest : Reply) → Fine ≡ (if x then AlreadyHeld else (if y then Unsettled else (if z then TooMany else (if not there then NoObject else rest)))) → there ≡ true

@@ -19,6 +19,7 @@ use Rattle.dom_history.specs.Locks.{is_held, mode_at_home, not_free, state, stat
 use Rattle.dom_history.specs.Objects.{IsOfMade, is_deleted, is_present, made}
 use Rattle.dom_history.specs.Replies.{Before, lock_reply, reply_of, unlock_state}
 use Rattle.dom_history.specs.StoreEffects.{StoreEffect, own}
+use Rattle.dom_history.proofs.HeldObjects.{granted-present}
 use Rattle.dom_history.proofs.KeptObjects.{find-present}
 use Rattle.dom_history.proofs.Tables.{state_in-lines_after}
 use Rattle.history_moves.proofs.Faults.{fault-none}
@@ -47,17 +48,6 @@ held-before u (Unlock v) Doubt s held = inl (not-held (same_uid u v) (Releasing 
 held-before u (Delete v) Fine s held = inl (not-held (same_uid u v) Free s refl held)
 held-before u (Delete v) Doubt s held = inl (not-held (same_uid u v) Deleting s refl held)
 held-before u _ _ s held = inl held
-
--- a lock that is granted is of an object that is there
-granted-present : (b : Before) (p : ProcName) (u : ObjectName) (m : Mode) → Fine ≡ lock_reply b p u m → is_present b.opening b.past u ≡ true
-granted-present b p u m e = by_tests _ _ _ (is_present b.opening b.past u) _ e
-  where
-    by_tests : (x y z there : Bool) (rest : Reply) → Fine ≡ (if x then AlreadyHeld else (if y then Unsettled else (if z then TooMany else (if not there then NoObject else rest)))) → there ≡ true
-    by_tests true y z there rest e = cc
-    by_tests false true z there rest e = cc
-    by_tests false false true there rest e = cc
-    by_tests false false false true rest e = refl
-    by_tests false false false false rest e = cc
 
 module _ (opening : Start) where
   -- and so was made
