@@ -1,5 +1,5 @@
 -- What is done behind the walk along a command's path asks in the ranges of operations.
-use Rattle.std.proofs.Common.{ℕ, ◌≤◌, Option, Some, None, IfSome, List, [], ◌∷◌, length}
+use Rattle.std.proofs.Common.{ℕ, ◌≤◌, true, false, Option, Some, None, IfSome, List, [], ◌∷◌, length}
 use Rattle.uid_names.specs.Names.{ObjectName, IsName}
 use Rattle.uid_names.specs.Rooms.{IsRoom}
 use Rattle.uid_names.specs.declared.limits.TheConstants.{PAGE_BYTES}
@@ -25,10 +25,17 @@ use Rattle.mapped_streams.specs.Streams.{append, copy, count_lines, read_all}
 use Rattle.mapped_streams.specs.declared.mapped.Mapped.{Mapped}
 use Rattle.mapped_streams.specs.declared.step.StreamResult.{StreamResult}
 use Rattle.mapped_streams.specs.declared.step.StreamResult.TheVariants as results
-use Rattle.command_talks.specs.Arriving.{directory_in, file_in}
-use Rattle.command_talks.specs.Checks.{at_bound, at_file, at_itself, at_place, at_removed, bad_list, check_for, check_of, checked, checked_by, denied, list_name, of_bad, of_text, on_bytes, on_directory, on_kind, on_row, on_slots, on_text, on_verdict, to_own, to_read, to_write}
-use Rattle.command_talks.specs.Dialogues.{Dialogue, came, closing, led_on, refused, streamed}
-use Rattle.command_talks.specs.Files.{behind, copy_from, copy_open, fails_of, fill_checked, filling, guarded, on_added, on_arrival, on_copied, on_file, on_place, room_for, shutting}
+use Rattle.acl_rules.specs.RightTexts.{rights_with}
+use Rattle.mail_box.specs.Boxes as mail_texts
+use Rattle.mail_box.specs.Dialogues as boxes
+use Rattle.mail_box.specs.Mails.{put_mail, take_mail}
+use Rattle.mail_box.specs.declared.step.MailResult.{MailResult}
+use Rattle.mail_box.specs.declared.step.MailResult.TheVariants as mails
+use Rattle.command_talks.specs.Arriving.{directory_in, file_in, mail_in}
+use Rattle.command_talks.specs.Checks.{at_added, at_bound, at_file, at_itself, at_mail, at_new_mail, at_place, at_removed, bad_list, check_for, check_of, checked, checked_by, denied, list_name, of_bad, of_text, on_bytes, on_directory, on_kind, on_row, on_slots, on_text, on_verdict, to_own, to_read, to_write}
+use Rattle.command_talks.specs.Dialogues.{Dialogue, came, closing, led_on, mailed, refused, streamed}
+use Rattle.command_talks.specs.Mailed.{mail_outcome}
+use Rattle.command_talks.specs.Files.{behind, copy_from, copy_open, fails_of, fill_checked, filling, guarded, on_added, on_arrival, on_copied, on_file, on_mail, on_place, room_for, shutting}
 use Rattle.command_talks.specs.Sources.{Sourced, Targeted, closers, mapped_at}
 use Rattle.command_talks.specs.declared.arriving.Arrival.{Arrival}
 use Rattle.command_talks.specs.declared.arriving.Arrival.TheVariants.{Else, There}
@@ -49,6 +56,7 @@ use Rattle.command_ranges.specs.Telling.{AsksInRange}
 use Rattle.command_ranges.proofs.Answers.{Anything}
 use Rattle.command_ranges.proofs.Asking.{closing-asks, fine-asks, led-asks, opened-asks}
 use Rattle.command_ranges.proofs.Changes.{add_at-names, drop_at-names}
+use Rattle.command_ranges.proofs.Mails.{AsksMails, put-mails, take-mails}
 use Rattle.command_ranges.proofs.Names.{AsksNames}
 use Rattle.command_ranges.proofs.Parents.{listing-names, reach-names}
 use Rattle.command_ranges.proofs.Ranges.{closers-ops}
@@ -61,6 +69,18 @@ AsksTalks d = AsksInRange IsNamedOutcome d
 
 pub streamed-talks : (d : streams.Dialogue) → AsksStreams d → AsksTalks (led_on d streamed)
 streamed-talks d asks = led-asks (Anything StreamResult) IsNamedOutcome d streamed asks (λ result is. tt)
+
+-- no answer of a mailbox tells a name
+mail-outcome : (result : MailResult) → IsNamedOutcome (mail_outcome result)
+mail-outcome mails.Put = tt
+mail-outcome (mails.Taken text) = tt
+mail-outcome mails.Full = tt
+mail-outcome mails.Empty = tt
+mail-outcome mails.BadMail = tt
+mail-outcome (mails.Store reply) = tt
+
+mailed-talks : (d : boxes.Dialogue) → AsksMails d → AsksTalks (led_on d mailed)
+mailed-talks d asks = led-asks (Anything MailResult) IsNamedOutcome d mailed asks (λ result is. mail-outcome result)
 
 closing-talks : (held : List Op) (outcome : Outcome) → AreOps held → IsNamedOutcome outcome → AsksTalks (closing held outcome)
 closing-talks held outcome ops is = closing-asks IsNamedOutcome held outcome ops is
@@ -124,6 +144,23 @@ place-named : (result : NameResult) → IsNamedResult result → IsNamedCheck (a
 place-named (Under p) is = is.0
 place-named result is = tt
 
+new-mail-named : (result : NameResult) → IsNamedResult result → IsNamedCheck (at_new_mail result)
+new-mail-named (Under p) is = is.0
+new-mail-named result is = tt
+
+added-named : (kind : ObjKind) (result : NameResult) → IsNamedResult result → IsNamedCheck (at_added kind result)
+added-named kinds.Mail result is = new-mail-named result is
+added-named kinds.File result is = place-named result is
+added-named kinds.Directory result is = place-named result is
+added-named kinds.Link result is = place-named result is
+
+mail-named : (need : Rights) (result : NameResult) → IsNamedResult result → IsNamedCheck (at_mail need result)
+mail-named need (Found (At u kinds.Mail (Some w))) is = is.1
+mail-named need (Found (At u kinds.Mail None)) is = tt
+mail-named need (Found Root) is = tt
+mail-named need (Found (At u kind within)) is = tt
+mail-named need result is = tt
+
 removed-named : (result : NameResult) → IsNamedResult result → IsNamedCheck (at_removed result)
 removed-named (Under p) is = is.0
 removed-named result is = tt
@@ -135,8 +172,10 @@ check-named errands.List result is = itself-named to_read result is
 check-named errands.Read result is = bytes-named to_read to_read result is
 check-named errands.Count result is = bytes-named to_read to_read result is
 check-named (errands.Append text) result is = bytes-named to_write to_own result is
+check-named (errands.Put text) result is = mail-named to_write result is
+check-named errands.Take result is = mail-named (rights_with true true false false) result is
 check-named (errands.Copy target) result is = bytes-named to_read to_read result is
-check-named (errands.Add what) result is = place-named result is
+check-named (errands.Add what) result is = added-named what.kind result is
 check-named errands.Remove result is = removed-named result is
 check-named (errands.Fill s) result is = place-named result is
 
@@ -204,6 +243,12 @@ file-named (Found (At u kinds.Directory within)) is = tt
 file-named (Found (At u kind within)) is = tt
 file-named result is = is
 
+box-named : (result : NameResult) → IsNamedResult result → IsNamedArrival (mail_in result)
+box-named (Found Root) is = tt
+box-named (Found (At u kinds.Mail within)) is = is.0
+box-named (Found (At u kind within)) is = tt
+box-named result is = is
+
 arrival-named : (result : NameResult) → IsNamedResult result → IsNamedArrival (directory_in result)
 arrival-named (Found Root) is = tt
 arrival-named (Found (At u kinds.Directory within)) is = is.0
@@ -217,6 +262,9 @@ arrival-talks further next (Else outcome) is = is
 file-talks : (further : ObjectName → Dialogue) → ((u : ObjectName) → IsName u → AsksTalks (further u)) → (result : NameResult) → IsNamedResult result → AsksTalks (on_file further result)
 file-talks further next result is = arrival-talks further next (file_in result) (file-named result is)
 
+box-talks : (further : ObjectName → Dialogue) → ((u : ObjectName) → IsName u → AsksTalks (further u)) → (result : NameResult) → IsNamedResult result → AsksTalks (on_mail further result)
+box-talks further next result is = arrival-talks further next (mail_in result) (box-named result is)
+
 place-talks : (further : Within → Dialogue) → ((p : Within) → IsNamedResult (Under p) → AsksTalks (further p)) → (result : NameResult) → IsNamedResult result → AsksTalks (on_place further result)
 place-talks further next (Under p) is = next p is
 place-talks further next result is = is
@@ -227,6 +275,7 @@ came-talks d asks = led-asks IsNamedResult IsNamedOutcome d came asks (λ result
 -- an errand whose parts are in their ranges
 abbrev pub IsRangedErrand : Errand → Type 0
 IsRangedErrand (errands.Append text) = length text ≤ PAGE_BYTES
+IsRangedErrand (errands.Put text) = mail_texts.IsText text
 IsRangedErrand (errands.Copy target) = IsTarget target
 IsRangedErrand (errands.Add what) = IsRoom what.room × IsText what.kind what.text
 IsRangedErrand (errands.Fill s) = IsName s.uid × IsMapped s.at
@@ -240,6 +289,8 @@ behind-talks errands.List h result is = arrival-talks (λ u. led_on (listing_at 
 behind-talks errands.Read h result is = file-talks (λ u. led_on (read_all u) streamed) (λ u own. streamed-talks (read_all u) (read-streams u own)) result is
 behind-talks errands.Count h result is = file-talks (λ u. led_on (count_lines u) streamed) (λ u own. streamed-talks (count_lines u) (count-streams u own)) result is
 behind-talks (errands.Append text) h result is = file-talks (λ u. led_on (append u text) streamed) (λ u own. streamed-talks (append u text) (append-streams u text own h)) result is
+behind-talks (errands.Put text) h result is = box-talks (λ u. led_on (put_mail u text) mailed) (λ u own. mailed-talks (put_mail u text) (put-mails u text own h)) result is
+behind-talks errands.Take h result is = box-talks (λ u. led_on (take_mail u) mailed) (λ u own. mailed-talks (take_mail u) (take-mails u own)) result is
 behind-talks (errands.Copy target) h result is = file-talks (copy_from target) (copy-talks target h) result is
 behind-talks (errands.Add what) h result is =
     place-talks (λ p. led_on (add_at p.dir (addition what.kind what.room what.text p.name)) came)
@@ -256,6 +307,8 @@ fails-talks errands.List h outcome is = is
 fails-talks errands.Read h outcome is = is
 fails-talks errands.Count h outcome is = is
 fails-talks (errands.Append text) h outcome is = is
+fails-talks (errands.Put text) h outcome is = is
+fails-talks errands.Take h outcome is = is
 fails-talks (errands.Copy target) h outcome is = is
 fails-talks (errands.Add what) h outcome is = is
 fails-talks errands.Remove h outcome is = is

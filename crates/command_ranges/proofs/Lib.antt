@@ -8,6 +8,7 @@ pub mod Walks
 pub mod Changes
 pub mod Parents
 pub mod Streams
+pub mod Mails
 pub mod Files
 pub mod Talks
 pub mod Guards

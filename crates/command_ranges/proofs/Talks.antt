@@ -4,7 +4,7 @@ use Rattle.std.specs.Prelude.{unwrap_or}
 use Rattle.uid_names.specs.Names.{ObjectName, IsName}
 use Rattle.uid_names.specs.declared.mode.ObjKind.TheVariants as kinds
 use Rattle.script_reader.specs.declared.command.Command.{Command}
-use Rattle.script_reader.specs.declared.command.Command.TheVariants.{Apf, Bind, Catf, Cpf, Crd, Crf, Crl, Dlf, Ld, Lnf, Wd}
+use Rattle.script_reader.specs.declared.command.Command.TheVariants.{Apf, Bind, Catf, Cpf, Crd, Crf, Crl, Crm, Dlf, Ld, Lnf, Putm, Takem, Wd}
 use Rattle.naming_tree.specs.declared.purpose.Purpose.{Purpose}
 use Rattle.naming_tree.specs.declared.site.Site.{Site}
 use Rattle.command_talks.specs.Commands.{dialogue_for}
@@ -45,6 +45,9 @@ module _ (guard : Option Subject) (site : Site) (is : IsSite site) (dir : Object
   command-talks (Lnf path) range = errand-talks path errands.Count tt
   command-talks (Apf path text) range = errand-talks path (errands.Append text) range.1.0.1
   command-talks (Cpf path target) range = errand-talks path (errands.Copy (record { guard = guard; site = site; dir = dir; path = target })) (record { site = is; dir = named })
+  command-talks (Crm path) range = errand-talks path (errands.Add (object_for kinds.Mail 8 None)) (room_of_directory, tt)
+  command-talks (Putm path text) range = errand-talks path (errands.Put text) (record { some = range.1.0.0; few = range.1.0.1 })
+  command-talks (Takem path) range = errand-talks path errands.Take tt
   command-talks (Ld path) range = errand-talks path errands.List tt
   command-talks (Wd (Some path)) range = errand-talks path errands.Enter tt
   command-talks _ range = tt

@@ -9,9 +9,10 @@ use Rattle.uid_names.specs.declared.limits.TheConstants.{MAX_ROOM, PAGE_BYTES}
 use Rattle.uid_names.specs.declared.mode.ObjKind.{ObjKind}
 use Rattle.uid_names.specs.declared.mode.ObjKind.TheVariants as kinds
 use Rattle.script_reader.specs.declared.command.Command.{Command}
-use Rattle.script_reader.specs.declared.command.Command.TheVariants.{New, Lock, Unlock, Delete, Load, Store, Length, Map, Unmap, Loadat, Storeat, Bind, Crf, Crd, Crl, Dlf, Catf, Lnf, Apf, Cpf, Ld, Wd, Llkob}
+use Rattle.script_reader.specs.declared.command.Command.TheVariants.{New, Lock, Unlock, Delete, Load, Store, Length, Map, Unmap, Loadat, Storeat, Bind, Crf, Crd, Crl, Dlf, Catf, Lnf, Apf, Cpf, Crm, Putm, Takem, Ld, Wd, Llkob}
+use Rattle.mail_box.specs.declared.boxes.TheConstants.{TEXT_BYTES}
 use Rattle.naming_tree.specs.declared.site.Site.{Site}
-use Rattle.command_talks.specs.Commands.{talks, is_path, is_room, is_text, is_link_text, is_good, is_sound, talk_for}
+use Rattle.command_talks.specs.Commands.{talks, is_path, is_room, is_text, is_message, is_link_text, is_good, is_sound, talk_for}
 use Rattle.command_talks.specs.Deeds as deeds
 use Rattle.command_talks.specs.Intentions.{object_for}
 use Rattle.command_talks.specs.Ranges.{IsRanged}
@@ -44,6 +45,9 @@ ranged_sound (Catf path) h = and_from (is_path path) true h.0 refl
 ranged_sound (Lnf path) h = and_from (is_path path) true h.0 refl
 ranged_sound (Apf path text) h = and_from (is_path path) (is_text text) h.0 (and_from (nat_le 1 (length text)) (nat_le (length text) PAGE_BYTES) (le-passes 1 (length text) h.1.0.0) (le-passes (length text) PAGE_BYTES h.1.0.1))
 ranged_sound (Cpf path target) h = and_from (is_path path) (is_path target) h.0 h.1.0
+ranged_sound (Crm path) h = and_from (is_path path) (is_good (deeds.Adds (object_for kinds.Mail 8 None))) h.0 refl
+ranged_sound (Putm path text) h = and_from (is_path path) (is_message text) h.0 (and_from (nat_le 1 (length text)) (nat_le (length text) TEXT_BYTES) (le-passes 1 (length text) h.1.0.0) (le-passes (length text) TEXT_BYTES h.1.0.1))
+ranged_sound (Takem path) h = and_from (is_path path) true h.0 refl
 ranged_sound (Ld path) h = and_from (is_path path) true h.0 refl
 ranged_sound (Wd (Some path)) h = and_from (is_path path) true h.0 refl
 ranged_sound (Wd None) h = refl

@@ -1,4 +1,5 @@
 pub mod Machines
+pub mod Boxes
 pub mod Streams
 pub mod Copies
 pub mod CheckReads

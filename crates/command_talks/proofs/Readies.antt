@@ -25,16 +25,19 @@ use Rattle.mapped_streams.specs.declared.streaming.Streaming.{Streaming}
 use Rattle.naming_tree.specs.Dialogues.{asked}
 use Rattle.mapped_streams.specs.Dialogues.{MayHear, FitsSaid, says, Dialogue, Ends, Asks}
 use Rattle.mapped_streams.specs.States.{left, rest}
+use Rattle.mail_box.specs.Dialogues as boxes
+use Rattle.mail_box.specs.States as box_states
+use Rattle.mail_box.specs.declared.mailing.Mailing.{Mailing}
 use Rattle.naming_tree.specs.ByPaths.{by_path_asks, on_last, to_parent_of}
 use Rattle.command_talks.specs.Commands.{Row, row_of, talks, is_path, is_good, is_sound_row, is_sound, errand_talk, talk_by, talk_for}
 use Rattle.command_talks.specs.Deeds.{errand_of, purpose_of}
-use Rattle.command_talks.specs.FileTalks.{asked_at, file_asks, stream_asks, MayHearFile}
+use Rattle.command_talks.specs.FileTalks.{asked_at, file_asks, mail_asks, stream_asks, MayHearFile}
 use Rattle.command_talks.specs.Talks.{asks_in, talk_asks, MayTellIn, MayBeTold}
 use Rattle.command_talks.specs.declared.check.Subject.{Subject}
 use Rattle.command_talks.specs.declared.errand.Errand.{Errand}
 use Rattle.command_talks.specs.declared.talk.Talk.{Talk}
 use Rattle.command_talks.specs.declared.file_talk.FileTalk.{FileTalk}
-use Rattle.command_talks.specs.declared.file_talk.FileTalk.TheVariants.{Seeks, Reaches, LooksUp, ReadsList, Lists, Changes, Reads, Counts, Appends, Opens, Adds, Copies, Closes}
+use Rattle.command_talks.specs.declared.file_talk.FileTalk.TheVariants.{Seeks, Reaches, LooksUp, ReadsList, Lists, Changes, Reads, Counts, Appends, Mails, Opens, Adds, Copies, Closes}
 
 -- one that asks something may be told a reply that fits
 stood_told : {S : Type 0} (asks : S → Option Op) (m : Option S) (reply : Reply) → FitsAsked (asked_at asks m) (Some reply) → IsSome m × FitsStood asks m (Some reply)
@@ -49,6 +52,14 @@ stream_told : (m : Option Streaming) (reply : Reply) → FitsAsked (stream_asks 
 stream_told None reply fits = absurd fits
 stream_told (Some s) reply fits = said_told (left s) reply fits
 
+mail_said : (d : boxes.Dialogue) (reply : Reply) → FitsAsked (asked d) (Some reply) → boxes.FitsSaid (boxes.says d) reply
+mail_said (boxes.Ends result) reply fits = absurd fits
+mail_said (boxes.Asks op further) reply fits = fits
+
+mail_told : (m : Option Mailing) (reply : Reply) → FitsAsked (mail_asks m) (Some reply) → boxes.MayHear (box_states.rest m) (Some reply)
+mail_told None reply fits = absurd fits
+mail_told (Some m) reply fits = mail_said (box_states.left m) reply fits
+
 file_told : (talk : FileTalk) (reply : Reply) → FitsAsked (file_asks talk) (Some reply) → MayHearFile talk (Some reply)
 file_told (Seeks walk errand guard) reply fits = stood_told walking_asks walk reply fits
 file_told (Reaches m errand guard) reply fits = stood_told by_path_asks m reply fits
@@ -59,6 +70,7 @@ file_told (Changes m) reply fits = stood_told changing_asks m reply fits
 file_told (Reads m) reply fits = stream_told m reply fits
 file_told (Counts m) reply fits = stream_told m reply fits
 file_told (Appends m) reply fits = stream_told m reply fits
+file_told (Mails m) reply fits = mail_told m reply fits
 file_told (Opens s stage target) reply fits = fits
 file_told (Adds s m) reply fits = stood_told changing_asks m reply fits
 file_told (Copies s m) reply fits = stream_told m reply fits

@@ -48,11 +48,18 @@ use Rattle.mapped_streams.specs.States.{left, streaming_of, IsStreaming}
 use Rattle.mapped_streams.specs.Streams.{read_all, count_lines, append, copy}
 use Rattle.mapped_streams.specs.Works.{IsText}
 use Rattle.mapped_streams.proofs.Turning.{IsOn}
-use Rattle.command_talks.specs.Arriving.{file_in, directory_in}
+use Rattle.mail_box.specs.Boxes as mail_texts
+use Rattle.mail_box.specs.Dialogues as boxes
+use Rattle.mail_box.specs.Mails.{put_mail, take_mail}
+use Rattle.mail_box.specs.States as box_states
+use Rattle.mail_box.specs.declared.mailing.Mailing.{Mailing}
+use Rattle.mail_box.specs.declared.work.MailWork.TheVariants as mail_works
+use Rattle.mail_box.proofs.Turning as mail_turns
+use Rattle.command_talks.specs.Arriving.{file_in, mail_in, directory_in}
 use Rattle.command_talks.specs.Checks.{bad_list, check_for, check_of, checked_by, denied, list_name, of_bad, of_text, on_directory, on_kind, on_row, on_slots, on_text, on_verdict}
-use Rattle.command_talks.specs.Dialogues.{Dialogue, Ends, Asks, asked, told, led_on, came, streamed, closing}
-use Rattle.command_talks.specs.FileTalks.{file_asks, file_turn, over_turn, stream_turn, stream_told, named_turn, named_told, closes, copied, came_turn, read_turn, count_turn, append_turn, copy_turn, list_turn, arrived, file_sought, place_sought, add_turn, remove_turn, added_turn, fill_turn, sought_turn, fails_turn, read_stream, check_stream, check_told, verdict_turn, text_turn, kind_turn, row_turn, slots_turn, directory_turn, look_turn, checked_turn, guarded_turn, seek_told, reach_told, begin_fill, lock_turn, length_turn, map_turn, open_turn, first_outcome, closed_turn, close_turn, opening_op}
-use Rattle.command_talks.specs.Files.{on_arrival, on_file, on_place, room_for, shutting, on_copied, on_added, filling, copy_open, map_source, measure_source, copy_from, behind, fails_of, guarded}
+use Rattle.command_talks.specs.Dialogues.{Dialogue, Ends, Asks, asked, told, led_on, came, streamed, mailed, closing}
+use Rattle.command_talks.specs.FileTalks.{file_asks, file_turn, over_turn, stream_turn, stream_told, named_turn, named_told, closes, copied, came_turn, read_turn, count_turn, append_turn, put_turn, take_turn, copy_turn, list_turn, mail_told, mail_turn, mail_sought, arrived, file_sought, place_sought, add_turn, remove_turn, added_turn, fill_turn, sought_turn, fails_turn, read_stream, check_stream, check_told, verdict_turn, text_turn, kind_turn, row_turn, slots_turn, directory_turn, look_turn, checked_turn, guarded_turn, seek_told, reach_told, begin_fill, lock_turn, length_turn, map_turn, open_turn, first_outcome, closed_turn, close_turn, opening_op}
+use Rattle.command_talks.specs.Files.{on_arrival, on_file, on_mail, on_place, room_for, shutting, on_copied, on_added, filling, copy_open, map_source, measure_source, copy_from, behind, fails_of, guarded}
 use Rattle.command_talks.specs.Intentions.{Intended}
 use Rattle.command_talks.specs.Sources.{Sourced, Targeted, source_of, mapped, unmapped, closers, close_op}
 use Rattle.command_talks.specs.declared.arriving.Arrival.{Arrival}
@@ -65,13 +72,14 @@ use Rattle.command_talks.specs.declared.errand.Errand.{Errand}
 use Rattle.command_talks.specs.declared.file_talk.Pending.{Pending}
 use Rattle.command_talks.specs.declared.errand.Errand.TheVariants as errands
 use Rattle.command_talks.specs.declared.file_talk.FileTalk.{FileTalk}
-use Rattle.command_talks.specs.declared.file_talk.FileTalk.TheVariants.{Seeks, Reaches, LooksUp, ReadsList, Lists, Changes, Reads, Counts, Appends, Opens, Adds, Copies, Closes}
+use Rattle.command_talks.specs.declared.file_talk.FileTalk.TheVariants.{Seeks, Reaches, LooksUp, ReadsList, Lists, Changes, Reads, Counts, Appends, Mails, Opens, Adds, Copies, Closes}
 use Rattle.command_talks.specs.declared.file_talk.FileTurn.{FileTurn}
 use Rattle.command_talks.specs.declared.file_talk.FileTurn.TheVariants.{Goes, Comes}
 use Rattle.command_talks.specs.declared.file_talk.Opening.{Opening}
 use Rattle.command_talks.specs.declared.file_talk.Opening.TheVariants.{Lock, Length, Map}
 use Rattle.command_talks.specs.declared.outcome.Outcome.{Outcome}
 use Rattle.command_talks.specs.declared.outcome.Outcome.TheVariants.{Came, Streamed, Written}
+use Rattle.command_talks.proofs.Boxes.{mail_asked, mail_begun, mail_told_on}
 use Rattle.command_talks.proofs.Machines.{NameOn, name_begun, name_told, name_asked, stream_begun, stream_told_on, stream_asked}
 
 -- a machine of a name that asks, where what follows its result is this
@@ -88,9 +96,17 @@ pub record StreamSim (after : StreamResult → Dialogue) (m : Option Streaming) 
   pub on : IsOn m (names.Asks op next)
   pub is : d ≡ Asks op (λ reply. led_on (next reply) after)
 
+-- and one of a mailbox
+pub record MailSim (m : Option Mailing) (d : Dialogue) : Type 0 where
+  pub op : Op
+  pub next : Reply → boxes.Dialogue
+  pub on : mail_turns.IsOn m (names.Asks op next)
+  pub is : d ≡ Asks op (λ reply. led_on (next reply) mailed)
+
 -- an errand whose parts are such
 abbrev pub IsErrand : Errand → Type 0
 IsErrand (errands.Append text) = IsText text
+IsErrand (errands.Put text) = mail_texts.IsText text
 IsErrand (errands.Copy target) = is_some (route_of target.path) ≡ true
 IsErrand (errands.Add what) = IsRoom what.room × IsLinkText what.kind what.text
 IsErrand (errands.Fill s) = IsMapped s.at
@@ -122,6 +138,7 @@ FileSim (Changes m) d = NameSim changing_asks changing_after came m d
 FileSim (Reads m) d = StreamSim streamed m d
 FileSim (Counts m) d = StreamSim streamed m d
 FileSim (Appends m) d = StreamSim streamed m d
+FileSim (Mails m) d = MailSim m d
 FileSim (Opens s stage target) d = OpenSim s stage target d
 FileSim (Adds s m) d = IsMapped s.at × NameSim changing_asks changing_after (on_added (closers s) s.at) m d
 FileSim (Copies s m) d = StreamSim (on_copied (closers s)) m d
@@ -181,6 +198,22 @@ module _ (further : StreamResult → Dialogue) (make : Option Streaming → File
       let fitting : Fits h.op reply = subst (λ (x : Dialogue). FitsAsked (asked x) (Some reply)) h.is fits in
       let next = stream_told_on m (names.Asks h.op h.next) reply h.on fitting in
       subst (λ (x : Dialogue). TurnOn (stream_told make m (Some reply)) (told x reply)) (sym h.is) (stream_goes (h.next reply) _ _ next.0 next.1)
+
+-- a machine of a mailbox
+mail_goes : (left : boxes.Dialogue) (step : Option boxes.MailStep) (m : Option Mailing) → step ≡ Some (names.says left) → mail_turns.IsOn m left → TurnOn (mail_turn step (Mails m)) (led_on left mailed)
+mail_goes (names.Ends result) step m e on = subst (λ (x : Option boxes.MailStep). TurnOn (mail_turn x (Mails m)) (mailed result)) (sym e) refl
+mail_goes (names.Asks op next) step m e on =
+    let d = Asks op (λ reply. led_on (next reply) mailed) in
+    subst (λ (x : Option boxes.MailStep). TurnOn (mail_turn x (Mails m)) d) (sym e) (refl, record { op = op; next = next; on = on; is = refl })
+
+mail_starts : (m : Mailing) → box_states.IsMailing m → TurnOn (mail_told (Some m) None) (led_on (box_states.left m) mailed)
+mail_starts m h = let begun = mail_begun m h in mail_goes (box_states.left m) _ _ begun.0 begun.1
+
+mail_next : (m : Option Mailing) (d : Dialogue) (reply : Reply) → MailSim m d → FitsAsked (asked d) (Some reply) → TurnOn (mail_told m (Some reply)) (told d reply)
+mail_next m d reply h fits =
+    let fitting : Fits h.op reply = subst (λ (x : Dialogue). FitsAsked (asked x) (Some reply)) h.is fits in
+    let next = mail_told_on m (names.Asks h.op h.next) reply h.on fitting in
+    subst (λ (x : Dialogue). TurnOn (mail_told m (Some reply)) (told x reply)) (sym h.is) (mail_goes (h.next reply) _ _ next.0 next.1)
 
 -- a stream of a check, by what its result leads to
 module _ (further : StreamResult → Dialogue) (make : Option Streaming → FileTalk) (over : StreamResult → Option FileTurn) (same : (m : Option Streaming) (d : Dialogue) → StreamSim further m d → FileSim (make m) d)
@@ -258,6 +291,9 @@ arrived_on begin further each (Else outcome) = refl
 file_on : (begin : ObjectName → Option FileTurn) (further : ObjectName → Dialogue) → ((u : ObjectName) → TurnOn (begin u) (further u)) → (result : NameResult) → TurnOn (file_sought begin result) (on_file further result)
 file_on begin further each result = arrived_on begin further each (file_in result)
 
+mail_found_on : (begin : ObjectName → Option FileTurn) (further : ObjectName → Dialogue) → ((u : ObjectName) → TurnOn (begin u) (further u)) → (result : NameResult) → TurnOn (mail_sought begin result) (on_mail further result)
+mail_found_on begin further each result = arrived_on begin further each (mail_in result)
+
 -- or to a directory of a name
 place_on : (begin : Within → Option FileTurn) (further : Within → Dialogue) → ((p : Within) → TurnOn (begin p) (further p)) → (result : NameResult) → TurnOn (place_sought begin result) (on_place further result)
 place_on begin further each (Under p) = each p
@@ -272,6 +308,12 @@ counts_on u = stream_starts streamed (λ m. Counts m) (λ m d same. same) (λ m 
 
 appends_on : (text : List ℕ) → IsText text → (u : ObjectName) → TurnOn (append_turn text u) (led_on (append u text) streamed)
 appends_on text h u = stream_starts streamed (λ m. Appends m) (λ m d same. same) (λ m result. refl) (streaming_of u (works.Append text (Some Before))) (record { work = h; stage = tt })
+
+puts_on : (text : List ℕ) → mail_texts.IsText text → (u : ObjectName) → TurnOn (put_turn text u) (led_on (put_mail u text) mailed)
+puts_on text h u = mail_starts (box_states.mailing_of u (mail_works.Put text)) (record { work = h; stage = tt })
+
+takes_on : (u : ObjectName) → TurnOn (take_turn u) (led_on (take_mail u) mailed)
+takes_on u = mail_starts (box_states.mailing_of u (mail_works.Take [])) (record { work = tt; stage = tt })
 
 copies_on : (target : Targeted) → is_some (route_of target.path) ≡ true → (u : ObjectName) → TurnOn (copy_turn target u) (copy_from target u)
 copies_on target h u = (refl, record { path = h; long = lit≤ tt; is = refl })
@@ -296,6 +338,8 @@ sought_on errands.List h result = arrived_on list_turn (λ u. led_on (listing_at
 sought_on errands.Read h result = file_on read_turn (λ u. led_on (read_all u) streamed) reads_on result
 sought_on errands.Count h result = file_on count_turn (λ u. led_on (count_lines u) streamed) counts_on result
 sought_on (errands.Append text) h result = file_on (append_turn text) (λ u. led_on (append u text) streamed) (appends_on text h) result
+sought_on (errands.Put text) h result = mail_found_on (put_turn text) (λ u. led_on (put_mail u text) mailed) (puts_on text h) result
+sought_on errands.Take h result = mail_found_on take_turn (λ u. led_on (take_mail u) mailed) takes_on result
 sought_on (errands.Copy target) h result = file_on (copy_turn target) (copy_from target) (copies_on target h) result
 sought_on (errands.Add what) h result = place_on (add_turn what) (λ p. led_on (add_at p.dir (addition what.kind what.room what.text p.name)) came) (add_on what h.0 h.1) result
 sought_on errands.Remove h result = place_on remove_turn (λ p. led_on (drop_at p.dir p.name) came) remove_on result
@@ -309,6 +353,8 @@ fails_on errands.List outcome = refl
 fails_on errands.Read outcome = refl
 fails_on errands.Count outcome = refl
 fails_on (errands.Append text) outcome = refl
+fails_on (errands.Put text) outcome = refl
+fails_on errands.Take outcome = refl
 fails_on (errands.Copy target) outcome = refl
 fails_on (errands.Add what) outcome = refl
 fails_on errands.Remove outcome = refl
@@ -398,6 +444,7 @@ file_next (Changes m) d reply h fits = name_next changing_asks changing_after (�
 file_next (Reads m) d reply h fits = stream_next streamed (λ m. Reads m) (λ m d same. same) (λ m result. refl) m d reply h fits
 file_next (Counts m) d reply h fits = stream_next streamed (λ m. Counts m) (λ m d same. same) (λ m result. refl) m d reply h fits
 file_next (Appends m) d reply h fits = stream_next streamed (λ m. Appends m) (λ m d same. same) (λ m result. refl) m d reply h fits
+file_next (Mails m) d reply h fits = mail_next m d reply h fits
 file_next (Opens s stage target) d reply h fits = open_next s stage target d reply h fits
 file_next (Adds s m) d reply h fits =
     name_next changing_asks changing_after (λ m. Adds s m) (added_turn s) (on_added (closers s) s.at) (λ m d sim. (h.0, sim)) (λ result. added_on s result h.0) m d reply h.1 fits
@@ -420,6 +467,7 @@ file_asked (Changes m) d h = name_asked changing_asks changing_after m (names.As
 file_asked (Reads m) d h = stream_asked m h.op h.next h.on ∙ ap asked (sym h.is)
 file_asked (Counts m) d h = stream_asked m h.op h.next h.on ∙ ap asked (sym h.is)
 file_asked (Appends m) d h = stream_asked m h.op h.next h.on ∙ ap asked (sym h.is)
+file_asked (Mails m) d h = mail_asked m h.op h.next h.on ∙ ap asked (sym h.is)
 file_asked (Opens s stage target) d h = opening_asks s stage target ∙ ap asked (sym h.is)
 file_asked (Adds s m) d h = name_asked changing_asks changing_after m (names.Asks h.1.op h.1.next) h.1.op h.1.on refl ∙ ap asked (sym h.1.is)
 file_asked (Copies s m) d h = stream_asked m h.op h.next h.on ∙ ap asked (sym h.is)

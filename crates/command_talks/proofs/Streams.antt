@@ -12,7 +12,7 @@ use Rattle.mapped_streams.specs.declared.step.StreamResult.{StreamResult}
 use Rattle.command_talks.specs.FileTalks.{file_asks, file_turn, op_left, over_turn, stream_turn}
 use Rattle.command_talks.specs.FileTurns.{file_after, file_says, AsksSaid}
 use Rattle.command_talks.specs.declared.file_talk.FileTalk.{FileTalk}
-use Rattle.command_talks.specs.declared.file_talk.FileTalk.TheVariants.{Seeks, Reaches, LooksUp, ReadsList, Lists, Changes, Reads, Counts, Appends, Opens, Adds, Copies, Closes}
+use Rattle.command_talks.specs.declared.file_talk.FileTalk.TheVariants.{Seeks, Reaches, LooksUp, ReadsList, Lists, Changes, Reads, Counts, Appends, Mails, Opens, Adds, Copies, Closes}
 
 left_asks : (d : Dialogue) (op : Op) → Some (Do op) ≡ Some (says d) → op_left (unless_over d) ≡ Some op
 left_asks (Ends result) op e = cc
@@ -44,6 +44,7 @@ over_said (LooksUp m p) last come says = cc
 over_said (ReadsList m p) last come says = cc
 over_said (Lists m) last come says = cc
 over_said (Changes m) last come says = cc
+over_said (Mails m) last come says = cc
 over_said (Opens s stage target) last come says = cc
 over_said (Adds s m) last come says = cc
 over_said (Closes s outcome) last come says = cc

@@ -21,7 +21,9 @@ use Rattle.naming_tree.specs.Walks.{walk}
 use Rattle.naming_tree.proofs.ByPathsLeft.{parent_heard}
 use Rattle.naming_tree.proofs.WalksLive.{walk_says}
 use Rattle.mapped_streams.specs.Works.{IsText}
-use Rattle.command_talks.specs.Commands.{Row, row_of, talks, is_path, is_room, is_text, is_link_text, is_good, is_sound_row, is_sound, dialogue_by, dialogue_for, errand_talk, begun_at, talk_by, talk_for}
+use Rattle.mail_box.specs.Boxes.{IsText as IsMessageText}
+use Rattle.mail_box.specs.declared.boxes.TheConstants.{TEXT_BYTES}
+use Rattle.command_talks.specs.Commands.{Row, row_of, talks, is_path, is_room, is_text, is_message, is_link_text, is_good, is_sound_row, is_sound, dialogue_by, dialogue_for, errand_talk, begun_at, talk_by, talk_for}
 use Rattle.command_talks.specs.Deeds.{Deed, errand_of, purpose_of}
 use Rattle.command_talks.specs.Deeds as deeds
 use Rattle.command_talks.specs.Dialogues.{Dialogue, Ends, asked, told, led_on}
@@ -83,6 +85,9 @@ room_of_link = (lit≤ tt, lit≤ tt)
 pub text_is : (text : List ℕ) → is_text text ≡ true → IsText text
 text_is text h = let both = and_parts (nat_le 1 (length text)) (nat_le (length text) PAGE_BYTES) h in record { some = search (rules, both.0); few = search (rules, both.1) }
 
+pub message_is : (text : List ℕ) → is_message text ≡ true → IsMessageText text
+message_is text h = let both = and_parts (nat_le 1 (length text)) (nat_le (length text) TEXT_BYTES) h in record { some = search (rules, both.0); few = search (rules, both.1) }
+
 pub link_text_is : (kind : ObjKind) (text : Option (List ℕ)) → is_link_text kind text ≡ true → IsLinkText kind text
 link_text_is kinds.Link None h = absurd (false≢true h)
 link_text_is kinds.Link (Some text) h = h
@@ -102,6 +107,8 @@ module _ (guard : Option Subject) (site : Site) (dir : ObjectName) where
   deed_good deeds.Reads h = tt
   deed_good deeds.Counts h = tt
   deed_good (deeds.Appends text) h = text_is text h
+  deed_good (deeds.Puts text) h = message_is text h
+  deed_good deeds.Takes h = tt
   deed_good (deeds.Copies target) h = h
   deed_good (deeds.Adds what) h =
       let both = and_parts (is_room what.room) (is_link_text what.kind what.text) h in

@@ -80,6 +80,20 @@ abbrev pub at_place : NameResult → Option Check
 at_place (Under p) = Some (check_with p.dir (or_own p.name to_name to_own))
 at_place result = None
 
+-- a mailbox that is added is a name like others, that of the list too
+abbrev pub at_new_mail : NameResult → Option Check
+at_new_mail (Under p) = Some (check_with p.dir to_name)
+at_new_mail result = None
+
+abbrev pub at_added : ObjKind → NameResult → Option Check
+at_added kinds.Mail = at_new_mail
+at_added kind = at_place
+
+-- at the directory of a mailbox, by whatever name
+abbrev pub at_mail : Rights → NameResult → Option Check
+at_mail need (Found (At u kinds.Mail within)) = at_name need need within
+at_mail need result = None
+
 -- a list that is bad can be removed
 abbrev pub at_removed : NameResult → Option Check
 at_removed (Under p) = Some (record { dir = p.dir; need = or_own p.name to_name to_own; lenient = bytes_eq p.name list_name })
@@ -93,8 +107,10 @@ check_of errands.List = at_itself to_read
 check_of errands.Read = at_file to_read to_read
 check_of errands.Count = at_file to_read to_read
 check_of (errands.Append text) = at_file to_write to_own
+check_of (errands.Put text) = at_mail to_write
+check_of errands.Take = at_mail (rights_with true true false false)
 check_of (errands.Copy target) = at_file to_read to_read
-check_of (errands.Add what) = at_place
+check_of (errands.Add what) = at_added what.kind
 check_of errands.Remove = at_removed
 check_of (errands.Fill s) = at_place
 

@@ -5,7 +5,8 @@ use Rattle.uid_names.specs.declared.mode.ObjKind.{ObjKind}
 use Rattle.uid_names.specs.declared.mode.ObjKind.TheVariants as kinds
 use Rattle.uid_names.specs.declared.limits.TheConstants.{MAX_ROOM, PAGE_BYTES}
 use Rattle.script_reader.specs.declared.command.Command.{Command}
-use Rattle.script_reader.specs.declared.command.Command.TheVariants.{Bind, Crf, Crd, Crl, Dlf, Catf, Lnf, Apf, Cpf, Ld, Wd}
+use Rattle.script_reader.specs.declared.command.Command.TheVariants.{Bind, Crf, Crd, Crl, Dlf, Catf, Lnf, Apf, Cpf, Crm, Putm, Takem, Ld, Wd}
+use Rattle.mail_box.specs.declared.boxes.TheConstants.{TEXT_BYTES}
 use Rattle.naming_tree.specs.declared.purpose.Purpose.{Purpose}
 use Rattle.naming_tree.specs.declared.site.Site.{Site}
 use Rattle.dir_records.specs.Paths.{route_of}
@@ -43,6 +44,9 @@ row_of (Catf path) = Some (row_with path deeds.Reads)
 row_of (Lnf path) = Some (row_with path deeds.Counts)
 row_of (Apf path text) = Some (row_with path (deeds.Appends text))
 row_of (Cpf path target) = Some (row_with path (deeds.Copies target))
+row_of (Crm path) = Some (row_with path (deeds.Adds (object_for kinds.Mail 8 None)))
+row_of (Putm path text) = Some (row_with path (deeds.Puts text))
+row_of (Takem path) = Some (row_with path deeds.Takes)
 row_of (Ld path) = Some (row_with path deeds.Lists)
 row_of (Wd (Some path)) = Some (row_with path deeds.Enters)
 row_of _ = None
@@ -61,6 +65,9 @@ is_room room = nat_le 1 room && nat_le room MAX_ROOM
 abbrev pub is_text : List ℕ → Bool
 is_text text = nat_le 1 (length text) && nat_le (length text) PAGE_BYTES
 
+abbrev pub is_message : List ℕ → Bool
+is_message text = nat_le 1 (length text) && nat_le (length text) TEXT_BYTES
+
 abbrev pub is_link_text : ObjKind → Option (List ℕ) → Bool
 is_link_text kinds.Link None = false
 is_link_text kinds.Link (Some text) = is_path text
@@ -69,6 +76,7 @@ is_link_text _ (Some text) = false
 
 abbrev pub is_good : Deed → Bool
 is_good (deeds.Appends text) = is_text text
+is_good (deeds.Puts text) = is_message text
 is_good (deeds.Copies target) = is_path target
 is_good (deeds.Adds what) = is_room what.room && is_link_text what.kind what.text
 is_good _ = true

@@ -9,8 +9,8 @@ use Rattle.command_talks.specs.declared.check.Subject.{Subject}
 use Rattle.command_talks.specs.declared.errand.Errand.{Errand}
 use Rattle.command_talks.specs.declared.errand.Errand.TheVariants as errands
 
--- as a command says it: what its path leads to is bound or entered, or is listed, read, counted, appended to or copied, or its last name is
--- added or removed
+-- as a command says it: what its path leads to is bound or entered, or is listed, read, counted, appended to or copied, or it is a mailbox into
+-- which a text is put, or out of which one is taken, or its last name is added or removed
 pub data Deed : Type 0 where
   Binds : Deed
   Enters : Deed
@@ -18,6 +18,8 @@ pub data Deed : Type 0 where
   Reads : Deed
   Counts : Deed
   Appends : (text : List ℕ) → Deed
+  Puts : (text : List ℕ) → Deed
+  Takes : Deed
   Copies : (target : List ℕ) → Deed
   Adds : (what : Intended) → Deed
   Removes : Deed
@@ -30,6 +32,8 @@ errand_of guard site dir Lists = errands.List
 errand_of guard site dir Reads = errands.Read
 errand_of guard site dir Counts = errands.Count
 errand_of guard site dir (Appends text) = errands.Append text
+errand_of guard site dir (Puts text) = errands.Put text
+errand_of guard site dir Takes = errands.Take
 errand_of guard site dir (Copies target) = errands.Copy (record { guard = guard; site = site; dir = dir; path = target })
 errand_of guard site dir (Adds what) = errands.Add what
 errand_of guard site dir Removes = errands.Remove

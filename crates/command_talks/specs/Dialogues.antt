@@ -8,8 +8,10 @@ use Rattle.naming_tree.specs.declared.step.Step.{Step}
 use Rattle.naming_tree.specs.Dialogues.{DialogueOf, ask_or}
 pub use Rattle.naming_tree.specs.Dialogues.{Ends, Asks, told, asked, led_on, closing}
 use Rattle.mapped_streams.specs.declared.step.StreamResult.{StreamResult}
+use Rattle.mail_box.specs.declared.step.MailResult.{MailResult}
 use Rattle.command_talks.specs.declared.outcome.Outcome.{Outcome}
 use Rattle.command_talks.specs.declared.outcome.Outcome.TheVariants.{Came, Streamed}
+use Rattle.command_talks.specs.Mailed.{mail_outcome}
 
 abbrev pub Dialogue : Type 0
 Dialogue = DialogueOf Outcome
@@ -23,6 +25,10 @@ came result = Ends (Came result)
 
 abbrev pub streamed : StreamResult → Dialogue
 streamed result = Ends (Streamed result)
+
+-- so is what a mailbox came to
+abbrev pub mailed : MailResult → Dialogue
+mailed result = Ends (mail_outcome result)
 
 -- an operation that is refused is the outcome, once what is open is closed
 abbrev pub refused : Reply → Outcome

@@ -39,10 +39,18 @@ use Rattle.naming_tree.specs.Dialogues.{asked}
 use Rattle.mapped_streams.specs.Dialogues.{Dialogue, MayHear, said_to}
 use Rattle.mapped_streams.specs.States.{rest, streaming_of}
 use Rattle.mapped_streams.specs.Turns.{stood_after as stream_after}
-use Rattle.command_talks.specs.Arriving.{file_in, directory_in}
+use Rattle.mail_box.specs.Dialogues.{MailStep}
+use Rattle.mail_box.specs.Dialogues as boxes
+use Rattle.mail_box.specs.States as box_states
+use Rattle.mail_box.specs.States.{mailing_of}
+use Rattle.mail_box.specs.Turns.{stood_after as mail_after}
+use Rattle.mail_box.specs.declared.mailing.Mailing.{Mailing}
+use Rattle.mail_box.specs.declared.work.MailWork.TheVariants as mail_works
+use Rattle.command_talks.specs.Arriving.{file_in, mail_in, directory_in}
 use Rattle.command_talks.specs.Checks.{bad_list, check_for, check_of, denied, list_name, of_bad, of_text}
 use Rattle.command_talks.specs.Files.{room_for}
 use Rattle.command_talks.specs.Intentions.{Intended}
+use Rattle.command_talks.specs.Mailed.{mail_outcome}
 use Rattle.command_talks.specs.Sources.{Sourced, Targeted, source_of, measured, mapped, unmapped, close_op}
 use Rattle.command_talks.specs.declared.arriving.Arrival.{Arrival}
 use Rattle.command_talks.specs.declared.arriving.Arrival.TheVariants.{There, Else}
@@ -54,7 +62,7 @@ use Rattle.command_talks.specs.declared.file_talk.Pending.{Pending}
 use Rattle.command_talks.specs.declared.errand.Errand.{Errand}
 use Rattle.command_talks.specs.declared.errand.Errand.TheVariants as errands
 use Rattle.command_talks.specs.declared.file_talk.FileTalk.{FileTalk}
-use Rattle.command_talks.specs.declared.file_talk.FileTalk.TheVariants.{Seeks, Reaches, LooksUp, ReadsList, Lists, Changes, Reads, Counts, Appends, Opens, Adds, Copies, Closes}
+use Rattle.command_talks.specs.declared.file_talk.FileTalk.TheVariants.{Seeks, Reaches, LooksUp, ReadsList, Lists, Changes, Reads, Counts, Appends, Mails, Opens, Adds, Copies, Closes}
 use Rattle.command_talks.specs.declared.file_talk.Opening.{Opening}
 use Rattle.command_talks.specs.declared.file_talk.Opening.TheVariants.{Lock, Length, Map}
 use Rattle.command_talks.specs.declared.file_talk.FileTurn.{FileTurn}
@@ -75,6 +83,14 @@ op_left (Some d) = asked d
 abbrev pub stream_asks : Option Streaming → Option Op
 stream_asks m = op_left (rest m)
 
+-- and a machine of a mailbox
+abbrev pub mail_left : Option boxes.Dialogue → Option Op
+mail_left None = None
+mail_left (Some d) = asked d
+
+abbrev pub mail_asks : Option Mailing → Option Op
+mail_asks m = mail_left (box_states.rest m)
+
 -- what opens the source of a copy
 abbrev pub opening_op : ObjectName → Opening → Op
 opening_op u Lock = ops.Lock u modes.Read
@@ -92,6 +108,7 @@ file_asks (Changes m) = asked_at changing_asks m
 file_asks (Reads m) = stream_asks m
 file_asks (Counts m) = stream_asks m
 file_asks (Appends m) = stream_asks m
+file_asks (Mails m) = mail_asks m
 file_asks (Opens s stage target) = Some (opening_op s.uid stage)
 file_asks (Adds s m) = asked_at changing_asks m
 file_asks (Copies s m) = stream_asks m
@@ -112,6 +129,7 @@ MayHearFile (Changes m) last = IsSome m × FitsStood changing_asks m last
 MayHearFile (Reads m) last = MayHear (rest m) last
 MayHearFile (Counts m) last = MayHear (rest m) last
 MayHearFile (Appends m) last = MayHear (rest m) last
+MayHearFile (Mails m) last = boxes.MayHear (box_states.rest m) last
 MayHearFile (Opens s stage target) last = FitsOp (opening_op s.uid stage) last
 MayHearFile (Adds s m) last = IsSome m × FitsStood changing_asks m last
 MayHearFile (Copies s m) last = MayHear (rest m) last
@@ -139,6 +157,15 @@ stream_turn (Some (steps.Over result)) talk = Some (over_turn talk result)
 abbrev pub stream_told : (Option Streaming → FileTalk) → Option Streaming → Option Reply → Option FileTurn
 stream_told make m last = stream_turn (said_to (rest m) last) (make (stream_after m last))
 
+-- a machine of a mailbox says this
+abbrev pub mail_turn : Option MailStep → FileTalk → Option FileTurn
+mail_turn None talk = None
+mail_turn (Some (steps.Do op)) talk = Some (Goes talk op)
+mail_turn (Some (steps.Over result)) talk = Some (Comes (mail_outcome result))
+
+abbrev pub mail_told : Option Mailing → Option Reply → Option FileTurn
+mail_told m last = mail_turn (boxes.said_to (box_states.rest m) last) (Mails (mail_after m last))
+
 -- a machine of a name says this: it goes on, or what it has come to leads on
 abbrev pub named_turn : {S : Type 0} → (Option S → FileTalk) → (NameResult → Option FileTurn) → Option NameStep → Option S → Option FileTurn
 named_turn make over None m = None
@@ -162,6 +189,13 @@ count_turn u = stream_told (λ m. Counts m) (Some (streaming_of u (works.Read 0 
 abbrev pub append_turn : List ℕ → ObjectName → Option FileTurn
 append_turn text u = stream_told (λ m. Appends m) (Some (streaming_of u (works.Append text (Some Before)))) None
 
+-- a text is put into a mailbox, or the first is taken
+abbrev pub put_turn : List ℕ → ObjectName → Option FileTurn
+put_turn text u = mail_told (Some (mailing_of u (mail_works.Put text))) None
+
+abbrev pub take_turn : ObjectName → Option FileTurn
+take_turn u = mail_told (Some (mailing_of u (mail_works.Take []))) None
+
 abbrev pub copy_turn : Targeted → ObjectName → Option FileTurn
 copy_turn target u = Some (Goes (Opens (source_of u) Lock target) (ops.Lock u modes.Read))
 
@@ -176,6 +210,9 @@ arrived begin (Else outcome) = Some (Comes outcome)
 
 abbrev pub file_sought : (ObjectName → Option FileTurn) → NameResult → Option FileTurn
 file_sought begin result = arrived begin (file_in result)
+
+abbrev pub mail_sought : (ObjectName → Option FileTurn) → NameResult → Option FileTurn
+mail_sought begin result = arrived begin (mail_in result)
 
 abbrev pub list_sought : NameResult → Option FileTurn
 list_sought result = arrived list_turn (directory_in result)
@@ -209,6 +246,8 @@ sought_turn errands.List = list_sought
 sought_turn errands.Read = file_sought read_turn
 sought_turn errands.Count = file_sought count_turn
 sought_turn (errands.Append text) = file_sought (append_turn text)
+sought_turn (errands.Put text) = mail_sought (put_turn text)
+sought_turn errands.Take = mail_sought take_turn
 sought_turn (errands.Copy target) = file_sought (copy_turn target)
 sought_turn (errands.Add what) = place_sought (add_turn what)
 sought_turn errands.Remove = place_sought remove_turn
@@ -332,6 +371,7 @@ file_turn (Changes m) last = named_told changing_asks changing_after (λ m. Chan
 file_turn (Reads m) last = stream_told (λ m. Reads m) m last
 file_turn (Counts m) last = stream_told (λ m. Counts m) m last
 file_turn (Appends m) last = stream_told (λ m. Appends m) m last
+file_turn (Mails m) last = mail_told m last
 file_turn (Opens s stage target) last = open_turn s stage target last
 file_turn (Adds s m) last = named_told changing_asks changing_after (λ m. Adds s m) (added_turn s) m last
 file_turn (Copies s m) last = stream_told (λ m. Copies s m) m last

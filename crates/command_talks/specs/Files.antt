@@ -22,7 +22,8 @@ use Rattle.mapped_streams.specs.declared.step.StreamResult.{StreamResult}
 use Rattle.mapped_streams.specs.declared.step.StreamResult.TheVariants as streams
 use Rattle.mapped_streams.specs.declared.mapped.Mapped.{Mapped}
 use Rattle.mapped_streams.specs.Streams.{read_all, count_lines, append, copy}
-use Rattle.command_talks.specs.Arriving.{file_in, directory_in}
+use Rattle.mail_box.specs.Mails.{put_mail, take_mail}
+use Rattle.command_talks.specs.Arriving.{file_in, mail_in, directory_in}
 use Rattle.command_talks.specs.Checks.{at_place, check_for, check_of, checked_by}
 use Rattle.command_talks.specs.Deeds.{purpose_of}
 use Rattle.command_talks.specs.declared.check.Subject.{Subject}
@@ -32,7 +33,7 @@ use Rattle.command_talks.specs.declared.outcome.Outcome.{Outcome}
 use Rattle.command_talks.specs.declared.arriving.Arrival.{Arrival}
 use Rattle.command_talks.specs.declared.arriving.Arrival.TheVariants.{There, Else}
 use Rattle.command_talks.specs.declared.outcome.Outcome.TheVariants.{Came, Streamed}
-use Rattle.command_talks.specs.Dialogues.{Dialogue, Ends, led_on, came, streamed, closing, ask}
+use Rattle.command_talks.specs.Dialogues.{Dialogue, Ends, led_on, came, streamed, mailed, closing, ask}
 use Rattle.command_talks.specs.Sources.{Sourced, Targeted, mapped_at, closers}
 
 -- a path leads to an object such as is asked for, with which it goes on, or to something else
@@ -42,6 +43,9 @@ on_arrival further (Else outcome) = Ends outcome
 
 abbrev pub on_file : (ObjectName → Dialogue) → NameResult → Dialogue
 on_file further result = on_arrival further (file_in result)
+
+abbrev pub on_mail : (ObjectName → Dialogue) → NameResult → Dialogue
+on_mail further result = on_arrival further (mail_in result)
 
 -- a path leads to a directory, which is listed
 abbrev pub on_listed : NameResult → Dialogue
@@ -102,6 +106,8 @@ behind errands.List = on_listed
 behind errands.Read = on_file (λ u. led_on (read_all u) streamed)
 behind errands.Count = on_file (λ u. led_on (count_lines u) streamed)
 behind (errands.Append text) = on_file (λ u. led_on (append u text) streamed)
+behind (errands.Put text) = on_mail (λ u. led_on (put_mail u text) mailed)
+behind errands.Take = on_mail (λ u. led_on (take_mail u) mailed)
 behind (errands.Copy target) = on_file (copy_from target)
 behind (errands.Add what) = on_place (λ p. led_on (add_at p.dir (addition what.kind what.room what.text p.name)) came)
 behind errands.Remove = on_place (λ p. led_on (drop_at p.dir p.name) came)

@@ -3,6 +3,7 @@ pub mod Intentions
 pub mod Sources
 pub mod Deeds
 pub mod Arriving
+pub mod Mailed
 pub mod Dialogues
 pub mod Checks
 pub mod Files

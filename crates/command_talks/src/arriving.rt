@@ -1,6 +1,6 @@
-//! Where walks have led: to a file or to a directory that a command asks for, or to something else.
+//! Where walks have led: to a file, a mailbox or a directory that a command asks for, or to something else.
 ghost use Rattle.std.specs.Prelude.{◌≡◌, IfOk};
-ghost use Rattle.command_talks.specs.Arriving.{file_at as file_found_at, file_in as file_found_in, directory_at as directory_found_at, directory_in as directory_found_in};
+ghost use Rattle.command_talks.specs.Arriving.{file_at as file_found_at, file_in as file_found_in, directory_at as directory_found_at, directory_in as directory_found_in, mail_at as mail_found_at, mail_in as mail_found_in};
 
 use crate::outcome::Outcome;
 use naming_tree::{NameResult, Walked};
@@ -44,6 +44,33 @@ pub fn file_in(alloc: Global, come: NameResult) -> Result<Arrival, NoMemory>
 {
     match &come {
         NameResult::Found(at) => file_at(alloc, at),
+        _ => Ok(Arrival::Else(Outcome::Came(come))),
+    }
+}
+
+/// A mailbox, or something that is none.
+fn mail_at(alloc: Global, at: &Walked) -> Result<Arrival, NoMemory>
+    ensures { IfOk result (λ found. found ≡ mail_found_at at.now) }
+{
+    match at {
+        Walked::At {
+            uid,
+            kind: ObjKind::Mail,
+            ..
+        } => Ok(Arrival::There(*uid)),
+        _ => {
+            let text = ByteList::from_slice(alloc, b"not a mailbox")?;
+            Ok(Arrival::Else(Outcome::Written(text)))
+        }
+    }
+}
+
+/// Where a walk has led that looks for a mailbox.
+pub fn mail_in(alloc: Global, come: NameResult) -> Result<Arrival, NoMemory>
+    ensures { IfOk result (λ found. found ≡ mail_found_in come) }
+{
+    match &come {
+        NameResult::Found(at) => mail_at(alloc, at),
         _ => Ok(Arrival::Else(Outcome::Came(come))),
     }
 }

@@ -2,7 +2,7 @@
 ghost use Rattle.std.specs.Prelude.{◌≡◌, IfOk};
 ghost use Rattle.acl_rules.specs.RightTexts.{rights_with};
 ghost use Rattle.naming_tree.specs.declared.step.NameResult.TheVariants.{Found};
-ghost use Rattle.command_talks.specs.Checks.{at_bound as bound_at, at_file as file_at, at_itself as itself_at, at_name as name_at, at_place as place_at, at_removed as removed_at, check_of as check_of_errand, of_bad, of_text, or_own, to_read};
+ghost use Rattle.command_talks.specs.Checks.{at_added as added_at, at_bound as bound_at, at_file as file_at, at_itself as itself_at, at_mail as mail_at, at_name as name_at, at_new_mail as new_mail_at, at_place as place_at, at_removed as removed_at, check_of as check_of_errand, of_bad, of_text, or_own, to_read};
 
 use crate::errand::Errand;
 use acl_rules::{Decision, ListFault, Rights, decide, read_list};
@@ -178,6 +178,54 @@ fn at_place(come: &NameResult) -> Option<Check>
     })
 }
 
+/// What is asked where that of a mailbox is.
+fn at_new_mail(come: &NameResult) -> Option<Check>
+    ensures { result ≡ new_mail_at come.now }
+{
+    let NameResult::Under(place) = come else {
+        return None;
+    };
+    Some(Check {
+        dir: place.dir,
+        need: rights(false, false, true, false),
+        lenient: false,
+    })
+}
+
+/// What is asked where a name is added for an object of this kind.
+fn at_added(kind: ObjKind, come: &NameResult) -> Option<Check>
+    ensures { result ≡ added_at kind come.now }
+{
+    match kind {
+        ObjKind::Mail => at_new_mail(come),
+        _ => at_place(come),
+    }
+}
+
+/// What is asked for the texts of a mailbox, by whatever name.
+fn of_mail(need: Rights, at: &Walked) -> Option<Check>
+    ensures { result ≡ mail_at need (Found at.now) }
+{
+    match at {
+        Walked::At {
+            uid: _,
+            kind: ObjKind::Mail,
+            within,
+        } => at_name(need, need, within),
+        Walked::Root | Walked::At { .. } => None,
+    }
+}
+
+/// What is asked for them where a walk came to this.
+fn at_mail(need: Rights, come: &NameResult) -> Option<Check>
+    ensures { result ≡ mail_at need come.now }
+{
+    match come {
+        NameResult::Found(at) => of_mail(need, at),
+        _ => None,
+    }
+}
+
 /// And where one is removed.
 fn at_removed(come: &NameResult) -> Option<Check>
     ensures { result ≡ removed_at come.now }
@@ -207,7 +255,10 @@ pub fn check_of(errand: &Errand, come: &NameResult) -> Option<Check>
             let write = rights(false, true, false, false);
             at_file(write, rights(false, false, false, true), come)
         }
-        Errand::Add(_) | Errand::Fill(_) => at_place(come),
+        Errand::Put(_) => at_mail(rights(false, true, false, false), come),
+        Errand::Take => at_mail(rights(true, true, false, false), come),
+        Errand::Add(what) => at_added(what.kind(), come),
+        Errand::Fill(_) => at_place(come),
         Errand::Remove => at_removed(come),
     }
 }

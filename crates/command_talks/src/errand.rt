@@ -43,6 +43,41 @@ impl Text {
     }
 }
 
+/// A text that a mailbox takes: 1 to 120 bytes.
+#[derive(Drop)]
+pub struct Letter {
+    bytes: ByteList,
+}
+
+impl Model for Letter {
+    ghost use Rattle.std.specs.Prelude.{List, ℕ};
+    ghost use Rattle.mail_box.specs.Boxes.{IsText};
+
+    ghost Value = { List ℕ };
+
+    ghost view = { λ t. t.bytes };
+
+    ghost invariant = { λ t. IsText t.bytes };
+}
+
+impl Letter {
+    ghost use Rattle.mail_box.specs.Boxes.{IsText as IsMessageText};
+
+    pub fn new(bytes: ByteList) -> Letter
+        requires { IsMessageText bytes }
+        ensures { result ≡ bytes }
+    {
+        Letter { bytes }
+    }
+
+    pub fn bytes(&self) -> &[u8]
+        ensures value { result.now ≡ self.now }
+        ensures range { IsMessageText result.now }
+    {
+        self.bytes.bytes()
+    }
+}
+
 /// Where a copy goes: a path, for whom, and where its names are looked up.
 #[derive(Drop)]
 pub struct Target {
@@ -129,6 +164,13 @@ impl NewObject {
         NewObject { kind, room, text }
     }
 
+    /// Its kind.
+    pub fn kind(&self) -> ObjKind
+        ensures { result ≡ self.now.kind }
+    {
+        self.kind
+    }
+
     /// The addition of a name with it to a directory. Takes no memory.
     pub fn add_at(self, alloc: Global, place: &Within) -> ChangeAt
         ensures { result ≡ Some (changing_of place.now.dir (AddChange (addition self.kind self.room self.text place.now.name))) }
@@ -154,6 +196,10 @@ pub enum Errand {
     Read,
     Count,
     Append(Text),
+    /// A text is put into a mailbox.
+    Put(Letter),
+    /// The first is taken out of it.
+    Take,
     Copy(Target),
     /// The last name is added to its directory.
     Add(NewObject),

@@ -4,6 +4,7 @@ use crate::errand::{Errand, Target};
 use crate::outcome::Outcome;
 use crate::source::Source;
 use dom_history::Op;
+use mail_box::Mail;
 use mapped_streams::Stream;
 use naming_tree::{ChangeAt, ListAt, NameResult, ToParent, Walk};
 
@@ -42,6 +43,8 @@ pub enum FileTalk {
     Reads(Stream),
     Counts(Stream),
     Appends(Stream),
+    /// A text is put into a mailbox, or the first is taken.
+    Mails(Mail),
     /// The source of a copy is opened.
     Opens(Source, Opening, Target),
     /// Its target is added.

@@ -1,4 +1,4 @@
-//! What a command on names or on the bytes of files asks of the store, one operation after another, and what it comes to.
+//! What a command on names, on the bytes of files or on mailboxes asks of the store, one operation after another, and what it comes to.
 #![tactic(auto)]
 
 mod arriving;
@@ -8,6 +8,7 @@ mod closing;
 mod copying;
 mod errand;
 mod file_talk;
+mod mailed;
 mod naming;
 mod outcome;
 mod seeking;

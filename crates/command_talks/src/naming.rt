@@ -1,17 +1,18 @@
 //! How commands on names and files begin.
 ghost use Rattle.std.specs.Prelude.{◌≡◌, true, false, None, Some, MatchOption, IfOk, IfSome, IsSome, unwrap_or};
 ghost use Rattle.uid_names.specs.Rooms.{IsRoom};
-ghost use Rattle.uid_names.specs.declared.mode.ObjKind.TheVariants.{Directory, File, Link};
+ghost use Rattle.uid_names.specs.declared.mode.ObjKind.TheVariants.{Directory, File, Link, Mail};
 ghost use Rattle.dir_records.specs.Paths.{route_of};
 ghost use Rattle.mapped_streams.specs.Works.{IsText as IsStreamText};
+ghost use Rattle.mail_box.specs.Boxes.{IsText as IsMessageText};
 ghost use Rattle.command_talks.specs.Commands.{begun_at, talk_for, talks};
 ghost use Rattle.command_talks.specs.Intentions.{object_for};
 ghost use Rattle.command_talks.specs.Ranges.{IsRanged};
 ghost use Rattle.command_talks.specs.Talks.{talk_in};
-ghost use Rattle.command_talks.specs.declared.errand.Errand.TheVariants.{Append as AppendErrand, Copy as CopyErrand, Add as AddErrand};
+ghost use Rattle.command_talks.specs.declared.errand.Errand.TheVariants.{Append as AppendErrand, Copy as CopyErrand, Add as AddErrand, Put as PutErrand};
 
 use crate::check::Subject;
-use crate::errand::{Errand, NewObject, Target, Text};
+use crate::errand::{Errand, Letter, NewObject, Target, Text};
 use crate::file_talk::FileTalk;
 use crate::talk::{Machine, Talk};
 use dom_history::NodeNames;
@@ -27,6 +28,9 @@ const FILE_ROOM: u32 = 16;
 const DIRECTORY_ROOM: u32 = 8;
 
 const LINK_ROOM: u32 = 1;
+
+/// That of a mailbox: its numbers, and 56 messages.
+const MAIL_ROOM: u32 = 8;
 
 /// A copy of a site, for a machine of its own.
 fn copied(alloc: Global, site: &Site) -> Result<Site, NoMemory>
@@ -57,6 +61,15 @@ fn append_errand(alloc: Global, text: &ByteList) -> Result<Errand, NoMemory>
     ensures { IfOk result (λ errand. errand ≡ AppendErrand text.now) }
 {
     Ok(Errand::Append(Text::new(text.copy(alloc)?)))
+}
+
+/// The errand of a text that is put into a mailbox.
+#[inline(never)]
+fn put_errand(alloc: Global, text: &ByteList) -> Result<Errand, NoMemory>
+    requires { IsMessageText text.now }
+    ensures { IfOk result (λ errand. errand ≡ PutErrand text.now) }
+{
+    Ok(Errand::Put(Letter::new(text.copy(alloc)?)))
 }
 
 /// The errand of a copy to this path.
@@ -92,6 +105,13 @@ fn directory_errand() -> Errand
 {
     let kind = ObjKind::Directory;
     Errand::Add(NewObject::new(kind, DIRECTORY_ROOM, None))
+}
+
+/// The errand of a mailbox that is made.
+fn mail_errand() -> Errand
+    ensures { result ≡ AddErrand (object_for Mail 8 None) }
+{
+    Errand::Add(NewObject::new(ObjKind::Mail, MAIL_ROOM, None))
 }
 
 /// The errand of a link that is made, which stands for a path.
@@ -193,6 +213,12 @@ pub fn machine_for(
             let errand = copy_errand(alloc, guard, site, dir, target)?;
             Ok(Some(begin(alloc, guard, site, dir, path, errand)?))
         }
+        Command::Crm { path } => Ok(Some(begin(alloc, guard, site, dir, path, mail_errand())?)),
+        Command::Putm { path, text } => {
+            let errand = put_errand(alloc, text)?;
+            Ok(Some(begin(alloc, guard, site, dir, path, errand)?))
+        }
+        Command::Takem { path } => Ok(Some(begin(alloc, guard, site, dir, path, Errand::Take)?)),
         Command::Ld { path } => Ok(Some(begin(alloc, guard, site, dir, path, Errand::List)?)),
         Command::Wd { path } => match path {
             Some(path) => Ok(Some(begin(alloc, guard, site, dir, path, Errand::Enter)?)),

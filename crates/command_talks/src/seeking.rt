@@ -6,21 +6,25 @@ ghost use Rattle.naming_tree.specs.ByPaths.{by_path_asks};
 ghost use Rattle.naming_tree.specs.Changing.{changing_asks};
 ghost use Rattle.naming_tree.specs.ListsAt.{listing_asks};
 ghost use Rattle.naming_tree.specs.Walking.{walking_asks};
-ghost use Rattle.command_talks.specs.FileTalks.{add_turn, append_turn, copy_turn, count_turn, file_sought, file_turn, list_sought, place_sought, read_turn, remove_turn, sought_turn, MayHearFile};
+ghost use Rattle.command_talks.specs.FileTalks.{add_turn, append_turn, copy_turn, count_turn, file_sought, file_turn, list_sought, mail_sought, place_sought, put_turn, read_turn, remove_turn, sought_turn, take_turn, MayHearFile};
 ghost use Rattle.command_talks.specs.FileTurns.{file_says, Asks};
-ghost use Rattle.command_talks.specs.declared.file_talk.FileTalk.TheVariants.{Changes, Lists, Reaches, Seeks};
+ghost use Rattle.command_talks.specs.declared.file_talk.FileTalk.TheVariants.{Changes, Lists, Mails, Reaches, Seeks};
+ghost use Rattle.mail_box.specs.Dialogues.{MayHear as MayHearMail};
+ghost use Rattle.mail_box.specs.States.{rest as mail_rest};
 
-use crate::arriving::{Arrival, directory_in, file_in};
+use crate::arriving::{Arrival, directory_in, file_in, mail_in};
 use crate::check::Subject;
 use crate::checking::{guarded, look_up, read_through};
 use crate::closing::closed;
 use crate::copying::{add, begin_open, fill, open};
-use crate::errand::{Errand, NewObject, Target, Text};
+use crate::errand::{Errand, Letter, NewObject, Target, Text};
 use crate::file_talk::{FileTalk, FileTurn};
+use crate::mailed::mail_over;
 use crate::outcome::Outcome;
 use crate::source::Source;
 use crate::streaming::turned;
 use dom_history::Reply;
+use mail_box::{Mail, MailStep};
 use mapped_streams::Stream;
 use naming_tree::{ChangeAt, ListAt, NameResult, NameStep, ToParent, Walk};
 use std::alloc::Global;
@@ -54,6 +58,35 @@ fn begin_append(alloc: Global, uid: Uid, text: &Text) -> Result<FileTurn, NoMemo
     let mut machine = Stream::append(alloc, uid, text.bytes())?;
     let step = machine.next(alloc, None)?;
     Ok(turned(FileTalk::Appends(machine), step))
+}
+
+/// A mailbox whose machine goes on.
+fn mail_on(alloc: Global, mut machine: Mail, last: Option<&Reply>) -> Result<FileTurn, NoMemory>
+    requires { MayHearMail (mail_rest machine) (option_copied last) }
+    ensures turn { IfOk result (λ turn. Some turn ≡ file_turn (Mails machine) (option_copied last.entry)) }
+    ensures asks { IfOk result Asks }
+{
+    match machine.next(alloc, last)? {
+        MailStep::Do(op) => Ok(FileTurn::Goes(FileTalk::Mails(machine), op)),
+        MailStep::Over(come) => mail_over(alloc, come),
+    }
+}
+
+/// A text is put into a mailbox.
+fn begin_put(alloc: Global, uid: Uid, text: &Letter) -> Result<FileTurn, NoMemory>
+    ensures turn { IfOk result (λ turn. Some turn ≡ put_turn text.now uid) }
+    ensures asks { IfOk result Asks }
+{
+    let machine = Mail::put(alloc, uid, text.bytes())?;
+    mail_on(alloc, machine, None)
+}
+
+/// The first is taken out of it.
+fn begin_take(alloc: Global, uid: Uid) -> Result<FileTurn, NoMemory>
+    ensures turn { IfOk result (λ turn. Some turn ≡ take_turn uid) }
+    ensures asks { IfOk result Asks }
+{
+    mail_on(alloc, Mail::take(alloc, uid), None)
 }
 
 /// A directory that is listed.
@@ -126,6 +159,28 @@ fn append_found(alloc: Global, text: &Text, come: NameResult) -> Result<FileTurn
     }
 }
 
+/// A text is put into a mailbox.
+fn put_found(alloc: Global, text: &Letter, come: NameResult) -> Result<FileTurn, NoMemory>
+    ensures turn { IfOk result (λ turn. Some turn ≡ mail_sought (put_turn text.now) come) }
+    ensures asks { IfOk result Asks }
+{
+    match mail_in(alloc, come)? {
+        Arrival::There(uid) => begin_put(alloc, uid, text),
+        Arrival::Else(outcome) => Ok(FileTurn::Comes(outcome)),
+    }
+}
+
+/// The first is taken out of it.
+fn take_found(alloc: Global, come: NameResult) -> Result<FileTurn, NoMemory>
+    ensures turn { IfOk result (λ turn. Some turn ≡ mail_sought take_turn come) }
+    ensures asks { IfOk result Asks }
+{
+    match mail_in(alloc, come)? {
+        Arrival::There(uid) => begin_take(alloc, uid),
+        Arrival::Else(outcome) => Ok(FileTurn::Comes(outcome)),
+    }
+}
+
 /// It is copied.
 fn copy_found(alloc: Global, target: Target, come: NameResult) -> Result<FileTurn, NoMemory>
     ensures turn { IfOk result (λ turn. Some turn ≡ file_sought (copy_turn target) come) }
@@ -173,6 +228,8 @@ pub fn sought(alloc: Global, errand: Errand, come: NameResult) -> Result<FileTur
         Errand::Read => read_found(alloc, come),
         Errand::Count => count_found(alloc, come),
         Errand::Append(text) => append_found(alloc, &text, come),
+        Errand::Put(text) => put_found(alloc, &text, come),
+        Errand::Take => take_found(alloc, come),
         Errand::Copy(target) => copy_found(alloc, target, come),
         Errand::Add(what) => add_found(alloc, what, come),
         Errand::Remove => remove_found(alloc, come),
@@ -234,6 +291,7 @@ impl FileTalk {
             FileTalk::ReadsList(stream, pending) => read_through(alloc, stream, pending, last),
             FileTalk::Lists(machine) => list(alloc, machine, last),
             FileTalk::Changes(machine) => change(alloc, machine, last),
+            FileTalk::Mails(machine) => mail_on(alloc, machine, last),
             FileTalk::Opens(source, stage, target) => open(alloc, source, stage, target, last),
             FileTalk::Adds(source, machine) => add(alloc, source, machine, last),
             FileTalk::Closes(source, outcome) => closed(alloc, source, outcome, last),

@@ -1,4 +1,4 @@
-//! What is done by names and streams, as a row says it, and what comes of it: `crd d 8` and `added`.
+//! What is done by names, streams and mailboxes, as a row says it, and what comes of it: `crd d 8` and `added`.
 ghost use Rattle.std.specs.Prelude.{IsSome, IfOk};
 ghost use Rattle.uid_names.specs.Rooms.{IsRoom};
 ghost use Rattle.dir_records.specs.Paths.{route_of};
@@ -7,9 +7,11 @@ use crate::records::{number_of, put_names, read_again, record_bytes};
 use dir_records::{Component, is_path};
 use dom_history::{EndWord, Op, Reply};
 use dom_text::{cut, put_decimal};
+use mail_box::MailResult;
 use mapped_streams::StreamResult;
 use naming_tree::{Addition, NameResult, Walked};
 use plain_machines::machines::{add, add_at, list, remove, remove_at, walk};
+use plain_machines::mails::{Mailed, put_mail, refused_mail, take_mail};
 use plain_machines::refusals::{Refusal, refused};
 use plain_machines::streams::{
     Served, append_bytes, appending, copy, fill, leave, open, read, serve, some_bytes,
@@ -80,6 +82,26 @@ fn put_result(alloc: Global, words: &mut ByteList, came: &StreamResult) -> Resul
 fn stream_words(alloc: Global, served: &Served) -> Result<ByteList> {
     let mut words = served.words.copy(alloc)?;
     put_result(alloc, &mut words, &served.result)?;
+    Ok(words)
+}
+
+/// Puts what the machine of a mailbox came to.
+fn put_mailed(words: &mut ByteList, came: &MailResult) -> Result<()> {
+    match came {
+        MailResult::Put => words.extend(b"ok")?,
+        MailResult::Taken(text) => words.extend(text.bytes())?,
+        MailResult::Full => words.extend(b"mailbox full")?,
+        MailResult::Empty => words.extend(b"mailbox empty")?,
+        MailResult::BadMail => words.extend(b"bad mailbox")?,
+        MailResult::Store(reply) => words.extend(EndWord::of(reply).word().as_bytes())?,
+    }
+    Ok(())
+}
+
+/// What the machine of a mailbox asked and came to, in words.
+fn mail_words(alloc: Global, mailed: &Mailed) -> Result<ByteList> {
+    let mut words = mailed.words.copy(alloc)?;
+    put_mailed(&mut words, &mailed.result)?;
     Ok(words)
 }
 
@@ -221,6 +243,7 @@ fn come_of(world: &mut World, verb: &[u8], path: &[u8], word: &[u8]) -> Result<N
         b"crf" => add(world, path, ObjKind::File, room(word)?, None),
         b"crd" => add(world, path, ObjKind::Directory, room(word)?, None),
         b"crl" => link(world, path, word),
+        b"crm" => add(world, path, ObjKind::Mail, 8, None),
         b"dlf" => remove(world, path),
         b"add-there" => add_there(world, path),
         b"remove-there" => remove_there(world, path),
@@ -295,7 +318,17 @@ fn refusal(at: &[u8], which: &[u8], closings: bool) -> Result<Refusal> {
     })
 }
 
-/// What a stream asks and comes to that is refused as a row says it: `catf 3 1 mapped closings`.
+/// What a machine asks and comes to that is refused so, in words.
+fn refused_words(alloc: Global, verb: &[u8], mapped: bool, refusal: Refusal) -> Result<ByteList> {
+    match verb {
+        b"putm" | b"putm-first" | b"putm-full" | b"takem" | b"takem-none" => {
+            mail_words(alloc, &refused_mail(alloc, verb, mapped, refusal)?)
+        }
+        _ => stream_words(alloc, &refused(alloc, verb, mapped, refusal)?),
+    }
+}
+
+/// What a machine asks and comes to that is refused as a row says it: `catf 3 1 mapped closings`.
 fn refused_so(alloc: Global, words: &[u8]) -> Result<ByteList> {
     let (verb, rest) = first_word(words);
     let (at, rest) = first_word(rest);
@@ -303,7 +336,43 @@ fn refused_so(alloc: Global, words: &[u8]) -> Result<ByteList> {
     let closings = matches!(rest, b"closings" | b"mapped closings");
     let mapped = matches!(rest, b"mapped" | b"mapped closings");
     let refusal = refusal(at, which, closings)?;
-    stream_words(alloc, &refused(alloc, verb, mapped, refusal)?)
+    refused_words(alloc, verb, mapped, refusal)
+}
+
+/// Puts the texts `0`, `1` and so on into a mailbox; what the last one asked and came to, in words.
+fn put_many(world: &mut World, uid: Uid, number: u64) -> Result<ByteList> {
+    let mut said = ByteList::new(world.alloc);
+    for i in 0..number {
+        let mut text = ByteList::new(world.alloc);
+        put_decimal(&mut text, i)?;
+        let mailed = put_mail(world, uid, text.bytes(), &None)?;
+        said = mail_words(world.alloc, &mailed)?;
+    }
+    Ok(said)
+}
+
+/// Takes so many texts out of a mailbox; what the last one asked and came to, in words.
+fn take_many(world: &mut World, uid: Uid, number: u64) -> Result<ByteList> {
+    let mut said = ByteList::new(world.alloc);
+    for _ in 0..number {
+        let mailed = take_mail(world, uid, &None)?;
+        said = mail_words(world.alloc, &mailed)?;
+    }
+    Ok(said)
+}
+
+/// What comes of a command on a mailbox, in words: `putm` and `takem` of the shell, and `putn` and `takn` of a number.
+fn on_mail(world: &mut World, verb: &[u8], path: &[u8], word: &[u8]) -> Result<ByteList>
+    requires { IsSome (route_of path.now) }
+{
+    let uid = object(world, path)?;
+    match verb {
+        b"putm" => mail_words(world.alloc, &put_mail(world, uid, word, &None)?),
+        b"takem" => mail_words(world.alloc, &take_mail(world, uid, &None)?),
+        b"putn" => put_many(world, uid, number_of(word)?),
+        b"takn" => take_many(world, uid, number_of(word)?),
+        _ => Err(Undone::NoWords),
+    }
 }
 
 /// What comes of a command on a file, in words.
@@ -330,6 +399,7 @@ fn at_path(world: &mut World, verb: &[u8], rest: &[u8]) -> Result<ByteList> {
         b"catf" | b"lnf" | b"apf" | b"apn" | b"cpf" | b"fill" | b"open" | b"leave" => {
             on_file(world, verb, path, word)
         }
+        b"putm" | b"takem" | b"putn" | b"takn" => on_mail(world, verb, path, word),
         _ => words(world.alloc, &come_of(world, verb, path, word)?),
     }
 }

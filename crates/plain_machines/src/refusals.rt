@@ -9,7 +9,7 @@ use dom_history::{Op, Reply, Spot};
 use std::alloc::Global;
 use uid_names::{Mode, Uid};
 
-/// At which operation of a stream it is refused, with which of the replies that this can have, and whether what is
+/// At which operation of a machine it is refused, with which of the replies that this can have, and whether what is
 /// closed behind it is refused too.
 #[derive(Clone, Copy)]
 pub struct Refusal {
@@ -34,7 +34,7 @@ pub fn refusal_at(
     }
 }
 
-/// The refusals that operations of streams can have, by their numbers.
+/// The refusals that operations of streams and of mailboxes can have, by their numbers.
 fn refusal_of(op: &Op, which: u64) -> Result<Option<Reply>>
     ensures { IfOk result (λ reply. IfSome reply (Fits op.now)) }
 {
@@ -98,7 +98,7 @@ fn refused_on(
 }
 
 /// Maps a file and ends its lock.
-fn map(world: &mut World, uid: Uid) -> Result<()> {
+pub(crate) fn map(world: &mut World, uid: Uid) -> Result<()> {
     let _address = open(world, uid, Mode::Read)?;
     leave(world, uid)
 }

@@ -18,12 +18,23 @@ use uid_names::{ByteList, MAX_LENGTH, MAX_ROOM, Mode, ObjKind, PAGE_BYTES, Uid};
 /// How many operations a stream asks at most.
 const MOST_CALLS: u32 = 3000;
 
-/// What a stream asked, in words, how many operations, and whether one was refused.
+/// What a machine asked, in words, how many operations, and whether one was refused.
 #[derive(Drop)]
-struct Asked {
-    words: ByteList,
+pub(crate) struct Asked {
+    pub(crate) words: ByteList,
     count: u64,
     refused: bool,
+}
+
+impl Asked {
+    /// Nothing.
+    pub(crate) fn new(alloc: Global) -> Asked {
+        Asked {
+            words: ByteList::new(alloc),
+            count: 0,
+            refused: false,
+        }
+    }
 }
 
 /// What a stream asked, in words, and what it came to.
@@ -34,7 +45,7 @@ pub struct Served {
 }
 
 /// The word of an operation.
-fn word(op: &Op) -> &'static [u8] {
+pub(crate) fn word(op: &Op) -> &'static [u8] {
     match op {
         Op::Lock {
             uid: _,
@@ -52,7 +63,12 @@ fn word(op: &Op) -> &'static [u8] {
 }
 
 /// What an operation is answered: by the store, unless it is to be refused.
-fn answer(world: &mut World, op: &Op, asked: &mut Asked, refusal: &Option<Refusal>) -> Result<Reply>
+pub(crate) fn answer(
+    world: &mut World,
+    op: &Op,
+    asked: &mut Asked,
+    refusal: &Option<Refusal>,
+) -> Result<Reply>
     requires { IsOp op.now }
     ensures { IfOk result (Fits op.now) }
 {
@@ -92,11 +108,7 @@ pub fn serve(world: &mut World, machine: Stream, refusal: &Option<Refusal>) -> R
     requires { MayHear (rest machine) None }
 {
     let mut machine = machine;
-    let mut asked = Asked {
-        words: ByteList::new(world.alloc),
-        count: 0,
-        refused: false,
-    };
+    let mut asked = Asked::new(world.alloc);
     let mut last = None;
     'calls: for _ in 0..MOST_CALLS {
         match turn(world, &mut machine, last.as_ref(), &mut asked, refusal)? {

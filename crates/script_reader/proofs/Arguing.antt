@@ -19,7 +19,7 @@ use Rattle.dom_text.specs.Lent.{owned, owned_token}
 use Rattle.dom_text.specs.declared.token.Token.{Token}
 use Rattle.dom_text.specs.declared.token.TokenRef.{TokenRef}
 use Rattle.dom_text.specs.declared.token.Token.TheVariants.{Word, Text as TextToken}
-use Rattle.script_reader.specs.Arguments.{Said, Given, Var, NewVar, Room, Offset, Count, Address, Text, Mode, Home, HomeNode, OptionalRoom, Path, OptionalPath, given, home_number, pages_said}
+use Rattle.script_reader.specs.Arguments.{Said, Given, Var, NewVar, Room, Offset, Count, Address, Text, Message, Mode, Home, HomeNode, OptionalRoom, Path, OptionalPath, given, home_number, pages_said}
 use Rattle.script_reader.specs.Commands.{IsAddress, IsArgument, IsCommand, IsCount, IsHome, IsOffset, IsPath, arguments_of}
 use Rattle.script_reader.specs.NodeNames.{is_node_name, node_number}
 use Rattle.script_reader.specs.Forms.{absent, argument_form, arguments_form, in_front, mode_argument, text_argument, word_argument}
@@ -84,6 +84,7 @@ word_formed kind.Offset word = (refl, offset_found word)
 word_formed kind.Count word = (refl, count_found word)
 word_formed kind.Address word = (refl, address_found word)
 word_formed kind.Text word = tt
+word_formed kind.Message word = tt
 word_formed kind.Mode word = mode_formed (mode_of_word word)
 word_formed kind.Home word = (refl, tt)
 word_formed kind.HomeNode word = (refl, tt)
@@ -93,6 +94,7 @@ word_formed kind.OptionalPath word = (refl, tt)
 
 text_formed : (k : Kind) (text : List ℕ) → IfSome (text_argument k text) (IsOfKind k)
 text_formed kind.Text text = (refl, tt)
+text_formed kind.Message text = (refl, tt)
 text_formed _ text = tt
 
 absent_formed : (k : Kind) → IfSome (absent k) (IsOfKind k)
@@ -196,6 +198,7 @@ given_as nodes kind.Offset a = Offset (number_of a)
 given_as nodes kind.Count a = Count (number_of a)
 given_as nodes kind.Address a = Address (number_of a)
 given_as nodes kind.Text a = Text (bytes_of a)
+given_as nodes kind.Message a = Message (bytes_of a)
 given_as nodes kind.Mode a = Mode (mode_of a)
 given_as nodes kind.Home a = Home (home_of nodes a)
 given_as nodes kind.HomeNode a = HomeNode (node_of nodes a)
@@ -231,6 +234,9 @@ command-given nodes verb.Catf arguments = refl
 command-given nodes verb.Lnf arguments = refl
 command-given nodes verb.Apf arguments = refl
 command-given nodes verb.Cpf arguments = refl
+command-given nodes verb.Crm arguments = refl
+command-given nodes verb.Putm arguments = refl
+command-given nodes verb.Takem arguments = refl
 command-given nodes verb.Ld arguments = refl
 command-given nodes verb.Wd arguments = refl
 command-given nodes verb.Llkob arguments = refl
@@ -244,6 +250,7 @@ given_as-kind nodes (Offset found) = refl
 given_as-kind nodes (Count found) = refl
 given_as-kind nodes (Address found) = refl
 given_as-kind nodes (Text text) = refl
+given_as-kind nodes (Message text) = refl
 given_as-kind nodes (Mode mode) = refl
 given_as-kind nodes (Home name) = refl
 given_as-kind nodes (HomeNode name) = refl
@@ -309,6 +316,7 @@ argument_is nodes (Offset found) h number named known = found_is IsOffset found 
 argument_is nodes (Count found) h number named known = found_is IsCount found h number
 argument_is nodes (Address found) h number named known = found_is IsAddress found h number
 argument_is nodes (Text text) h number named known = let both = and_parts (nat_le 1 (length text)) (nat_le (length text) PAGE_BYTES) number in (search (rules, both.0), search (rules, both.1))
+argument_is nodes (Message text) h number named known = let both = and_parts (nat_le 1 (length text)) (nat_le (length text) 120) number in (search (rules, both.0), search (rules, both.1))
 argument_is nodes (Mode mode) h number named known = tt
 argument_is nodes (Home name) h number named known = home_is nodes name
 argument_is nodes (HomeNode name) h number named known = node_is nodes name known
@@ -348,6 +356,7 @@ argument_spoken s proc (Offset found) known fresh = tt
 argument_spoken s proc (Count found) known fresh = tt
 argument_spoken s proc (Address found) known fresh = tt
 argument_spoken s proc (Text text) known fresh = tt
+argument_spoken s proc (Message text) known fresh = tt
 argument_spoken s proc (Mode mode) known fresh = tt
 argument_spoken s proc (Home name) known fresh = tt
 argument_spoken s proc (HomeNode name) known fresh = tt

@@ -17,7 +17,7 @@ use Rattle.dom_history.specs.declared.plan.FateRow.{FateRow}
 use Rattle.script_reader.specs.Scripts.{Content, IsDraft, IsNode, IsObject}
 use Rattle.script_reader.specs.Fates.{IsFateRow}
 use Rattle.dom_history.specs.Ranges.{IsProcName}
-use Rattle.script_reader.specs.Arguments.{Given, Var, NewVar, Room, Offset, Count, Address, Text, Mode, Home, HomeNode, OptionalRoom, Path, OptionalPath}
+use Rattle.script_reader.specs.Arguments.{Given, Var, NewVar, Room, Offset, Count, Address, Text, Message, Mode, Home, HomeNode, OptionalRoom, Path, OptionalPath}
 use Rattle.script_reader.specs.Commands.{IsArgument, IsCommandRow, IsCommand, arguments_of}
 use Rattle.script_reader.specs.Variables.{IsSpoken, AreSpoken, is_declared}
 use Rattle.script_reader.specs.NodeNames.{is_node_name}
@@ -72,6 +72,7 @@ argument_wider m n le (Offset bytes) h = h
 argument_wider m n le (Count bytes) h = h
 argument_wider m n le (Address address) h = h
 argument_wider m n le (Text text) h = h
+argument_wider m n le (Message text) h = h
 argument_wider m n le (Mode mode) h = h
 argument_wider m n le (Home None) h = h
 argument_wider m n le (Home (Some home)) h = (h.0, omega (arith, le, h.1))

@@ -21,7 +21,7 @@ use Rattle.script_reader.specs.declared.script.CommandRow.{CommandRow}
 use Rattle.script_reader.specs.declared.words.LineWord.{LineWord}
 use Rattle.script_reader.specs.declared.words.LineWord.TheVariants.{Node as NodeWord, Object as ObjectWord, Fault as FaultWord, Phase as PhaseWord, Access as AccessWord, Subject as SubjectWord}
 use Rattle.script_reader.specs.declared.words.Verb.{Verb}
-use Rattle.script_reader.specs.declared.words.Verb.TheVariants.{New as NewVerb, Lock as LockVerb, Unlock as UnlockVerb, Delete as DeleteVerb, Load as LoadVerb, Store as StoreVerb, Length as LengthVerb, Map as MapVerb, Unmap as UnmapVerb, Loadat as LoadatVerb, Storeat as StoreatVerb, Bind as BindVerb, Crf as CrfVerb, Crd as CrdVerb, Crl as CrlVerb, Dlf as DlfVerb, Catf as CatfVerb, Lnf as LnfVerb, Apf as ApfVerb, Cpf as CpfVerb, Ld as LdVerb, Wd as WdVerb, Llkob as LlkobVerb}
+use Rattle.script_reader.specs.declared.words.Verb.TheVariants.{New as NewVerb, Lock as LockVerb, Unlock as UnlockVerb, Delete as DeleteVerb, Load as LoadVerb, Store as StoreVerb, Length as LengthVerb, Map as MapVerb, Unmap as UnmapVerb, Loadat as LoadatVerb, Storeat as StoreatVerb, Bind as BindVerb, Crf as CrfVerb, Crd as CrdVerb, Crl as CrlVerb, Dlf as DlfVerb, Catf as CatfVerb, Lnf as LnfVerb, Apf as ApfVerb, Cpf as CpfVerb, Crm as CrmVerb, Putm as PutmVerb, Takem as TakemVerb, Ld as LdVerb, Wd as WdVerb, Llkob as LlkobVerb}
 use Rattle.uid_names.proofs.TextTables.{looked_up}
 
 -- a good line in front
@@ -110,6 +110,9 @@ verb-again CatfVerb = refl
 verb-again LnfVerb = refl
 verb-again ApfVerb = refl
 verb-again CpfVerb = refl
+verb-again CrmVerb = refl
+verb-again PutmVerb = refl
+verb-again TakemVerb = refl
 verb-again LdVerb = refl
 verb-again WdVerb = refl
 verb-again LlkobVerb = refl

@@ -13,6 +13,7 @@ pub data Argument (Number Node : Type 0) : Type 0 where
   Count : (bytes : Number) → Argument Number Node
   Address : (address : Number) → Argument Number Node
   Text : (text : List ℕ) → Argument Number Node
+  Message : (text : List ℕ) → Argument Number Node
   Mode : (mode : LockMode) → Argument Number Node
   Home : (node : Option Node) → Argument Number Node
   HomeNode : (node : Node) → Argument Number Node
@@ -47,6 +48,7 @@ given nodes (Offset found) = Offset (unwrap_or found 0)
 given nodes (Count found) = Count (unwrap_or found 0)
 given nodes (Address found) = Address (unwrap_or found 0)
 given nodes (Text text) = Text text
+given nodes (Message text) = Message text
 given nodes (Mode mode) = Mode mode
 given nodes (Home name) = Home (home_number nodes name)
 given nodes (HomeNode name) = HomeNode (node_number nodes name)

@@ -6,9 +6,9 @@ use Rattle.uid_names.specs.Rooms.{IsRoom}
 use Rattle.uid_names.specs.declared.limits.TheConstants.{MAX_LENGTH, PAGE_BYTES}
 use Rattle.dom_history.specs.Ranges.{IsProcName}
 use Rattle.dir_records.specs.Paths.{route_of}
-use Rattle.script_reader.specs.Arguments.{Given, Var, NewVar, Room, Offset, Count, Address, Text, Mode, Home, HomeNode, OptionalRoom, Path, OptionalPath}
+use Rattle.script_reader.specs.Arguments.{Given, Var, NewVar, Room, Offset, Count, Address, Text, Message, Mode, Home, HomeNode, OptionalRoom, Path, OptionalPath}
 use Rattle.script_reader.specs.declared.command.Command.{Command}
-use Rattle.script_reader.specs.declared.command.Command.TheVariants.{New, Lock, Unlock, Delete, Load, Store, Length, Map, Unmap, Loadat, Storeat, Bind, Crf, Crd, Crl, Dlf, Catf, Lnf, Apf, Cpf, Ld, Wd, Llkob}
+use Rattle.script_reader.specs.declared.command.Command.TheVariants.{New, Lock, Unlock, Delete, Load, Store, Length, Map, Unmap, Loadat, Storeat, Bind, Crf, Crd, Crl, Dlf, Catf, Lnf, Apf, Cpf, Crm, Putm, Takem, Ld, Wd, Llkob}
 use Rattle.script_reader.specs.declared.script.CommandRow.{CommandRow}
 
 -- an offset in an object, a count of bytes, and an address
@@ -20,6 +20,10 @@ IsCount count = (1 ≤ count) × (count ≤ PAGE_BYTES)
 
 abbrev pub IsAddress : ℕ → Type 0
 IsAddress address = address ≤ 0xff_ffff
+
+-- how many bytes a text has that a mailbox takes
+abbrev pub IsMessage : ℕ → Type 0
+IsMessage count = (1 ≤ count) × (count ≤ 120)
 
 -- a home that a command names is a node
 abbrev pub IsHome : ℕ → Option ℕ → Type 0
@@ -51,6 +55,9 @@ arguments_of (Catf path) = Path path ∷ []
 arguments_of (Lnf path) = Path path ∷ []
 arguments_of (Apf path text) = Path path ∷ Text text ∷ []
 arguments_of (Cpf path target) = Path path ∷ Path target ∷ []
+arguments_of (Crm path) = Path path ∷ []
+arguments_of (Putm path text) = Path path ∷ Message text ∷ []
+arguments_of (Takem path) = Path path ∷ []
 arguments_of (Ld path) = Path path ∷ []
 arguments_of (Wd path) = OptionalPath path ∷ []
 arguments_of (Llkob node) = HomeNode node ∷ []
@@ -64,6 +71,7 @@ IsArgument nodes (Offset bytes) = IsOffset bytes
 IsArgument nodes (Count bytes) = IsCount bytes
 IsArgument nodes (Address address) = IsAddress address
 IsArgument nodes (Text text) = IsCount (length text)
+IsArgument nodes (Message text) = IsMessage (length text)
 IsArgument nodes (Mode mode) = Unit {0}
 IsArgument nodes (Home home) = IsHome nodes home
 IsArgument nodes (HomeNode node) = (1 ≤ node) × (node ≤ nodes)

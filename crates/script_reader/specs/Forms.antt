@@ -6,7 +6,7 @@ use Rattle.uid_names.specs.declared.mode.Mode.{Mode as LockMode}
 use Rattle.dom_text.specs.declared.token.Token.{Token}
 use Rattle.dom_text.specs.declared.token.Token.TheVariants.{Word, Text as TextToken}
 use Rattle.script_reader.specs.Words.{ProcessWord, mode_of_word}
-use Rattle.script_reader.specs.Arguments.{Said, Var, NewVar, Room, Offset, Count, Address, Text, Mode, Home, HomeNode, OptionalRoom, Path, OptionalPath}
+use Rattle.script_reader.specs.Arguments.{Said, Var, NewVar, Room, Offset, Count, Address, Text, Message, Mode, Home, HomeNode, OptionalRoom, Path, OptionalPath}
 use Rattle.script_reader.specs.Sayings.{Saying, Node, Object, Fault, Phase, Access, Subject, Does, SaidFate, Lose, Twice, Late}
 use Rattle.script_reader.specs.SpelledNumbers.{frames_spelled, index_spelled, late_spelled, process_spelled, room_spelled, offset_spelled, count_spelled, address_spelled}
 use Rattle.script_reader.specs.Shapes.{shape_of}
@@ -80,6 +80,7 @@ word_argument kind.Offset word = Some (Offset (offset_spelled word))
 word_argument kind.Count word = Some (Count (count_spelled word))
 word_argument kind.Address word = Some (Address (address_spelled word))
 word_argument kind.Text word = None
+word_argument kind.Message word = None
 word_argument kind.Mode word = mode_argument (mode_of_word word)
 word_argument kind.Home word = Some (Home (Some word))
 word_argument kind.HomeNode word = Some (HomeNode word)
@@ -90,6 +91,7 @@ word_argument kind.OptionalPath word = Some (OptionalPath (Some word))
 -- a quoted text as one
 abbrev pub text_argument : Kind → List ℕ → Option Said
 text_argument kind.Text text = Some (Text text)
+text_argument kind.Message text = Some (Message text)
 text_argument _ text = None
 
 -- what an argument that is left out says; only a home, a room and a path may be, where the kind says so

@@ -2,12 +2,16 @@
 use Rattle.std.specs.Prelude.{ℕ, nat_le, Bool, true, false, not, ◌&&◌, is_some, Some, List, length}
 use Rattle.std.specs.List.{list_all}
 use Rattle.uid_names.specs.declared.limits.TheConstants.{PAGE_BYTES}
-use Rattle.script_reader.specs.Arguments.{Said, Room, Offset, Count, Address, Text, OptionalRoom}
+use Rattle.script_reader.specs.Arguments.{Said, Room, Offset, Count, Address, Text, Message, OptionalRoom}
 use Rattle.script_reader.specs.Sayings.{Saying, Node, Object, Fault, Phase, Access, Subject, Does, SaidFate, Lose, Twice, Late}
 
 -- a text has 1 byte at least, and no more than a page
 abbrev pub is_text : List ℕ → Bool
 is_text text = nat_le 1 (length text) && nat_le (length text) PAGE_BYTES
+
+-- one that a mailbox takes has 120 bytes at most
+abbrev pub is_message : List ℕ → Bool
+is_message text = nat_le 1 (length text) && nat_le (length text) 120
 
 -- the number of a fate, where it has one
 abbrev pub is_fate : SaidFate → Bool
@@ -22,6 +26,7 @@ has_number (Offset found) = is_some found
 has_number (Count found) = is_some found
 has_number (Address found) = is_some found
 has_number (Text text) = is_text text
+has_number (Message text) = is_message text
 has_number (OptionalRoom (Some found)) = is_some found
 has_number _ = true
 

@@ -2,10 +2,10 @@
 use Rattle.std.specs.Prelude.{ℕ, Option, None, unwrap_or, List, [], slice_index_or}
 use Rattle.uid_names.specs.declared.mode.Mode.{Mode as LockMode}
 use Rattle.uid_names.specs.declared.mode.Mode.TheVariants.{Read}
-use Rattle.script_reader.specs.Arguments.{Said, Var, NewVar, Room, Offset, Count, Address, Text, Mode, Home, HomeNode, OptionalRoom, Path, OptionalPath, home_number, pages_said}
+use Rattle.script_reader.specs.Arguments.{Said, Var, NewVar, Room, Offset, Count, Address, Text, Message, Mode, Home, HomeNode, OptionalRoom, Path, OptionalPath, home_number, pages_said}
 use Rattle.script_reader.specs.NodeNames.{node_number}
 use Rattle.script_reader.specs.declared.command.Command.{Command}
-use Rattle.script_reader.specs.declared.command.Command.TheVariants.{New, Lock, Unlock, Delete, Load, Store, Length, Map, Unmap, Loadat, Storeat, Bind, Crf, Crd, Crl, Dlf, Catf, Lnf, Apf, Cpf, Ld, Wd, Llkob}
+use Rattle.script_reader.specs.declared.command.Command.TheVariants.{New, Lock, Unlock, Delete, Load, Store, Length, Map, Unmap, Loadat, Storeat, Bind, Crf, Crd, Crl, Dlf, Catf, Lnf, Apf, Cpf, Crm, Putm, Takem, Ld, Wd, Llkob}
 use Rattle.script_reader.specs.declared.script.NodeRow.{NodeRow}
 use Rattle.script_reader.specs.declared.words.Verb.{Verb}
 use Rattle.script_reader.specs.declared.words.Verb.TheVariants as verb
@@ -15,6 +15,7 @@ abbrev pub bytes_of : Said → List ℕ
 bytes_of (Var name) = name
 bytes_of (NewVar name) = name
 bytes_of (Text text) = text
+bytes_of (Message text) = text
 bytes_of (Path path) = path
 bytes_of _ = []
 
@@ -67,6 +68,9 @@ command_with nodes verb.Catf path _ _ = Catf (bytes_of path)
 command_with nodes verb.Lnf path _ _ = Lnf (bytes_of path)
 command_with nodes verb.Apf path text _ = Apf (bytes_of path) (bytes_of text)
 command_with nodes verb.Cpf path target _ = Cpf (bytes_of path) (bytes_of target)
+command_with nodes verb.Crm path _ _ = Crm (bytes_of path)
+command_with nodes verb.Putm path text _ = Putm (bytes_of path) (bytes_of text)
+command_with nodes verb.Takem path _ _ = Takem (bytes_of path)
 command_with nodes verb.Ld path _ _ = Ld (bytes_of path)
 command_with nodes verb.Wd path _ _ = Wd (path_of path)
 command_with nodes verb.Llkob node _ _ = Llkob (node_of nodes node)

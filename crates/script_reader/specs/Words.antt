@@ -12,7 +12,7 @@ use Rattle.script_reader.specs.Verbs.{verb_row}
 use Rattle.script_reader.specs.declared.words.LineWord.{LineWord}
 use Rattle.script_reader.specs.declared.words.LineWord.TheVariants.{Node, Object, Fault, Phase, Access, Subject}
 use Rattle.script_reader.specs.declared.words.Verb.{Verb}
-use Rattle.script_reader.specs.declared.words.Verb.TheVariants.{New, Lock, Unlock, Delete, Load, Store, Length, Map, Unmap, Loadat, Storeat, Bind, Crf, Crd, Crl, Dlf, Catf, Lnf, Apf, Cpf, Ld, Wd, Llkob}
+use Rattle.script_reader.specs.declared.words.Verb.TheVariants.{New, Lock, Unlock, Delete, Load, Store, Length, Map, Unmap, Loadat, Storeat, Bind, Crf, Crd, Crl, Dlf, Catf, Lnf, Apf, Cpf, Crm, Putm, Takem, Ld, Wd, Llkob}
 
 abbrev pub line_word_text : LineWord → List ℕ
 line_word_text Node = codes "node"
@@ -34,7 +34,7 @@ abbrev pub verb_text : Verb → List ℕ
 verb_text verb = (verb_row verb).word
 
 abbrev pub verbs : List Verb
-verbs = New ∷ Lock ∷ Unlock ∷ Delete ∷ Load ∷ Store ∷ Length ∷ Map ∷ Unmap ∷ Loadat ∷ Storeat ∷ Bind ∷ Crf ∷ Crd ∷ Crl ∷ Dlf ∷ Catf ∷ Lnf ∷ Apf ∷ Cpf ∷ Ld ∷ Wd ∷ Llkob ∷ []
+verbs = New ∷ Lock ∷ Unlock ∷ Delete ∷ Load ∷ Store ∷ Length ∷ Map ∷ Unmap ∷ Loadat ∷ Storeat ∷ Bind ∷ Crf ∷ Crd ∷ Crl ∷ Dlf ∷ Catf ∷ Lnf ∷ Apf ∷ Cpf ∷ Crm ∷ Putm ∷ Takem ∷ Ld ∷ Wd ∷ Llkob ∷ []
 
 -- the command that a word is
 abbrev pub verb_of : List ℕ → Option Verb

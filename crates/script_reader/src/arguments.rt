@@ -19,6 +19,9 @@ use dom_text::{TokenRef, is_name};
 use std::alloc::Global;
 use uid_names::{ByteList, Mode, NoMemory, PAGE_BYTES};
 
+/// The most bytes of a text that a mailbox takes.
+const MESSAGE_BYTES: usize = 120;
+
 /// The most arguments of a command.
 pub(crate) const MAX_ARGUMENTS: usize = 3;
 
@@ -32,6 +35,7 @@ pub(crate) enum Argument<'a> {
     Count(Option<u32>),
     Address(Option<u32>),
     Text(&'a [u8]),
+    Message(&'a [u8]),
     Mode(Mode),
     Home(Option<&'a [u8]>),
     HomeNode(&'a [u8]),
@@ -59,6 +63,7 @@ impl Argument<'_> {
             | Argument::Count(found)
             | Argument::Address(found) => found.is_some(),
             Argument::Text(text) => !text.is_empty() && text.len() <= PAGE_BYTES,
+            Argument::Message(text) => !text.is_empty() && text.len() <= MESSAGE_BYTES,
             Argument::OptionalRoom(Some(found)) => found.is_some(),
             _ => true,
         }
@@ -86,6 +91,7 @@ impl Argument<'_> {
             Argument::Var(bytes)
             | Argument::NewVar(bytes)
             | Argument::Text(bytes)
+            | Argument::Message(bytes)
             | Argument::Path(bytes) => ByteList::from_slice(alloc, bytes),
             _ => Ok(ByteList::new(alloc)),
         }
@@ -156,7 +162,7 @@ fn word_argument(kind: Kind, word: &[u8]) -> Option<Argument<'_>>
         Kind::Offset => Some(Argument::Offset(offset(word))),
         Kind::Count => Some(Argument::Count(count(word))),
         Kind::Address => Some(Argument::Address(address(word))),
-        Kind::Text => None,
+        Kind::Text | Kind::Message => None,
         Kind::Mode => Some(Argument::Mode(mode_of(word)?)),
         Kind::Home => Some(Argument::Home(Some(word))),
         Kind::HomeNode => Some(Argument::HomeNode(word)),
@@ -182,6 +188,7 @@ fn text_argument(kind: Kind, text: &[u8]) -> Option<Argument<'_>>
 {
     match kind {
         Kind::Text => Some(Argument::Text(text)),
+        Kind::Message => Some(Argument::Message(text)),
         _ => None,
     }
 }

@@ -91,6 +91,19 @@ pub enum Command {
         path: ByteList,
         target: ByteList,
     },
+    /// Makes a mailbox by a name.
+    Crm {
+        path: ByteList,
+    },
+    /// Puts a text of 1 to 120 bytes into a mailbox.
+    Putm {
+        path: ByteList,
+        text: ByteList,
+    },
+    /// Takes the first text out of a mailbox.
+    Takem {
+        path: ByteList,
+    },
     /// Lists a directory.
     Ld {
         path: ByteList,
@@ -147,6 +160,9 @@ impl Drop for Command {
             | Command::Lnf { path: _ }
             | Command::Apf { path: _, text: _ }
             | Command::Cpf { path: _, target: _ }
+            | Command::Crm { path: _ }
+            | Command::Putm { path: _, text: _ }
+            | Command::Takem { path: _ }
             | Command::Ld { path: _ }
             | Command::Wd { path: _ }
             | Command::Llkob { node: _ } => {}

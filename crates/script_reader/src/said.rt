@@ -3,7 +3,7 @@ ghost use Rattle.std.specs.Prelude.{◌≡◌, ◌≤◌, ◌<◌, length, IfOk,
 ghost use Rattle.uid_names.specs.declared.limits.TheConstants.{MAX_NODES};
 ghost use Rattle.script_reader.specs.NodeNames.{place_of};
 ghost use Rattle.script_reader.specs.SaidCommands.{bytes_of, command_said, command_with as command_with_those, home_of as home_of_argument, mode_of, node_of as node_of_argument, number_of, pages_of};
-ghost use Rattle.script_reader.specs.declared.command.Command.TheVariants.{New as NewCommand, Lock as LockCommand, Load as LoadCommand, Store as StoreCommand, Loadat as LoadatCommand, Storeat as StoreatCommand, Bind as BindCommand, Crf as CrfCommand, Crl as CrlCommand, Apf as ApfCommand, Cpf as CpfCommand};
+ghost use Rattle.script_reader.specs.declared.command.Command.TheVariants.{New as NewCommand, Lock as LockCommand, Load as LoadCommand, Store as StoreCommand, Loadat as LoadatCommand, Storeat as StoreatCommand, Bind as BindCommand, Crf as CrfCommand, Crl as CrlCommand, Apf as ApfCommand, Cpf as CpfCommand, Putm as PutmCommand};
 ghost use Rattle.script_reader.specs.Walk.Found.{IsNodeOf};
 ghost use Rattle.script_reader.specs.Walk.Seen.{seen_argument, seen_arguments};
 
@@ -86,6 +86,9 @@ fn command_with(
         Verb::Lnf => Command::Lnf { path: var },
         Verb::Apf => apf_of(alloc, var, second)?,
         Verb::Cpf => cpf_of(alloc, var, second)?,
+        Verb::Crm => Command::Crm { path: var },
+        Verb::Putm => putm_of(alloc, var, second)?,
+        Verb::Takem => Command::Takem { path: var },
         Verb::Ld => Command::Ld { path: var },
         Verb::Wd => Command::Wd {
             path: first.path(alloc)?,
@@ -237,6 +240,14 @@ fn apf_of(alloc: Global, path: ByteList, text: Argument<'_>) -> Result<Command, 
 {
     let text = text.copy(alloc)?;
     Ok(Command::Apf { path, text })
+}
+
+/// A text into the mailbox of a path.
+fn putm_of(alloc: Global, path: ByteList, text: Argument<'_>) -> Result<Command, NoMemory>
+    ensures { IfOk result (λ command. command ≡ PutmCommand path (bytes_of (seen_argument text.entry))) }
+{
+    let text = text.copy(alloc)?;
+    Ok(Command::Putm { path, text })
 }
 
 /// A copy by a path.

@@ -45,6 +45,9 @@ pub(crate) enum Verb {
     Lnf,
     Apf,
     Cpf,
+    Crm,
+    Putm,
+    Takem,
     Ld,
     Wd,
     Llkob,
@@ -66,6 +69,8 @@ pub(crate) enum Kind {
     Address,
     /// A quoted text.
     Text,
+    /// A quoted text that a mailbox takes.
+    Message,
     /// The mode of a lock.
     Mode,
     /// A node, which may be left out.
@@ -105,6 +110,9 @@ impl Verb {
             Verb::Lnf => b"lnf",
             Verb::Apf => b"apf",
             Verb::Cpf => b"cpf",
+            Verb::Crm => b"crm",
+            Verb::Putm => b"putm",
+            Verb::Takem => b"takem",
             Verb::Ld => b"ld",
             Verb::Wd => b"wd",
             Verb::Llkob => b"llkob",
@@ -137,6 +145,9 @@ impl Verb {
             Verb::Lnf => &[Kind::Path],
             Verb::Apf => &[Kind::Path, Kind::Text],
             Verb::Cpf => &[Kind::Path, Kind::Path],
+            Verb::Crm => &[Kind::Path],
+            Verb::Putm => &[Kind::Path, Kind::Message],
+            Verb::Takem => &[Kind::Path],
             Verb::Ld => &[Kind::Path],
             Verb::Wd => &[Kind::OptionalPath],
             Verb::Llkob => &[Kind::HomeNode],
@@ -195,8 +206,17 @@ fn of_first(first: u8) -> &'static [Verb]
         b's' => &[Verb::Store, Verb::Storeat],
         b'm' => &[Verb::Map],
         b'b' => &[Verb::Bind],
-        b'c' => &[Verb::Crf, Verb::Crd, Verb::Crl, Verb::Catf, Verb::Cpf],
+        b'c' => &[
+            Verb::Crf,
+            Verb::Crd,
+            Verb::Crl,
+            Verb::Catf,
+            Verb::Cpf,
+            Verb::Crm,
+        ],
         b'a' => &[Verb::Apf],
+        b'p' => &[Verb::Putm],
+        b't' => &[Verb::Takem],
         b'w' => &[Verb::Wd],
         _ => &[],
     }

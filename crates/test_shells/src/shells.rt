@@ -296,3 +296,34 @@ fn files_that_are_held_or_full_are_answered(rt: HostRuntime) -> Result<(), Fail>
     }
     Ok(())
 }
+
+#[test]
+fn mailboxes_are_answered(rt: HostRuntime) -> Result<(), Fail> {
+    let rows: [(&[u8], &[u8]); 4] = [
+        // What was put first is taken first, and nothing stays locked.
+        (
+            b"a.1 crm m\na.1 putm m \"one\"\na.1 putm m \"two\"\na.1 takem m\na.1 takem m\na.1 takem m\na.1 ld /\na.1 llkob a\n",
+            b"ok\nok\nok\nok \"one\"\nok \"two\"\nmailbox empty\nok m:mail\nok\n",
+        ),
+        // One that the process holds is not opened again, and one with a byte is bad.
+        (
+            b"a.1 crm m\na.1 bind v m\na.1 lock v w\na.1 putm m \"x\"\na.1 store v 0 \"x\"\na.1 unlock v\na.1 takem m\na.1 putm m \"x\"\na.1 llkob a\n",
+            b"ok\nok 0000000000400001\nok\nalready held\nok\nok\nbad mailbox\nbad mailbox\nok\n",
+        ),
+        // What is no mailbox holds no texts.
+        (
+            b"a.1 crf f\na.1 putm f \"x\"\na.1 takem //\na.1 takem n\na.1 crd d\na.1 putm d \"x\"\na.1 crl l f\na.1 takem l\n",
+            b"ok\nnot a mailbox\nnot a mailbox\nno name\nok\nnot a mailbox\nok\nnot a mailbox\n",
+        ),
+        // Nothing stays mapped.
+        (
+            b"a.1 crm m\na.1 putm m \"x\"\na.1 lock y w\na.1 map y\na.1 takem m\n",
+            b"ok\nok\nok\nok 00000000\nok \"x\"\n",
+        ),
+    ];
+    for (commands, expected) in rows {
+        let got = answers_at_a(rt.alloc(), commands)?;
+        assert_eq!(rt; got.bytes(), expected, "{commands:?}");
+    }
+    Ok(())
+}

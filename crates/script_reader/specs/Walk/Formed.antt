@@ -4,7 +4,7 @@ use Rattle.std.specs.List.{AllByRecursion}
 use Rattle.std.specs.Prelude.{bytes_eq}
 use Rattle.uid_names.specs.Rooms.{IsRoom}
 use Rattle.uid_names.specs.declared.limits.TheConstants.{NODE_PROCESSES}
-use Rattle.script_reader.specs.Arguments.{Said, Var, NewVar, Room, Offset, Count, Address, Text, Mode, Home, HomeNode, OptionalRoom, Path, OptionalPath}
+use Rattle.script_reader.specs.Arguments.{Said, Var, NewVar, Room, Offset, Count, Address, Text, Message, Mode, Home, HomeNode, OptionalRoom, Path, OptionalPath}
 use Rattle.script_reader.specs.Commands.{IsOffset, IsCount, IsAddress}
 use Rattle.script_reader.specs.Scripts.{Content}
 use Rattle.script_reader.specs.Sayings.{Saying, Node, Object, Fault, Subject, Does, SaidFate, Lose, Twice, Late}
@@ -20,6 +20,7 @@ kind_of (Offset found) = kind.Offset
 kind_of (Count found) = kind.Count
 kind_of (Address found) = kind.Address
 kind_of (Text text) = kind.Text
+kind_of (Message text) = kind.Message
 kind_of (Mode mode) = kind.Mode
 kind_of (Home name) = kind.Home
 kind_of (HomeNode name) = kind.HomeNode

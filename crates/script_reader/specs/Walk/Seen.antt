@@ -5,7 +5,7 @@ use Rattle.dom_text.specs.Lent.{owned_token}
 use Rattle.dom_text.specs.declared.token.Token.{Token}
 use Rattle.dom_text.specs.declared.token.TokenRef.{TokenRef}
 use Rattle.dom_text.specs.declared.token.Token.TheVariants.{Word, Text as TextToken}
-use Rattle.script_reader.specs.Arguments.{Said, Var, NewVar, Room, Offset, Count, Address, Text, Mode, Home, HomeNode, OptionalRoom, Path, OptionalPath}
+use Rattle.script_reader.specs.Arguments.{Said, Var, NewVar, Room, Offset, Count, Address, Text, Message, Mode, Home, HomeNode, OptionalRoom, Path, OptionalPath}
 use Rattle.script_reader.specs.Sayings.{Saying, Node, Object, Fault, Phase, Access, Subject, Does, SaidFate, Lose, Twice, Late}
 use Rattle.script_reader.specs.declared.line.LineFate.{LineFate}
 use Rattle.script_reader.specs.declared.line.LineFate.TheVariants.{Lose as LoseOfLine, Twice as TwiceOfLine, Late as LateOfLine}
@@ -31,6 +31,7 @@ seen_argument (words.Offset found) = Offset found
 seen_argument (words.Count found) = Count found
 seen_argument (words.Address found) = Address found
 seen_argument (words.Text text) = Text text.now
+seen_argument (words.Message text) = Message text.now
 seen_argument (words.Mode mode) = Mode mode
 seen_argument (words.Home name) = Home (seen_option name)
 seen_argument (words.HomeNode name) = HomeNode name.now

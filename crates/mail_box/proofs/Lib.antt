@@ -1,0 +1,10 @@
+pub mod Bytes
+pub mod Bad
+pub mod Places
+pub mod Machines
+pub mod Stages
+pub mod Turning
+pub mod Beginnings
+pub mod Written
+pub mod Holding
+pub mod Queueing

@@ -1,0 +1,5 @@
+use Rattle.mail_box.proofs.Machines.{ready_next}
+use Rattle.mail_box.proofs.laws.machines_take_each_reply_that_fits.Goals as goal
+
+pub returns : goal.returns
+returns c m last op reply e fits = ready_next m last op reply e fits
