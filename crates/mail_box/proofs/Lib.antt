@@ -1,7 +1,6 @@
 pub mod Bytes
 pub mod Bad
 pub mod Places
-pub mod Machines
 pub mod Stages
 pub mod Turning
 pub mod Beginnings

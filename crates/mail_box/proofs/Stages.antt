@@ -17,7 +17,7 @@ use Rattle.mail_box.specs.declared.mailing.Stage.TheVariants.{Lock, Length, Map,
 use Rattle.mail_box.specs.declared.step.MailResult.{MailResult}
 use Rattle.mail_box.specs.declared.work.MailWork.{MailWork}
 use Rattle.mail_box.specs.declared.work.MailWork.TheVariants.{Put, Take}
-use Rattle.mail_box.proofs.Machines.{asks_on}
+use Rattle.naming_tree.proofs.Standing.{asks_on}
 
 close_says : (u : ObjectName) (mapped : Bool) (decided : Option MailResult) (result : MailResult) → says (closing_left (closers_if mapped u) decided result) ≡ Do (unmap_if mapped u)
 close_says u true None result = refl

@@ -16,7 +16,7 @@ ghost use Rattle.mail_box.specs.Queues.{IsGood, PutsLast, TakesFirst};
 ghost use Rattle.mail_box.specs.declared.boxes.Head.{Head};
 
 /// A machine says what its dialogue says after all that it heard.
-#[tactic(auto, using(crate::proofs::Machines::machine_heard))]
+#[tactic(auto, using(naming_tree::proofs::Standing::machine_heard))]
 pub fn machines_go_by_all_they_heard()
     ensures { (d : Dialogue) (heard : List Reply) → FitsHeard d heard → machine_says d heard ≡ Some (says (after d heard)) }
 {}

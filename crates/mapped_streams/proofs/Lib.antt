@@ -1,4 +1,3 @@
-pub mod Machines
 pub mod Works
 pub mod Stages
 pub mod Turning

@@ -14,7 +14,7 @@ use Rattle.mapped_streams.specs.declared.streaming.Streaming.{Streaming}
 use Rattle.mapped_streams.specs.Dialogues.{Dialogue, says, unless_over, FitsSaid}
 use Rattle.mapped_streams.specs.Works.{come_of, IsWork}
 use Rattle.mapped_streams.specs.States.{closing_left, stage_left, left, stage_op, IsStage, IsStreaming}
-use Rattle.mapped_streams.proofs.Machines.{asks_on}
+use Rattle.naming_tree.proofs.Standing.{asks_on}
 use Rattle.mapped_streams.proofs.Works.{work_says}
 
 close_says : (u : ObjectName) (mapped : Bool) (refused : Option Reply) (result : StreamResult) → says (closing_left (closers_if mapped u) refused result) ≡ Do (unmap_if mapped u)

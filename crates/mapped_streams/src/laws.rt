@@ -13,7 +13,7 @@ ghost use Rattle.mapped_streams.specs.Streams.{read_all, count_lines, append, co
 ghost use Rattle.mapped_streams.specs.Served.{Asker, holds, source, ComesTo, Leaves, HasRoomFor, IsCopied};
 
 /// A machine says what its dialogue says after all that it heard.
-#[tactic(auto, using(crate::proofs::Machines::machine_heard))]
+#[tactic(auto, using(naming_tree::proofs::Standing::machine_heard))]
 pub fn machines_go_by_all_they_heard()
     ensures { (d : Dialogue) (heard : List Reply) → FitsHeard d heard → machine_says d heard ≡ Some (says (after d heard)) }
 {}

@@ -3,6 +3,7 @@ pub mod ReadingsLeft
 pub mod ReadingsOn
 pub mod WalksLeft
 pub mod Machines
+pub mod Standing
 pub mod ReadingsSay
 pub mod WalksLive
 pub mod EntriesOn

@@ -1,4 +1,5 @@
 pub mod Dialogues
+pub mod Standing
 pub mod Entering
 pub mod Sessions
 pub mod Readings

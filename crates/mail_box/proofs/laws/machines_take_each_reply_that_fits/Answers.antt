@@ -1,4 +1,4 @@
-use Rattle.mail_box.proofs.Machines.{ready_next}
+use Rattle.naming_tree.proofs.Standing.{ready_next}
 use Rattle.mail_box.proofs.laws.machines_take_each_reply_that_fits.Goals as goal
 
 pub returns : goal.returns

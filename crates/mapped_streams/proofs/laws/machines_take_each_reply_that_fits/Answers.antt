@@ -1,4 +1,4 @@
-use Rattle.mapped_streams.proofs.Machines.{ready_next}
+use Rattle.naming_tree.proofs.Standing.{ready_next}
 use Rattle.mapped_streams.proofs.laws.machines_take_each_reply_that_fits.Goals as goal
 
 pub returns : goal.returns

@@ -1,7 +1,7 @@
 use Rattle.std.proofs.Common.{Some, ap, sym, ◌∙◌}
 use Rattle.std.specs.Option.{option_copied}
 use Rattle.mail_box.specs.States.{rest}
-use Rattle.mail_box.proofs.Machines.{ready}
+use Rattle.naming_tree.proofs.Standing.{ready}
 use Rattle.plain_machines.proofs.mails.turn.Goals as goal
 
 pub returns : goal.returns

@@ -1,7 +1,7 @@
 use Rattle.std.proofs.Common.{Some, ap, sym, ◌∙◌}
 use Rattle.std.specs.Option.{option_copied}
 use Rattle.mapped_streams.specs.States.{rest}
-use Rattle.mapped_streams.proofs.Machines.{ready}
+use Rattle.naming_tree.proofs.Standing.{ready}
 use Rattle.plain_machines.proofs.streams.turn.Goals as goal
 
 pub returns : goal.returns
