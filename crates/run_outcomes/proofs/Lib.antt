@@ -4,3 +4,4 @@ pub mod Added
 pub mod BestRows
 pub mod Same
 pub mod Counted
+pub mod Joined

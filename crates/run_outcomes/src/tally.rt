@@ -2,7 +2,7 @@
 ghost use Rattle.std.specs.Prelude.{◌≡◌, ◌↔◌, ◌+◌, ◌-◌, ◌<◌, ◌≤◌, ◌^◌, ℕ, [], IsTrue, IsNone, IfSome, OnOk, OnErr, IfOk, Contains, All, length, nat_lt, false};
 ghost use Rattle.std.specs.List.{position};
 ghost use Rattle.run_outcomes.specs.Outcomes.{same_outcome};
-ghost use Rattle.run_outcomes.specs.Tallies.{empty_tally, fresh_row, noted, tallied, tallied_by, is_commoner, IsCommonest};
+ghost use Rattle.run_outcomes.specs.Tallies.{empty_tally, fresh_row, noted, tallied, tallied_by, with_more, row_tallied, row_tallied_by, rows_tallied, is_commoner, IsCommonest};
 
 use crate::outcome::{Outcome, OutcomeRow, copy_outcome, is_same_outcome};
 use std::alloc::Global;
@@ -29,14 +29,14 @@ pub struct Tally {
 }
 
 impl Model for Tally {
-    ghost use Rattle.std.specs.Prelude.{◌≤◌, All};
-    ghost use Rattle.run_outcomes.specs.Tallies.{Tallied};
+    ghost use Rattle.std.specs.Prelude.{◌≡◌, ◌+◌};
+    ghost use Rattle.run_outcomes.specs.Tallies.{Tallied, counts_of};
 
     ghost Value = { Tallied };
 
     ghost view = { λ t. record { rows = t.rows.items; rest = t.rest; added = t.added } };
 
-    ghost invariant = { λ t. All (λ k. k.count ≤ t.added) t.rows.items × (t.rest ≤ t.added) };
+    ghost invariant = { λ t. counts_of t.rows.items + t.rest ≡ t.added };
 }
 
 /// Where the row of an outcome stands.
@@ -65,6 +65,15 @@ fn note(row: &mut KeptOutcome, number: u64)
 {
     row.count += 1;
     row.lowest = number.min(row.lowest);
+}
+
+/// Notes that the numbers of another row gave the outcome of a row.
+fn note_row(row: &mut KeptOutcome, more: &KeptOutcome)
+    requires few { row.old.count + more.now.count < 2 ^ 64 }
+    ensures { row.new ≡ with_more more.now row.old }
+{
+    row.count += more.count;
+    row.lowest = more.lowest.min(row.lowest);
 }
 
 impl Tally {
@@ -116,6 +125,48 @@ impl Tally {
         }
         self.rest += 1;
         self.added += 1;
+        Ok(())
+    }
+
+    /// Adds the numbers of a row of another tally. Memory is wanted only for an outcome that was not met before; without it the tally stays as it was.
+    fn add_row(&mut self, more: KeptOutcome) -> Result<(), NoMemory>
+        requires few { self.old.added + more.count < 2 ^ 64 }
+        ensures ok { OnOk result (self.new ≡ row_tallied more self.old) }
+        ensures err { OnErr result (self.new ≡ self.old) }
+    {
+        let Some(at) = place_of(&self.rows, more.outcome.items()) else {
+            return self.add_other_row(more);
+        };
+        self.added += more.count;
+        note_row(&mut self.rows[at], &more);
+        Ok(())
+    }
+
+    /// Adds the numbers of a row whose outcome is not kept.
+    fn add_other_row(&mut self, more: KeptOutcome) -> Result<(), NoMemory>
+        requires few { self.old.added + more.count < 2 ^ 64 }
+        ensures ok { OnOk result (self.new ≡ row_tallied_by false (nat_lt (length self.old.rows) KEPT_OUTCOMES) more self.old) }
+        ensures err { OnErr result (self.new ≡ self.old) }
+    {
+        let count = more.count;
+        if self.rows.len() < KEPT_OUTCOMES {
+            self.rows.push(more)?;
+        } else {
+            self.rest += count;
+        }
+        self.added += count;
+        Ok(())
+    }
+
+    /// Adds all rows of another tally, in order. Memory is wanted for outcomes that were not met before; without it some of the rows were added.
+    pub fn add_rows(&mut self, other: Tally) -> Result<(), NoMemory>
+        requires few { self.old.added + other.added < 2 ^ 64 }
+        ensures added { OnOk result (self.new ≡ rows_tallied other.rows self.old) }
+        ensures total { OnOk result (self.new.added + other.rest ≡ self.old.added + other.added) }
+    {
+        for row in other.rows {
+            self.add_row(row)?;
+        }
         Ok(())
     }
 
