@@ -1,8 +1,10 @@
 -- The tally is that of all numbers that gave answers.
-use Rattle.std.proofs.Common.{◌≡◌, ℕ, ◌+◌, List, [], ◌∷◌, refl, sym, ap, ◌∙◌}
+use Rattle.std.proofs.Common.{◌≡◌, ℕ, ◌+◌, ◌≤◌, List, [], ◌∷◌, length, refl, arith, sym, ap, ◌∙◌}
 use Rattle.run_outcomes.specs.Tallies.{Tallied, tallied}
 use Rattle.run_outcomes.specs.Counts.{Gave, tally_of}
+use Rattle.run_outcomes.specs.declared.tally.TheConstants.{KEPT_OUTCOMES}
 use Rattle.run_outcomes.proofs.Counted.{tally_of_more}
+use Rattle.run_outcomes.proofs.Joined.{few_are_kept as all_kept}
 use Rattle.explored_counts.specs.declared.came.CameOf.{CameOf}
 use Rattle.explored_counts.specs.declared.came.CameOf.TheVariants.{Answers, LastTick, NoMemory}
 use Rattle.explored_counts.specs.declared.seen.Explored.{Explored}
@@ -19,3 +21,15 @@ tally-from number (came ∷ rest) e past is = tally-from (number + 1) rest (expl
 
 pub tally_of_came : (number : ℕ) (came : List CameOf) → (explored_from number came empty_explored).tally ≡ tally_of (gave_from number came [])
 tally_of_came number came = tally-from number came empty_explored [] refl
+
+-- no more numbers gave answers than there are
+gave-length : (number : ℕ) (came : List CameOf) (past : List Gave) → length (gave_from number came past) ≤ length past + length came
+gave-length number [] past = omega arith
+gave-length number (Answers outcome ∷ rest) past = omega (arith, gave-length (number + 1) rest (gave_with number (Answers outcome) past))
+gave-length number (LastTick ∷ rest) past = omega (arith, gave-length (number + 1) rest past)
+gave-length number (NoMemory ∷ rest) past = omega (arith, gave-length (number + 1) rest past)
+
+pub few_are_kept : (number : ℕ) (came : List CameOf) → length came ≤ KEPT_OUTCOMES → (explored_from number came empty_explored).tally.rest ≡ 0
+few_are_kept number came few =
+    ap (λ (t : Tallied). t.rest) (tally_of_came number came)
+    ∙ all_kept (gave_from number came []) (omega (arith, few, gave-length number came []))

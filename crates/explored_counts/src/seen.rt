@@ -1,6 +1,6 @@
 //! What came of numbers, counted.
-ghost use Rattle.std.specs.Prelude.{◌≡◌, ◌+◌, ◌-◌, ◌<◌, ◌≤◌, ◌^◌, length, Some, OnOk};
-ghost use Rattle.explored_counts.specs.Seen.{empty_explored, missed_with, explored_with, explored_from, total_of, missed_count};
+ghost use Rattle.std.specs.Prelude.{◌≡◌, ◌+◌, ◌-◌, ◌<◌, ◌≤◌, ◌^◌, Some, OnOk, All};
+ghost use Rattle.explored_counts.specs.Seen.{empty_explored, both_missed as both, missed_with, explored_with, joined, joined_all, total_of, totals_of, missed_count};
 
 use crate::came::CameOf;
 use run_outcomes::Tally;
@@ -39,6 +39,24 @@ fn one_more_missed(so_far: Option<Missed>, number: u64) -> Missed
     }
 }
 
+/// Numbers that have no answers for one cause, with more of them.
+fn both_missed(so_far: Option<Missed>, more: Option<Missed>) -> Option<Missed>
+    requires { missed_count so_far + missed_count more < 2 ^ 64 }
+    ensures both { result ≡ both more so_far }
+    ensures count { missed_count result ≡ missed_count so_far + missed_count more }
+{
+    let Some(more) = more else {
+        return so_far;
+    };
+    let Some(missed) = so_far else {
+        return Some(more);
+    };
+    Some(Missed {
+        count: missed.count + more.count,
+        lowest: more.lowest.min(missed.lowest),
+    })
+}
+
 impl Explored {
     /// No number was added. Takes no memory.
     pub fn new(alloc: Global) -> Explored
@@ -65,15 +83,29 @@ impl Explored {
         Ok(())
     }
 
-    /// Adds what came of this number and of those that follow it.
-    pub fn add_all(&mut self, alloc: Global, from: u64, came: &[CameOf]) -> Result<(), NoMemory>
-        requires few { total_of self.old + length came.now < 2 ^ 64 }
-        requires fits { from + length came.now < 2 ^ 64 }
-        ensures added { OnOk result (self.new ≡ explored_from from came.now self.old) }
-        ensures total { OnOk result (total_of self.new ≡ total_of self.old + length came.now) }
+    /// Adds what came of other numbers, of which all outcomes are kept. Memory is wanted for outcomes that were not met before; without it some of them were
+    /// added.
+    pub fn join(&mut self, more: Explored) -> Result<(), NoMemory>
+        requires few { total_of self.old + total_of more < 2 ^ 64 }
+        requires kept { more.tally.rest ≡ 0 }
+        ensures added { OnOk result (self.new ≡ joined more self.old) }
+        ensures total { OnOk result (total_of self.new ≡ total_of self.old + total_of more) }
     {
-        for i in 0..came.len() {
-            self.add(alloc, from + i as u64, &came[i])?;
+        self.tally.add_rows(more.tally)?;
+        self.last_tick = both_missed(self.last_tick, more.last_tick);
+        self.no_memory = both_missed(self.no_memory, more.no_memory);
+        Ok(())
+    }
+
+    /// Adds what came of the numbers of several lists, one after another, of each of which all outcomes are kept. Memory is wanted for outcomes that were
+    /// not met before; without it some of them were added.
+    pub fn join_all(&mut self, parts: Vec<Explored>) -> Result<(), NoMemory>
+        requires few { total_of self.old + totals_of parts.items < 2 ^ 64 }
+        requires kept { All (λ part. part.tally.rest ≡ 0) parts.items }
+        ensures added { OnOk result (self.new ≡ joined_all parts.items self.old) }
+    {
+        for part in parts {
+            self.join(part)?;
         }
         Ok(())
     }
