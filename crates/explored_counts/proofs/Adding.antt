@@ -1,8 +1,8 @@
 -- What came of the numbers of a list, and of those that follow them.
-use Rattle.std.proofs.Common.{◌≡◌, ℕ, ◌+◌, ◌≤◌, Bool, true, false, nat_lt, Option, Some, None, List, [], ◌∷◌, ◌++◌, length, min, refl, arith, sym, ap, subst, ◌∙◌}
+use Rattle.std.proofs.Common.{◌≡◌, ℕ, ◌+◌, ◌≤◌, Bool, true, false, nat_lt, Option, Some, None, List, [], ◌∷◌, ◌++◌, length, min, refl, arith, sym, ap, ◌∙◌}
 use Rattle.run_outcomes.specs.declared.outcome.OutcomeRow.{OutcomeRow}
 use Rattle.run_outcomes.specs.declared.tally.TheConstants.{KEPT_OUTCOMES}
-use Rattle.run_outcomes.specs.Tallies.{Tallied, is_kept, rows_tallied, tallied, tallied_by}
+use Rattle.run_outcomes.specs.Tallies.{Tallied, is_kept, rows_tallied, tallied_by}
 use Rattle.run_outcomes.proofs.Joined.{rows_one_more, rest-grows}
 use Rattle.explored_counts.specs.declared.came.CameOf.{CameOf}
 use Rattle.explored_counts.specs.declared.came.CameOf.TheVariants.{Answers, LastTick, NoMemory}

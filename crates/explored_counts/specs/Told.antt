@@ -4,7 +4,7 @@ use Rattle.std.specs.List.{flat_map}
 use Rattle.node_texts.specs.Texts.{process_text}
 use Rattle.run_outcomes.specs.declared.tally.KeptOutcome.{KeptOutcome}
 use Rattle.run_outcomes.specs.declared.difference.Difference.{Difference}
-use Rattle.run_outcomes.specs.Tallies.{Tallied, IsCommonest}
+use Rattle.run_outcomes.specs.Tallies.{IsCommonest}
 use Rattle.run_outcomes.specs.Differing.{outcome_differences}
 use Rattle.explored_counts.specs.declared.seen.Missed.{Missed}
 use Rattle.explored_counts.specs.declared.seen.Explored.{Explored}

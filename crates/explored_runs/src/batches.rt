@@ -6,8 +6,8 @@ use dom_text::put_decimal;
 use std::alloc::Global;
 use uid_names::{ByteList, NoMemory};
 
-/// So many numbers a thread are run before it is told how far it came.
-const BATCH: u64 = 32;
+/// So many numbers a thread are run before it is told how far it came. Threads wait for one another behind each batch.
+const BATCH: u64 = 512;
 
 /// No more threads are started at a time than this.
 pub(crate) const MOST_THREADS: usize = 1_024;

@@ -3,7 +3,7 @@ ghost use Rattle.std.specs.Prelude.{◌≤◌, IfOk};
 ghost use Rattle.explored_runs.specs.Explored.{IsExplored};
 
 use crate::batches::{MOST_THREADS, batch_end, tell};
-use crate::numbers::came_of_numbers;
+use crate::numbers::explored_of_numbers;
 use dom_io::Sink;
 use explored_counts::Explored;
 use script_reader::Script;
@@ -29,8 +29,8 @@ pub fn explore<R: Threads, N: Sink>(
     let mut next = first;
     while next < end {
         let to = batch_end(next, end, threads);
-        let came = came_of_numbers(rt, alloc, script, next, to, threads.min(MOST_THREADS))?;
-        explored.add_all(alloc, next, came.as_slice())?;
+        let parts = explored_of_numbers(rt, alloc, script, next, to, threads.min(MOST_THREADS))?;
+        explored.join_all(parts)?;
         next = to;
         if let Some(notes) = &mut notes {
             tell(alloc, *notes, next - first, end - first);

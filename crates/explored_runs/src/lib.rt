@@ -12,4 +12,4 @@ pub mod numbers;
 pub use came::came_of;
 pub use exploring::explore;
 pub use finding::find;
-pub use numbers::{Found, came_of_numbers};
+pub use numbers::{Found, explored_of_numbers};

@@ -1,64 +1,86 @@
-//! What came of each of many numbers, and the lowest of them whose journal has a line with some words, on several threads.
-ghost use Rattle.std.specs.Prelude.{◌≡◌, ◌+◌, ◌≤◌, ◌<◌, length, IfOk};
+//! What came of many numbers, counted, and the lowest of them whose journal has a line with some words, on several threads.
+ghost use Rattle.std.specs.Prelude.{◌≡◌, ◌≤◌, ◌<◌, IfOk};
 ghost use Rattle.script_runs.specs.Reports.{names_of as names_in};
-ghost use Rattle.explored_runs.specs.Came.{AreCameOf};
+ghost use Rattle.explored_runs.specs.Explored.{AreParts, IsExplored};
 ghost use Rattle.explored_runs.specs.Sought.{IsFound};
 
 use crate::came::came_of;
 use crate::journals::line_of;
 use dom_history::NodeNames;
-use explored_counts::CameOf;
+use explored_counts::Explored;
+use run_outcomes::KEPT_OUTCOMES;
 use script_reader::Script;
 use std::alloc::Global;
 use std::thread::{Threads, join};
 use uid_names::{ByteList, NoMemory};
 
-/// What came of each of the numbers from one up to another, which is none of them, one after another.
-fn came_in_turn(alloc: Global, script: &Script, from: u64, to: u64) -> Result<Vec<CameOf>, NoMemory>
-    requires { from ≤ to }
-    ensures are { IfOk result (λ list. AreCameOf script.now from list.items) }
-    ensures all { IfOk result (λ list. from + length list.items ≡ to) }
+/// What came of so many numbers is counted at a time, so that each of their outcomes is kept.
+const PART: u64 = KEPT_OUTCOMES as u64;
+
+/// What came of the numbers from one up to another, which is none of them, counted.
+fn explored_part(alloc: Global, script: &Script, from: u64, to: u64) -> Result<Explored, NoMemory>
+    requires order { from ≤ to }
+    ensures { IfOk result (IsExplored script.now from to) }
 {
-    let mut list = Vec::new(alloc);
+    let mut explored = Explored::new(alloc);
     for number in from..to {
-        list.push(came_of(alloc, script, number))?;
+        explored.add(alloc, number, &came_of(alloc, script, number))?;
     }
-    Ok(list)
+    Ok(explored)
 }
 
-/// What came of each of the numbers from one up to another, which is none of them, in their order. They are run on as many threads as are asked
-/// for, of which each has as many of them.
-pub fn came_of_numbers<R: Threads>(
+/// The same, in parts of which all outcomes are kept.
+fn explored_in_turn(
+    alloc: Global,
+    script: &Script,
+    from: u64,
+    to: u64,
+) -> Result<Vec<Explored>, NoMemory>
+    requires { from ≤ to }
+    ensures { IfOk result (λ parts. AreParts script.now from to parts.items) }
+{
+    let mut parts = Vec::new(alloc);
+    let mut next = from;
+    while next < to {
+        let end = next + PART.min(to - next);
+        parts.push(explored_part(alloc, script, next, end)?)?;
+        next = end;
+    }
+    Ok(parts)
+}
+
+/// What came of the numbers from one up to another, which is none of them, counted in parts, in their order. They are run on as many threads as are
+/// asked for, of which each has as many of them, and counts what comes of its own.
+pub fn explored_of_numbers<R: Threads>(
     rt: &R,
     alloc: Global,
     script: &Script,
     from: u64,
     to: u64,
     threads: usize,
-) -> Result<Vec<CameOf>, NoMemory>
+) -> Result<Vec<Explored>, NoMemory>
     requires { from ≤ to }
-    ensures are { IfOk result (λ list. AreCameOf script.now from list.items) }
-    ensures all { IfOk result (λ list. from + length list.items ≡ to) }
+    ensures { IfOk result (λ parts. AreParts script.now from to parts.items) }
 {
     if threads <= 1 {
-        return came_in_turn(alloc, script, from, to);
+        return explored_in_turn(alloc, script, from, to);
     }
     let middle = from + (to - from) / threads as u64;
     let (first, second) = join(
         rt,
-        || -> Result<Vec<CameOf>, NoMemory>
+        || -> Result<Vec<Explored>, NoMemory>
             requires { from ≤ middle }
-            ensures { IfOk result (λ list. AreCameOf script.entry.now from list.items × (from + length list.items ≡ middle)) }
-        { came_in_turn(alloc, script, from, middle) },
-        || -> Result<Vec<CameOf>, NoMemory>
+            ensures { IfOk result (λ parts. AreParts script.entry.now from middle parts.items) }
+        { explored_in_turn(alloc, script, from, middle) },
+        || -> Result<Vec<Explored>, NoMemory>
             requires { (middle ≤ to) × (1 < threads) }
-            ensures { IfOk result (λ list. AreCameOf script.entry.now middle list.items × (middle + length list.items ≡ to)) }
-        { came_of_numbers(rt, alloc, script, middle, to, threads - 1) },
+            ensures { IfOk result (λ parts. AreParts script.entry.now middle to parts.items) }
+        { explored_of_numbers(rt, alloc, script, middle, to, threads - 1) },
     );
-    let mut list = first?;
+    let mut parts = first?;
     let mut rest = second?;
-    list.append(&mut rest)?;
-    Ok(list)
+    parts.append(&mut rest)?;
+    Ok(parts)
 }
 
 /// A number of turns, and the first line of its journal that has the words.
