@@ -1,4 +1,0 @@
-pub mod Commands
-pub mod Texts
-pub mod Mailboxes
-pub mod Histories
