@@ -5,25 +5,16 @@ use Rattle.dom_history.specs.declared.op.Reply.{Reply}
 use Rattle.naming_tree.specs.declared.step.Step.TheVariants as steps
 use Rattle.naming_tree.specs.Dialogues.{asked}
 use Rattle.naming_tree.specs.Dialogues as names
-use Rattle.mail_box.specs.Dialogues.{Dialogue, Ends, Asks, told_last, said_to, says, unless_over, left_after}
+use Rattle.mail_box.specs.Dialogues.{Dialogue, said_to}
 use Rattle.mail_box.specs.States.{left, rest, IsMailing}
 use Rattle.mail_box.specs.Turns.{stood_after}
 use Rattle.mail_box.specs.declared.mailing.Mailing.{Mailing}
 use Rattle.mail_box.specs.declared.step.MailResult.{MailResult}
 use Rattle.mail_box.proofs.Turning.{IsOn, on_next}
-use Rattle.command_talks.specs.FileTalks.{mail_asks, mail_left, mail_told, mail_turn}
+use Rattle.command_talks.specs.FileTalks.{mail_asks, mail_told, mail_turn}
 use Rattle.command_talks.specs.declared.file_talk.FileTalk.TheVariants.{Mails}
 use Rattle.command_talks.specs.declared.file_talk.FileTurn.TheVariants.{Goes, Comes}
 use Rattle.command_talks.specs.Mailed.{mail_outcome}
-
-left_asks : (d : Dialogue) (op : Op) → Some (steps.Do op) ≡ Some (says d) → mail_left (unless_over d) ≡ Some op
-left_asks (Ends result) op e = cc
-left_asks (Asks other further) op e = let same : other ≡ op = cc in ap Some same
-
--- it asks, where it stands then, what it said
-pub mail_asking : (r : Option Dialogue) (last : Option Reply) (op : Op) → Some (steps.Do op) ≡ said_to r last → mail_left (left_after r last) ≡ Some op
-mail_asking None last op says = cc
-mail_asking (Some d) last op says = left_asks (told_last d last) op says
 
 -- it goes on with what it says, or has come to its result
 pub mail_goes : (m : Option Mailing) (last : Option Reply) (op : Op) → Some (steps.Do op) ≡ said_to (rest m) last → Some (Goes (Mails (stood_after m last)) op) ≡ mail_told m last

@@ -1,18 +1,19 @@
 -- The machines of names and of streams stand where their dialogues do.
-use Rattle.std.proofs.Common.{◌≡◌, Option, Some, None, List, [], ◌∷◌, refl, ap, ◌∙◌, sym, subst}
+use Rattle.std.proofs.Common.{◌≡◌, Option, Some, None, List, [], ◌∷◌, refl, ap, ◌∙◌, sym, subst, arith}
 use Rattle.dom_history.specs.declared.op.Op.{Op}
 use Rattle.dom_history.specs.declared.op.Reply.{Reply}
 use Rattle.naming_tree.specs.declared.step.Step.TheVariants.{Do}
 use Rattle.naming_tree.specs.Dialogues.{asked}
 use Rattle.naming_tree.specs.Dialogues as names
 use Rattle.naming_tree.specs.Sayings.{SaysAs}
+use Rattle.naming_tree.specs.Standing.{left_after, said_to, told_last, unless_over}
 use Rattle.naming_tree.specs.Turns.{does, Turn, Goes, Comes, state_of, step_of, stood_after, stood_says, machine_after}
 use Rattle.mapped_streams.specs.declared.streaming.Streaming.{Streaming}
 use Rattle.mapped_streams.specs.Dialogues as streams
 use Rattle.mapped_streams.specs.States.{left, rest, IsStreaming}
 use Rattle.mapped_streams.specs.Turns.{stood_after as stream_after}
 use Rattle.mapped_streams.proofs.Turning.{IsOn, on_next}
-use Rattle.command_talks.specs.FileTalks.{asked_at, stream_asks}
+use Rattle.command_talks.specs.FileTalks.{asked_at, op_left, stream_asks}
 
 module _ {S : Type 0} (asks : S → Option Op) (go : S → Option Reply → Turn S) where
   -- a machine asks, where it stands, what it said
@@ -67,7 +68,17 @@ module _ {S : Type 0} (asks : S → Option Op) (go : S → Option Reply → Turn
   pub name_asked : (m : Option S) (d : names.Dialogue) (op : Op) → NameOn asks go m d → names.says d ≡ Do op → asked_at asks m ≡ Some op
   name_asked m d op h said = ap (asked_at asks) h.there ∙ asked_heard h.made h.whole h.heard op h.tells h.fits (ap names.says (sym h.on) ∙ said)
 
--- so does a stream
+-- what is left of a dialogue asks what was said last
+module _ {R : Type 0} where
+  left_asks : (d : names.DialogueOf R) (op : Op) → Some (Do op) ≡ Some (names.says d) → op_left (unless_over d) ≡ Some op
+  left_asks (names.Ends result) op e = absurd (grind (arith, e))
+  left_asks (names.Asks other further) op e = let same : other ≡ op = grind (arith, e) in ap Some same
+
+  pub left_asking : (r : Option (names.DialogueOf R)) (last : Option Reply) (op : Op) → Some (Do op) ≡ said_to r last → op_left (left_after r last) ≡ Some op
+  left_asking None last op e = absurd (grind (arith, e))
+  left_asking (Some d) last op e = left_asks (told_last d last) op e
+
+-- a stream stands where its dialogue does
 pub stream_begun : (s : Streaming) → IsStreaming s → (streams.said_to (rest (Some s)) None ≡ Some (names.says (left s))) × IsOn (stream_after (Some s) None) (left s)
 stream_begun s h = (refl, (h, refl))
 

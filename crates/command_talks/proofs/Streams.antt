@@ -1,11 +1,10 @@
 -- What the code knows of machines of files at their streams.
 use Rattle.std.proofs.Common.{◌≡◌, Option, Some, None, ap, ◌∙◌, sym}
-use Rattle.dom_history.specs.declared.op.Op.{Op}
 use Rattle.dom_history.specs.declared.op.Reply.{Reply}
 use Rattle.mapped_streams.specs.Dialogues.{StreamStep}
 use Rattle.naming_tree.specs.declared.step.Step.TheVariants.{Do, Over}
 use Rattle.mapped_streams.specs.declared.streaming.Streaming.{Streaming}
-use Rattle.mapped_streams.specs.Dialogues.{Dialogue, Ends, Asks, said_to, says, told_last, unless_over, left_after, IsStep, MayHear}
+use Rattle.mapped_streams.specs.Dialogues.{Dialogue, said_to, left_after, IsStep, MayHear}
 use Rattle.mapped_streams.specs.States.{rest}
 use Rattle.mapped_streams.specs.Turns.{stood_after}
 use Rattle.mapped_streams.specs.declared.step.StreamResult.{StreamResult}
@@ -13,18 +12,11 @@ use Rattle.command_talks.specs.FileTalks.{file_asks, file_turn, op_left, over_tu
 use Rattle.command_talks.specs.FileTurns.{file_after, file_says, AsksSaid}
 use Rattle.command_talks.specs.declared.file_talk.FileTalk.{FileTalk}
 use Rattle.command_talks.specs.declared.file_talk.FileTalk.TheVariants.{Seeks, Reaches, LooksUp, ReadsList, Lists, Changes, Reads, Counts, Appends, Mails, Opens, Adds, Copies, Closes}
-
-left_asks : (d : Dialogue) (op : Op) → Some (Do op) ≡ Some (says d) → op_left (unless_over d) ≡ Some op
-left_asks (Ends result) op e = cc
-left_asks (Asks other further) op e = let same : other ≡ op = cc in ap Some same
-
-pub stream_asking : (r : Option Dialogue) (last : Option Reply) (op : Op) → Some (Do op) ≡ said_to r last → op_left (left_after r last) ≡ Some op
-stream_asking None last op says = cc
-stream_asking (Some d) last op says = left_asks (told_last d last) op says
+use Rattle.command_talks.proofs.Machines.{left_asking}
 
 -- a machine asks, where it stands then, what its stream said
 pub said_asks : (talk : FileTalk) (r : Option Dialogue) (last : Option Reply) (step : StreamStep) → file_asks talk ≡ op_left (left_after r last) → Some step ≡ said_to r last → IsStep step → AsksSaid talk (Some step)
-said_asks talk r last (Do op) asks says is = (asks ∙ stream_asking r last op says, is)
+said_asks talk r last (Do op) asks says is = (asks ∙ left_asking r last op says, is)
 said_asks talk r last (Over result) asks says is = tt
 
 -- a stream says something to what fits

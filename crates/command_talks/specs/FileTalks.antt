@@ -35,8 +35,8 @@ use Rattle.mapped_streams.specs.Dialogues.{StreamStep}
 use Rattle.mapped_streams.specs.declared.streaming.Streaming.{Streaming}
 use Rattle.mapped_streams.specs.declared.work.Side.TheVariants.{Before}
 use Rattle.mapped_streams.specs.declared.work.Work.TheVariants as works
-use Rattle.naming_tree.specs.Dialogues.{asked}
-use Rattle.mapped_streams.specs.Dialogues.{Dialogue, MayHear, said_to}
+use Rattle.naming_tree.specs.Dialogues.{DialogueOf, asked}
+use Rattle.mapped_streams.specs.Dialogues.{MayHear, said_to}
 use Rattle.mapped_streams.specs.States.{rest, streaming_of}
 use Rattle.mapped_streams.specs.Turns.{stood_after as stream_after}
 use Rattle.mail_box.specs.Dialogues.{MailStep}
@@ -75,21 +75,18 @@ abbrev pub asked_at : {S : Type 0} → (S → Option Op) → Option S → Option
 asked_at asks None = None
 asked_at asks (Some state) = asks state
 
--- what a stream asks where it stands
-abbrev pub op_left : Option Dialogue → Option Op
+-- what a machine of a file asks, by what is left of its dialogue
+abbrev pub op_left : {R : Type 0} → Option (DialogueOf R) → Option Op
 op_left None = None
 op_left (Some d) = asked d
 
+-- so a stream
 abbrev pub stream_asks : Option Streaming → Option Op
 stream_asks m = op_left (rest m)
 
 -- and a machine of a mailbox
-abbrev pub mail_left : Option boxes.Dialogue → Option Op
-mail_left None = None
-mail_left (Some d) = asked d
-
 abbrev pub mail_asks : Option Mailing → Option Op
-mail_asks m = mail_left (box_states.rest m)
+mail_asks m = op_left (box_states.rest m)
 
 -- what opens the source of a copy
 abbrev pub opening_op : ObjectName → Opening → Op

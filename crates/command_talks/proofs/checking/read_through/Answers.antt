@@ -9,7 +9,7 @@ use Rattle.command_talks.specs.declared.file_talk.FileTalk.TheVariants.{ReadsLis
 use Rattle.command_talks.specs.declared.file_talk.FileTurn.{FileTurn}
 use Rattle.command_talks.specs.declared.file_talk.FileTurn.TheVariants.{Goes}
 use Rattle.command_talks.proofs.CheckReads.{check_comes, check_goes}
-use Rattle.command_talks.proofs.Streams.{stream_asking}
+use Rattle.command_talks.proofs.Machines.{left_asking}
 use Rattle.command_talks.proofs.checking.read_through.Goals as goal
 
 pub returns-in-Do-clause-turn : goal.returns-in-Do-clause-turn
@@ -19,7 +19,7 @@ returns-in-Do-clause-turn c =
 
 pub returns-in-Do-clause-asks : goal.returns-in-Do-clause-asks
 returns-in-Do-clause-asks c = (
-  ap op_left c.in_ok-op.ensures.left ∙ stream_asking (rest c.args.stream) (option_copied c.args.last) c.in-Do.op (sym (ap Some c.in-Do.is) ∙ c.in_ok-op.ensures.step),
+  ap op_left c.in_ok-op.ensures.left ∙ left_asking (rest c.args.stream) (option_copied c.args.last) c.in-Do.op (sym (ap Some c.in-Do.is) ∙ c.in_ok-op.ensures.step),
   subst IsStep c.in-Do.is c.in_ok-op.ensures.range,
 )
 

@@ -4,12 +4,13 @@ use Rattle.std.proofs.lemmas.Result.{IfOk-weaker}
 use Rattle.naming_tree.specs.Dialogues.{IsStep}
 use Rattle.mail_box.specs.States.{rest}
 use Rattle.mail_box.specs.declared.mailing.Mailing.{Mailing}
-use Rattle.command_talks.specs.FileTalks.{file_turn, mail_left}
+use Rattle.command_talks.specs.FileTalks.{file_turn, op_left}
 use Rattle.command_talks.specs.Mailed.{mail_outcome}
 use Rattle.command_talks.specs.declared.file_talk.FileTalk.TheVariants.{Mails}
 use Rattle.command_talks.specs.declared.file_talk.FileTurn.{FileTurn}
 use Rattle.command_talks.specs.declared.file_talk.FileTurn.TheVariants.{Comes, Goes}
-use Rattle.command_talks.proofs.Boxes.{mail_asking, mail_comes, mail_goes}
+use Rattle.command_talks.proofs.Boxes.{mail_comes, mail_goes}
+use Rattle.command_talks.proofs.Machines.{left_asking}
 use Rattle.command_talks.proofs.seeking.mail_on.Goals as goal
 
 pub returns-in-Do-clause-turn : goal.returns-in-Do-clause-turn
@@ -19,7 +20,7 @@ returns-in-Do-clause-turn c =
 
 pub returns-in-Do-clause-asks : goal.returns-in-Do-clause-asks
 returns-in-Do-clause-asks c = (
-  ap mail_left c.in_ok-op.ensures.left ∙ mail_asking (rest c.args.machine) (option_copied c.args.last) c.in-Do.op (sym (ap Some c.in-Do.is) ∙ c.in_ok-op.ensures.step),
+  ap op_left c.in_ok-op.ensures.left ∙ left_asking (rest c.args.machine) (option_copied c.args.last) c.in-Do.op (sym (ap Some c.in-Do.is) ∙ c.in_ok-op.ensures.step),
   subst IsStep c.in-Do.is c.in_ok-op.ensures.range,
 )
 
