@@ -48,10 +48,10 @@ explored-joined s first next to was more so_far is none = record {
   are = are-append s first so_far.came is.came so_far.are (subst (λ n. AreCameOf s n is.came) (sym so_far.all) is.are);
   all = omega (arith, so_far.all, is.all, length-append so_far.came is.came);
   counted =
-    let behind : more ≡ explored_from (first + length so_far.came) is.came empty_explored = is.counted ∙ ap (λ n. explored_from n is.came empty_explored) (sym so_far.all) in
-    ap (λ m. joined m was) behind
-    ∙ (ap (joined (explored_from (first + length so_far.came) is.came empty_explored)) so_far.counted
-    ∙ joined_is_all first so_far.came is.came (sym (ap (λ (m : Explored). m.tally.rest) behind) ∙ none));
+      let behind : more ≡ explored_from (first + length so_far.came) is.came empty_explored = is.counted ∙ ap (λ n. explored_from n is.came empty_explored) (sym so_far.all) in
+      ap (λ m. joined m was) behind
+      ∙ (ap (joined (explored_from (first + length so_far.came) is.came empty_explored)) so_far.counted
+      ∙ joined_is_all first so_far.came is.came (sym (ap (λ (m : Explored). m.tally.rest) behind) ∙ none));
 }
 
 -- ---- parts
@@ -79,7 +79,11 @@ parts-total s from to [] are = omega (arith, are)
 parts-total s from to (part ∷ rest) are = omega (arith, explored-total s from are.0 part are.1, parts-total s are.0 to rest are.3, sum_by-cons total_of part rest)
 
 -- all of them were explored behind what was
-pub parts-joined : (s : Content) (first next to : ℕ) (was : Explored) (parts : List Explored) → IsExplored s first next was → AreParts s next to parts → IsExplored s first to (joined_all parts was)
+parts-joined : (s : Content) (first next to : ℕ) (was : Explored) (parts : List Explored) → IsExplored s first next was → AreParts s next to parts → IsExplored s first to (joined_all parts was)
 parts-joined s first next to was [] so_far are = subst (λ n. IsExplored s first n was) are so_far
 parts-joined s first next to was (part ∷ rest) so_far are =
     parts-joined s first are.0 to (joined part was) rest (explored-joined s first next are.0 was part so_far are.1 are.2) are.3
+
+-- a batch of parts was
+pub batch-explored : (s : Content) (first next to : ℕ) (was now : Explored) (parts : List Explored) → IsExplored s first next was → AreParts s next to parts → now ≡ joined_all parts was → IsExplored s first to now
+batch-explored s first next to was now parts so_far are is = subst (IsExplored s first to) (sym is) (parts-joined s first next to was parts so_far are)

@@ -1,4 +1,4 @@
-use Rattle.std.proofs.Common.{◌≡◌, sym, ap, subst, arith}
+use Rattle.std.proofs.Common.{sym, ap, subst, arith}
 use Rattle.explored_counts.specs.Seen.{total_of}
 use Rattle.explored_runs.specs.Explored.{IsExplored}
 use Rattle.explored_runs.proofs.Lists.{explored-none, explored-next}
