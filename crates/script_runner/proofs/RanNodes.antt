@@ -38,7 +38,8 @@ use Rattle.script_runs.specs.Processes.{processes_of}
 use Rattle.script_runs.specs.Setups.{setup_of}
 use Rattle.script_runs.specs.Runs.{IsEndedRunOf, IsPickedRunOf, ComesToTick}
 use Rattle.script_runs.specs.Reports.{names_of, rows_of}
-use Rattle.script_runs.specs.Histories.{heard_in, IsAsOneStore, AreAnswersOfHistory}
+use Rattle.script_runs.specs.Histories.{heard_in, script_history, IsAsOneStore, AreAnswersOfHistory}
+use Rattle.mail_runs.specs.Mailboxes.{AreMailboxesKept}
 use Rattle.node_threads.specs.Ran.{HaveRun, EndsTogether}
 use Rattle.script_runs.proofs.ProcsWith.{processes_of-All}
 use Rattle.script_runs.proofs.Running.{map-each}
@@ -117,6 +118,9 @@ NameTheirNodes = (s : Content) → IsContent s → IsStart s.opening → (events
 abbrev pub AreAsOneStore : Type 0
 AreAsOneStore = (s : Content) → IsContent s → IsStart s.opening → (events : List Happening) (w : World) → IsEndedRunOf s events w → IsAsOneStore s events w
 
+abbrev pub KeepMailboxes : Type 0
+KeepMailboxes = (s : Content) → IsContent s → IsStart s.opening → (events : List Happening) (w : World) → IsEndedRunOf s events w → AreMailboxesKept s (script_history s events)
+
 abbrev pub AnswerByHistory : Type 0
 AnswerByHistory = (s : Content) → IsContent s → IsStart s.opening → (events : List Happening) (w : World) → IsEndedRunOf s events w → AreAnswersOfHistory s events w
 
@@ -180,9 +184,9 @@ module _ (s : Content) (content : IsContent s) (turns : Option ℕ) (last : ℕ)
 
   module _ (start : IsStart s.opening) where
     -- what came of the script
-    pub ran_is : AreAsOneStore → AnswerByHistory → ((p : ProcName) (heard : Heard) → shell_answers (program_after shell_after (shell_of s p) heard) ≡ answers s p heard)
+    pub ran_is : AreAsOneStore → KeepMailboxes → AnswerByHistory → ((p : ProcName) (heard : Heard) → shell_answers (program_after shell_after (shell_of s p) heard) ≡ answers s p heard)
         → (procs : List ProcName) → procs ≡ processes_of s.commands → (rows : List AnswerRow) → map answers_in rows ≡ map (row_in programs) procs → RunOf s turns last (record { events = events; answers = rows })
-    ran_is one_store by_history answered procs are rows same =
+    ran_is one_store kept by_history answered procs are rows same =
         record {
           events = ended.done;
           world = ended.world;
@@ -190,6 +194,7 @@ module _ (s : Content) (content : IsContent s) (turns : Option ℕ) (last : ℕ)
           picked = ended.picked;
           below = ended.below;
           one_store = one_store s content start ended.done ended.world ended.run;
+          mailboxes = kept s content start ended.done ended.world ended.run;
           recent = ended.recent;
           by_place = ended.by_place;
           answered = same ∙ (rows_are answered procs are ∙ by_history s content start ended.done ended.world ended.run);

@@ -268,8 +268,9 @@ pub fn run_domain<S: Source, O: Sink, J: Sink, K: Gate, R: Threads + Wait + Sync
     // nodes have ended in it. Its history is one of one store without nodes or caches, and holds each process's commands once and in
     // order, to their end, in phases that never overlap; the report is exactly its answers, just one for each command. And at each
     // unlock of a held lock what its process stored last is at its home; and everything is, where no other process holds the
-    // object shared. Where the words ask for the script of a seed it is the generated one, and in place of the report stands the
-    // line that sums up its answers.
+    // object shared. What was taken out of a mailbox to which it has no stores but those of putm and takem is at each place a first
+    // part of what was put, with at most 56 texts between, and its commands are answered so. Where the words ask for the script of a
+    // seed it is the generated one, and in place of the report stands the line that sums up its answers.
     ensures kept { (a : Asked) → AskFor words.now a → Promised a (over S.left S.faults script.old script.new)
         (over O.held O.faults out.old out.new) (over J.held J.faults journal.old journal.new) result }
 

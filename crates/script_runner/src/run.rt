@@ -16,6 +16,7 @@ use aegis_shell::laws::shells_go_by_all_they_heard;
 use dom_history::{EventList, MergedLogs};
 use local_runs::merge;
 use local_runs::merged::logs_of_local_runs_may_be_merged;
+use mail_runs::laws::ended_runs_keep_mailboxes;
 use node_core::RunFault;
 use node_threads::{Gate, make_posts, run_all};
 use script_reader::Script;
@@ -161,6 +162,7 @@ fn what_came(alloc: Global, script: &Script, ended: Ended<'_>) -> Result<MergedR
     let _start = script.opening().nodes();
     ended_runs_of_scripts_name_their_nodes();
     ended_runs_of_scripts_are_as_one_store();
+    ended_runs_keep_mailboxes();
     answers_are_functions_of_histories();
     shells_go_by_all_they_heard();
     Ok(MergedRan { events, answers })

@@ -11,6 +11,7 @@ returns-clause-ran c =
       picked = ran.picked;
       below = ran.below;
       one_store = ran.one_store;
+      mailboxes = ran.mailboxes;
       recent = ran.recent;
       by_place = c.in_ok-to_list.ensures ∙ ran.by_place;
       answered = ran.answered;

@@ -26,6 +26,6 @@ returns-clause-ran c turns last ended =
     let s = c.args.script.now in
     let procs : c.as_slice-2.result.now ≡ processes_of c.args.script.now.commands = c.as_slice-2.ensures.value ∙ (c.in_ok-procs.ensures ∙ ap processes_of c.commands.ensures.value) in
     ran_is s c.commands.ensures.content turns last c.args.ended.0.events c.args.ended.1.items ended (subst IsStart c.opening.ensures.value c.nodes-start.ensures.start)
-    c.ended_runs_of_scripts_are_as_one_store.ensures c.answers_are_functions_of_histories.ensures.ended (c.shells_go_by_all_they_heard.ensures.answers s)
+    c.ended_runs_of_scripts_are_as_one_store.ensures c.ended_runs_keep_mailboxes.ensures c.answers_are_functions_of_histories.ensures.ended (c.shells_go_by_all_they_heard.ensures.answers s)
     c.as_slice-2.result.now procs c.in_ok-answers.answers
     (c.in_ok-answers.ensures ∙ ap (λ shells. map (row_in shells) c.as_slice-2.result.now) c.as_slice.ensures.value)
