@@ -197,7 +197,7 @@ maps_stage v w work (Count o h) reply on = absurd on
 maps_stage v w work (Close mapped) reply on = absurd (map_close v w work mapped reply on)
 
 place_told : (op : Op) (reply : Reply) (w : ObjectName) → IsPlaced op reply w → (a : ℕ) × (fresh : Bool) × (reply ≡ replies.At a fresh)
-place_told (ops.Map v) (replies.At a fresh) w on = (a, (fresh, refl))
+place_told (ops.Map v) (replies.At a fresh) w on = (a, fresh, refl)
 place_told _ _ w on = absurd on
 
 -- an entry of a process stands among the items
@@ -212,17 +212,17 @@ split_own p [] newer older e is = absurd (none_there newer is)
     none_there (y ∷ xs) x = cc
 split_own p (Acted a ∷ items) newer older e is =
     let there = split_own p items newer older e is in
-    (Acted a ∷ there.0, (there.1, (ap (λ xs. Acted a ∷ xs) there.2, (there.3, there.4))))
+    (Acted a ∷ there.0, there.1, ap (λ xs. Acted a ∷ xs) there.2, there.3, there.4)
 split_own p (Answered f ∷ items) newer older e is = by_proc (same_proc f.proc p) refl (λ xs rest. split_own p items xs older e rest)
   where
     further : IsSplit p items older e → IsSplit p (Answered f ∷ items) older e
-    further there = (Answered f ∷ there.0, (there.1, (ap (λ zs. Answered f ∷ zs) there.2, (there.3, there.4))))
+    further there = (Answered f ∷ there.0, there.1, ap (λ zs. Answered f ∷ zs) there.2, there.3, there.4)
 
     by_newer : (xs : List Entry) → f ∷ own_in items p ≡ xs ++ e ∷ older → same_proc f.proc p ≡ true → ((ys : List Entry) → own_in items p ≡ ys ++ e ∷ older → IsSplit p items older e) → IsSplit p (Answered f ∷ items) older e
     by_newer [] same mine before =
         let first : f ≡ e = cc in
         let rest : own_in items p ≡ older = cc in
-        ([], (items, (ap (λ x. Answered x ∷ items) first, (rest, subst (λ (x : Entry). same_proc x.proc p ≡ true) first mine))))
+        ([], items, ap (λ x. Answered x ∷ items) first, rest, subst (λ (x : Entry). same_proc x.proc p ≡ true) first mine)
     by_newer (y ∷ xs) same mine before =
         let rest : own_in items p ≡ xs ++ e ∷ older = cc in
         further (before xs rest)
@@ -402,7 +402,7 @@ module _ (s : Content) (start : IsStart s.opening) (works : (p : ProcName) → A
         let there = follow s p (works p) all number (IsSo s u p number) (Means s u p number) kept_so before.0 past (subst (AreAsked s) before.1 asked) ([], before.1) (inl going) in
         let end : Stands s p (works p) all number (IsSo s u p number) (Means s u p number) all = subst (Stands s p (works p) all number (IsSo s u p number) (Means s u p number)) (sym before.1) there in
         let answered = done_answers s p (works p) all number (IsSo s u p number) (Means s u p number) all asked (done p) end in
-        (answered.result, (answered.text, answered.holds))
+        (answered.result, answered.text, answered.holds)
 
     -- an entry of the command behind its lock is one of its machine
     going_at : (e : Entry) (past : List Item) → e.proc ≡ p → Behind (Answered e ∷ past) → number_behind s past p ≡ number → IsOpenedBy s u p number (own_in past p) → is_mail (command_at s p number) ≡ true
@@ -451,7 +451,7 @@ module _ (s : Content) (start : IsStart s.opening) (works : (p : ProcName) → A
     at_first : (a : ℕ) → a + 0 ≡ a
     at_first a = omega arith
 
-    counts_at : List Item → Head
+    abbrev counts_at : List Item → Head
     counts_at past = head_at s u past
 
     -- its command, at its machine
@@ -460,7 +460,7 @@ module _ (s : Content) (start : IsStart s.opening) (works : (p : ProcName) → A
     command_at_it past m behind here command number_is is =
         let on = mail_at (part_of s p) (pos s p past) m (keeps_at past behind) here in
         let same : on.job.command ≡ command = same_Some on.job.command command (sym (command_here s p past on.job on.jobs on.left_is) ∙ (ap (command_at s p) number_is ∙ is)) in
-        (on.work, (sym (ap work_of same) ∙ on.work_is, on.on.0))
+        (on.work, sym (ap work_of same) ∙ on.work_is, on.on.0)
 
     turn_numbers : (m : Mailing) (o : Opened) (reply : Reply) (loaded : List ℕ) (verdict : MailResult) → m.stage ≡ Numbers o → reply ≡ replies.Bytes loaded → judged m.work (head_of loaded) ≡ Some verdict → turn m reply ≡ Goes (known_if m.uid m.work o (head_of loaded) (Some verdict))
     turn_numbers m o reply loaded verdict stage told found =

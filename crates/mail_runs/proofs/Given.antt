@@ -77,7 +77,7 @@ module _ (s : Content) (h : History) (follows : (p : ProcName) → FollowsAt (as
 
   pub all_asked : (newer past : List Item) → h.items ≡ newer ++ past → AreAsked s past
   all_asked newer [] is = tt
-  all_asked newer (Answered e ∷ past) is = (asked_at newer past e is, (fits_at newer past e is, (ranged_at newer past e is, all_asked (newer ++ Answered e ∷ []) past (is ∙ one_on newer (Answered e) past))))
+  all_asked newer (Answered e ∷ past) is = (asked_at newer past e is, fits_at newer past e is, ranged_at newer past e is, all_asked (newer ++ Answered e ∷ []) past (is ∙ one_on newer (Answered e) past))
     where
       one_on : (xs : List Item) (x : Item) (ys : List Item) → xs ++ x ∷ ys ≡ (xs ++ x ∷ []) ++ ys
       one_on [] x ys = refl

@@ -81,7 +81,7 @@ not_empty text h n none count =
 
 first_of : {X : Type 0} (xs : List X) → 1 ≤ length xs → (x : X) × (rest : List X) × (xs ≡ x ∷ rest)
 first_of [] some = absurd (omega (arith, some))
-first_of (x ∷ rest) some = (x, (rest, refl))
+first_of (x ∷ rest) some = (x, rest, refl)
 
 module _ (s : Content) (u : ObjectName) where
   -- no more was put than items stand there
@@ -161,7 +161,7 @@ module _ (s : Content) (u : ObjectName) where
     knows_still p work (Map n) own known = known ∙ sym leaves.same.0
     knows_still p work (Numbers o) own known = ap extent_of leaves.same.0 ∙ known
     knows_still p work (Message o h) own known = (known.0 ∙ sym head_same, known.1)
-    knows_still p work (Count o h) own known = (known.0 ∙ sym head_same, (known.1, ready_stays p work h own known.2))
+    knows_still p work (Count o h) own known = (known.0 ∙ sym head_same, known.1, ready_stays p work h own known.2)
     knows_still p work Lock own known = tt
     knows_still p work Length own known = tt
     knows_still p work (Close mapped) own known = tt
@@ -271,12 +271,10 @@ module _ (s : Content) (u : ObjectName) where
     text_so before o h None leaves is none there last = tt
     text_so before o h (Some text) leaves is none there last = (
       is ∙ sym (head_same past new_items leaves),
+      none,
       (
-        none,
-        (
-          ap text_in (bytes_stay s.opening (eff_of past) (eff_of new_items) u (place_of h.taken) 128 (λ i b. leaves.same.1 (place_of h.taken + i))) ∙ there,
-          own_last [] e.op (same_proc-itself e.proc) ∙ last,
-        ),
+        ap text_in (bytes_stay s.opening (eff_of past) (eff_of new_items) u (place_of h.taken) 128 (λ i b. leaves.same.1 (place_of h.taken + i))) ∙ there,
+        own_last [] e.op (same_proc-itself e.proc) ∙ last,
       ),
     )
 
@@ -330,7 +328,7 @@ module _ (s : Content) (u : ObjectName) where
               order = same_puts ∙ box.order ∙ ap (λ xs. xs ++ box.between) (sym same_takes);
               holds = subst (λ x. Holds s.opening (eff_of new_items) u x box.between) (sym same_head) holds;
             },
-            (sym same_head, (none, there)),
+            (sym same_head, none, there),
           )
 
       stored_so : (reply : Reply) → e.reply ≡ reply → Turned (Goes (behind_stored u (Put text) o h reply))

@@ -1,5 +1,5 @@
 -- A walk along a path, and an object that is read whole, ask for no store and for no lock to write.
-use Rattle.std.proofs.Common.{◌≡◌, ℕ, Bool, true, false, Option, Some, None, List, [], ◌∷◌, map, refl}
+use Rattle.std.proofs.Common.{◌≡◌, ◌+◌, ℕ, Bool, true, false, Option, Some, None, List, [], ◌∷◌, map, refl}
 use Rattle.uid_names.specs.Names.{ObjectName}
 use Rattle.uid_names.specs.declared.mode.Mode.TheVariants.{Read, Write}
 use Rattle.dom_history.specs.declared.op.Op.{Op}
@@ -17,6 +17,7 @@ use Rattle.naming_tree.specs.declared.walking.Aim.{Aim}
 use Rattle.naming_tree.specs.declared.walking.Aim.TheVariants.{Begin, Name, Link}
 use Rattle.naming_tree.specs.declared.walking.Walking.{Walking}
 use Rattle.mapped_streams.specs.Dialogues.{Dialogue}
+use Rattle.mapped_streams.specs.Gathering.{gathered_with}
 use Rattle.mapped_streams.specs.Pages.{page_load, pages_from}
 use Rattle.mapped_streams.specs.States.{closing_left, opened_left, stage_left}
 use Rattle.mapped_streams.specs.Streams.{loading, shutting}
@@ -142,7 +143,9 @@ map_so u work refused n (replies.At address fresh) is = works_so (is_done (recor
 map_so u work refused n reply is = is
 
 read_on : (page : ℕ) (gathered : Gathered) (u : ObjectName) (refused : Option Reply) (o : Opened) (reply : Reply) → IsReadWork (behind_work u (works.Read page gathered) refused o reply).work
-read_on page gathered u refused o (replies.Bytes more) = works_so _ u _ refused o tt
+read_on page gathered u refused o (replies.Bytes more) =
+    let next = works.Read (page + 1) (gathered_with gathered more) in
+    works_so (is_done o.at next) u next refused o tt
 read_on page gathered u refused o reply = tt
 
 work_so : (u : ObjectName) (work : Work) (refused : Option Reply) (o : Opened) (reply : Reply) → IsReadWork work → IsReadWork (behind_work u work refused o reply).work

@@ -23,7 +23,8 @@ use Rattle.dom_history.specs.StoreEffects.{StoreEffect, store_effects}
 use Rattle.script_reader.specs.Scripts.{Content}
 use Rattle.aegis_shell.specs.States.{State, left, want_left, want_of}
 use Rattle.aegis_shell.specs.Work.{Job, Part, part_of}
-use Rattle.mail_box.specs.Boxes.{place_of}
+use Rattle.mail_box.specs.Boxes.{head_bytes, place_of}
+use Rattle.mail_box.specs.Mails.{counted}
 use Rattle.mail_box.specs.States.{stage_op}
 use Rattle.mail_box.specs.Turns.{Turn, Goes, Comes, stage_turn, state_of, turn}
 use Rattle.mail_box.specs.declared.mailing.Mailing.{Mailing}
@@ -82,7 +83,7 @@ module _ (opening : Start) (eff : List StoreEffect) (q : ProcName) (v u : Object
           put_uid Fine on = named_by o.address (place_of h.put) is_open (omega (arith, place_high h.put)) on
           put_uid r on = absurd (false≢true on)
       by_work (Take text) on = absurd (false≢true on)
-  store_uid work (Count o h) reply is_open on = count_uid o.address _ reply is_open on
+  store_uid work (Count o h) reply is_open on = count_uid o.address (head_bytes (counted work h)) reply is_open on
   store_uid work (Close mapped) reply is_open on = close_uid mapped work reply on
 
 -- a machine is about to lock, or holds the lock

@@ -28,6 +28,7 @@ use Rattle.command_talks.specs.declared.outcome.Outcome.TheVariants.{Replied}
 use Rattle.command_talks.specs.declared.talk.Talk.{Talk}
 use Rattle.dir_records.specs.Paths.{route_of}
 use Rattle.naming_tree.specs.Walking.{walk_of}
+use Rattle.aegis_shell.specs.AnswerTexts.{so_far}
 use Rattle.aegis_shell.specs.Outcomes.{outcome_text}
 use Rattle.aegis_shell.specs.Plans.{Talks, Writes}
 use Rattle.aegis_shell.specs.RangeTests.{is_op}
@@ -192,13 +193,13 @@ module _ (part : Part) (at : State) (job : Job) (jobs : List Job) (is : left par
         })
 
     mail_hears : (m : Option Mailing) (t : Option FileTurn) → session part at ≡ m → GoesAs m (Some reply) t → Hears part at reply (settled part (on_going (on_turn (of_file t)) at (finished part at job.command)))
-    mail_hears m None was goes = inl (ended_begins _)
+    mail_hears m None was goes = inl (ended_begins (Replied Fine))
     mail_hears m (Some (files.Comes outcome)) was goes = inl (ended_begins outcome)
     mail_hears m (Some (files.Goes talk op)) was goes = by_good (is_op op)
       where
         by_good : (good : Bool) → Hears part at reply (settled part (on_going (cond good (Goes (Talking (talk_in (Some talk)))) (Comes (Replied Fine))) at (finished part at job.command)))
         by_good true = mail_stays m talk was goes
-        by_good false = inl (ended_begins _)
+        by_good false = inl (ended_begins (Replied Fine))
 
     -- beside its machine it comes to the beginning of one at most
     starts_hears : (t : Option FileTurn) → Starts w t → Hears part at reply (settled part (on_going (on_turn (of_file t)) at (finished part at job.command)))
@@ -212,12 +213,12 @@ module _ (part : Part) (at : State) (job : Job) (jobs : List Job) (is : left par
     file_hears _ t at_it was follows = absurd at_it
 
     talk_hears : (o : Option FileTalk) → OfTalk (OfMail w) w o → session part at ≡ mail_in_talk o → Hears part at reply (settled part (on_going (on_turn (turn_in o (Some reply))) at (finished part at job.command)))
-    talk_hears None at_it was = inl (ended_begins _)
+    talk_hears None at_it was = inl (ended_begins (Replied Fine))
     talk_hears (Some talk) at_it was = file_hears talk (file_turn talk (Some reply)) at_it was (file_follows w talk (Some reply) at_it)
 
     may_hears : (may : Bool) (talk : Talk) → OfTalk (OfMail w) w talk.at → session part at ≡ mail_in_talk talk.at → Hears part at reply (settled part (on_going (on_talk may talk (Some reply)) at (finished part at job.command)))
     may_hears true talk at_it was = talk_hears talk.at at_it was
-    may_hears false talk at_it was = inl (ended_begins _)
+    may_hears false talk at_it was = inl (ended_begins (Replied (so_far (Some reply))))
 
     stage_hears : (stage : Stage) → at.stage ≡ stage → OfStage (OfMail w) w stage → Hears part at reply (settled part (heard_at part at job stage (Some reply)))
     stage_hears Between e keeps = inl (phase_begins e)
