@@ -7,6 +7,7 @@ use Rattle.std.proofs.lemmas.List.Kept.{AllPairs-cons}
 use Rattle.uid_names.specs.Names.{IsProcNumber}
 use Rattle.uid_names.specs.Openings.{Start, IsStart, IsDeclarable}
 use Rattle.uid_names.specs.Beginnings.{CanHomeBegin, at_home}
+use Rattle.uid_names.proofs.Wires.{wire_room-least}
 use Rattle.dom_history.specs.Follows.{Heard}
 use Rattle.dom_history.specs.Objects.{is_node}
 use Rattle.dom_history.specs.Ranges.{IsWant}
@@ -79,6 +80,7 @@ pub counting_is : (rounds : ℕ) → IsSetup (counting rounds)
 counting_is rounds = record {
   start = is_start;
   begins = record { homes = begins_at };
+  wire = record { version = (omega arith, omega arith); rooms = let least = wire_room-least 2 in omega (arith, least) };
   frames = All-cons IsFrames 8 (8 ∷ 8 ∷ []) eight_frames (All-cons IsFrames 8 (8 ∷ []) eight_frames (All-cons IsFrames 8 [] eight_frames (All-nil IsFrames)));
   all_frames = refl;
   phases_low = omega arith;
@@ -89,7 +91,7 @@ counting_is rounds = record {
 }
 
 abbrev node_setup : ℕ → NodeSetup
-node_setup n = record { node = n; nodes = 3; frames = 8; phases = 2 }
+node_setup n = record { node = n; nodes = 3; wire = 2; frames = 8; phases = 2 }
 
 -- which processes have a program
 has_one : (rounds p : ℕ) → list_any (λ q. q == p) (1 ∷ []) ≡ is_some (program_in (team rounds) p)
@@ -107,13 +109,13 @@ given_at : (rounds n : ℕ) → 1 ≤ n → n ≤ 3 → IsGivenAt rounds n
 given_at rounds = by_three (IsGivenAt rounds) one two three
   where
     one : IsGivenAt rounds 1
-    one = record { number = refl; opening = refl; frames = refl; phases = refl; programs = has_one rounds; asks = λ p y is heard. ap (λ o. asks_of o heard) is }
+    one = record { number = refl; opening = refl; wire = refl; frames = refl; phases = refl; programs = has_one rounds; asks = λ p y is heard. ap (λ o. asks_of o heard) is }
 
     two : IsGivenAt rounds 2
-    two = record { number = refl; opening = refl; frames = refl; phases = refl; programs = has_one rounds; asks = λ p y is heard. ap (λ o. asks_of o heard) is }
+    two = record { number = refl; opening = refl; wire = refl; frames = refl; phases = refl; programs = has_one rounds; asks = λ p y is heard. ap (λ o. asks_of o heard) is }
 
     three : IsGivenAt rounds 3
-    three = record { number = refl; opening = refl; frames = refl; phases = refl; programs = has_one rounds; asks = λ p y is heard. ap (λ o. asks_of o heard) is }
+    three = record { number = refl; opening = refl; wire = refl; frames = refl; phases = refl; programs = has_one rounds; asks = λ p y is heard. ap (λ o. asks_of o heard) is }
 
 abbrev StandsMade : ℕ → ℕ → Noted Counter → Bool → Type 0
 StandsMade rounds n x b = Stands want_of counter_after (made_if b rounds) (given (counting rounds) n) x (first_node (given (counting rounds) n))

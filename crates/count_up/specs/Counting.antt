@@ -35,6 +35,7 @@ abbrev pub counting : ℕ → Setup
 counting rounds =
     record {
       opening = start;
+      wire = 2;
       frames = 8 ∷ 8 ∷ 8 ∷ [];
       phases = 2;
       programs = (1 ∷ []) ∷ (1 ∷ []) ∷ (1 ∷ []) ∷ [];

@@ -17,6 +17,9 @@ const NODES: u8 = 3;
 /// One to count in, and one to see what came of it.
 const PHASES: u32 = 2;
 
+/// In which version they write what they send each other: 2 leaves out the bytes of a page that are all zero.
+const WIRE: u8 = 2;
+
 /// How many page frames each has.
 const FRAMES: u16 = 8;
 
@@ -61,6 +64,7 @@ fn counting_node(
     let setup = NodeSetup {
         node: node(number),
         nodes: NODES,
+        wire: WIRE,
         frames: FRAMES,
         phases: PHASES,
     };

@@ -64,6 +64,7 @@ fn frame_text(
 /// What the header of a frame has to say.
 fn said(frame: &Frame) -> Head {
     Head {
+        version: frame.version(),
         kind: frame.body().kind(),
         from: frame.from(),
         to: frame.to(),

@@ -16,12 +16,16 @@ use uid_names::{
     MAX_LENGTH, MAX_ROOM, NoMemory, NodeId, ObjKind, Opening, PAGE_BYTES, ProcId, Uid,
 };
 
+/// The version of its frames, which can carry each body.
+const WIRE: u8 = 2;
+
 /// The home side of node 2, and the tick of its last event.
 #[derive(Drop)]
 pub struct HomeBench {
     server: PageServer<ListPages>,
     tick: u64,
     ghost in_step: { server.tick ≤ tick },
+    ghost version: { server.wire ≡ 2 },
 }
 
 impl HomeBench {
@@ -49,7 +53,8 @@ impl HomeBench {
         requires { CanHomeBegin (at_home node opening.now.objects) }
     {
         let home = Home::new(alloc, node, ListPages::new(alloc), opening)?;
-        let server = PageServer::new(alloc, home)?;
+        let _node = home.node();
+        let server = PageServer::new(alloc, home, WIRE)?;
         Ok(HomeBench { server, tick: 0 })
     }
 
@@ -76,7 +81,7 @@ impl HomeBench {
             bail!("no such request");
         }
         let tick = self.tick + 1;
-        let frame = Frame::new(caller.node(), to, caller.number(), number, tick, body);
+        let frame = Frame::new(WIRE, caller.node(), to, caller.number(), number, tick, body);
         self.tick = tick;
         Ok(self.server.serve(alloc, &frame, tick)?)
     }

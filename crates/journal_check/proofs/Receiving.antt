@@ -68,9 +68,9 @@ module _ (w : World) (calls : AreCalls w) (from to index : ℕ) (k : Kept) (is :
       let m = x.frame in
       let same : bare_of from to h ≡ bare m =
       ap (bare_of from to) x.head
-      ∙ (ap (λ a. let f : Message = record { from = a; to = to; proc = m.proc; number = m.number; tick = m.tick; body = body_for (is_request m.body) } in f) (sym x.link.sender)
-      ∙ (ap (λ a. let f : Message = record { from = m.from; to = a; proc = m.proc; number = m.number; tick = m.tick; body = body_for (is_request m.body) } in f) (sym x.link.receiver)
-      ∙ ap (λ (b : Body). let f : Message = record { from = m.from; to = m.to; proc = m.proc; number = m.number; tick = m.tick; body = b } in f) (bare-body m.body))) in
+      ∙ (ap (λ a. let f : Message = record { version = m.version; from = a; to = to; proc = m.proc; number = m.number; tick = m.tick; body = body_for (is_request m.body) } in f) (sym x.link.sender)
+      ∙ (ap (λ a. let f : Message = record { version = m.version; from = m.from; to = a; proc = m.proc; number = m.number; tick = m.tick; body = body_for (is_request m.body) } in f) (sym x.link.receiver)
+      ∙ ap (λ (b : Body). let f : Message = record { version = m.version; from = m.from; to = m.to; proc = m.proc; number = m.number; tick = m.tick; body = b } in f) (bare-body m.body))) in
       subst (λ (o : Option Message). IsTakenOf w to o (Some (received.Frame (bare_of from to h)))) (sym x.sent) (inr (same, is.over index m gone x.sent))
 
   pub taken-none : head_at index k.heads ≡ None → IsTakenAs w from to index None

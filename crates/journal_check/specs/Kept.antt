@@ -2,6 +2,7 @@
 use Rattle.std.specs.Prelude.{◌≡◌, ℕ, zero, suc, ◌≤◌, ◌==◌, nat_le, Bool, true, false, not, ◌&&◌, is_some, Option, Some, None, List, length, slice_get, All}
 use Rattle.std.specs.List.{find}
 use Rattle.std.specs.Option.{option_map}
+use Rattle.uid_names.specs.Wires.{IsWire}
 use Rattle.dom_history.specs.declared.event.What.TheVariants.{Notice}
 use Rattle.ring_messages.specs.Bodies.{is_request}
 use Rattle.ring_messages.specs.Frames.{Message}
@@ -26,10 +27,11 @@ pub record IsHead (h : Head) : Type 0 where
   pub proc_high : h.proc ≤ 4
   pub number : 1 ≤ h.number
   pub tick : 1 ≤ h.tick
+  pub version : IsWire h.version
 
 -- the head of a frame, and whether the frame was told as lost or late
 abbrev pub head_of : Message → Bool → Head
-head_of m told = record { number = m.number; tick = m.tick; proc = m.proc; asks = is_request m.body; told = told }
+head_of m told = record { number = m.number; tick = m.tick; proc = m.proc; version = m.version; asks = is_request m.body; told = told }
 
 -- the head of the frame of this number, counted from 1
 abbrev pub head_at : ℕ → List Head → Option Head
@@ -50,7 +52,7 @@ body_for true = bodies.List None
 body_for false = bodies.Done
 
 abbrev pub bare_of : ℕ → ℕ → Head → Message
-bare_of from to h = record { from = from; to = to; proc = h.proc; number = h.number; tick = h.tick; body = body_for h.asks }
+bare_of from to h = record { version = h.version; from = from; to = to; proc = h.proc; number = h.number; tick = h.tick; body = body_for h.asks }
 
 -- a request of this process that is not above this one, at whose node this one was taken
 abbrev pub is_served : ℕ → ℕ → Message → Bool

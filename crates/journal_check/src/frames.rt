@@ -12,12 +12,13 @@ use std::alloc::Global;
 use std::marker::Model;
 use uid_names::{NoMemory, NodeId};
 
-/// What is kept of each frame: whose call it is of, when it was sent, whether it asks or answers, and whether it was told as lost or late.
+/// What is kept of each frame: whose call it is of, when it was sent, in which version, whether it asks or answers, and whether it was told as lost or late.
 #[derive(Clone, Copy, Debug, PartialEq, Eq)]
 pub struct Head {
     pub number: u64,
     pub tick: u64,
     pub proc: u8,
+    pub version: u8,
     pub asks: bool,
     pub told: bool,
 }
@@ -41,6 +42,7 @@ fn sent_head(frame: &Frame) -> Head
         number: frame.number(),
         tick: frame.tick(),
         proc: frame.proc(),
+        version: frame.version(),
         asks: frame.body().is_request(),
         told: false,
     }
@@ -56,7 +58,8 @@ fn bare_frame(from: NodeId, to: NodeId, head: &Head) -> Frame
     } else {
         Body::Done
     };
-    Frame::new(from, to, head.proc, head.number, head.tick, body)
+    let (proc, number) = (head.proc, head.number);
+    Frame::new(head.version, from, to, proc, number, head.tick, body)
 }
 
 /// Whether a frame is a request of this process that is not above this one.

@@ -1,4 +1,4 @@
--- What came out of a ring was taken whole, since no frame there is of another link, and no mark stands twice.
+-- What came out of a ring was taken whole, since no frame there is of another link or version, and no mark stands twice.
 use Rattle.std.proofs.Common.{◌≡◌, ℕ, ◌+◌, ◌≤◌, List, [], ◌∷◌, ◌++◌, map, Some, inl, inr, refl, sym, ap, ◌∙◌, append-nil, arith}
 use Rattle.std.specs.Prelude.{◌==◌}
 use Rattle.std.proofs.lemmas.Bool.{eq-eqb}
@@ -55,20 +55,20 @@ marks-put phase fate (Posting.Mark at tick ∷ xs) =
     omega (arith, a, c)
 
 -- a copy has a frame of the link, a mark its tick
-abbrev pub IsGoodEntry : ℕ → ℕ → Waiting → Parcel → Type 0
-IsGoodEntry from n (waiting.Copy index) received = (m : Message) × (received ≡ parcel.Frame (spelling m)) × (m.from ≡ from) × (m.to ≡ n) × IsFrame m
-IsGoodEntry from n (waiting.Mark phase) received = (tick : ℕ) × (received ≡ parcel.Mark tick)
+abbrev pub IsGoodEntry : ℕ → ℕ → ℕ → Waiting → Parcel → Type 0
+IsGoodEntry wire from n (waiting.Copy index) received = (m : Message) × (received ≡ parcel.Frame (spelling m)) × (m.from ≡ from) × (m.to ≡ n) × IsFrame m × (m.version ≡ wire)
+IsGoodEntry wire from n (waiting.Mark phase) received = (tick : ℕ) × (received ≡ parcel.Mark tick)
 
-abbrev pub IsGood : ℕ → ℕ → Carried → Type 0
-IsGood from n (carried.Gone proc number index tick) = Unit {0}
-IsGood from n (carried.Put e) = IsGoodEntry from n e.waiting e.received
+abbrev pub IsGood : ℕ → ℕ → ℕ → Carried → Type 0
+IsGood wire from n (carried.Gone proc number index tick) = Unit {0}
+IsGood wire from n (carried.Put e) = IsGoodEntry wire from n e.waiting e.received
 
-module _ (from n : ℕ) (xs : List Posting) (links : (k : ℕ) (m : Message) → numbered k (frames_of xs) ≡ Some m → (m.from ≡ from) × (m.to ≡ n) × IsFrame m) where
-  pub good-entry : (w : Waiting) (r : Parcel) → IsFrameOf (parcels_of xs) r w → IsMarkIn xs r w → IsGoodEntry from n w r
+module _ (wire from n : ℕ) (xs : List Posting) (links : (k : ℕ) (m : Message) → numbered k (frames_of xs) ≡ Some m → (m.from ≡ from) × (m.to ≡ n) × IsFrame m × (m.version ≡ wire)) where
+  pub good-entry : (w : Waiting) (r : Parcel) → IsFrameOf (parcels_of xs) r w → IsMarkIn xs r w → IsGoodEntry wire from n w r
   good-entry (waiting.Copy index) r at is =
       let found = numbered-map (λ (m : Message). parcel.Frame (spelling m)) index (frames_of xs) r at in
       let link = links index found.0 found.1 in
-      (found.0, sym found.2, link.0, link.1, link.2)
+      (found.0, sym found.2, link.0, link.1, link.2, link.3)
   good-entry (waiting.Mark phase) r at is = (is.0, is.2)
 
 is-marked : (phase : ℕ) (es : List Entry) → IsIn (Entry.Mark phase) es → 1 ≤ times_marked phase es
@@ -84,13 +84,13 @@ is-marked phase (Entry.Mark at ∷ es) (inr is) = let e = is-marked phase es is 
 bytes-same : (a b : List ℕ) → parcel.Frame a ≡ parcel.Frame b → a ≡ b
 bytes-same a b e = cc
 
-module _ (from n : ℕ) (one : (m k : Message) (bytes : List ℕ) → Spells m bytes → Spells k bytes → m ≡ k) where
-  not-passed : (es : List Entry) (w : Waiting) (r : Parcel) → IsPassedBy from n es w r → IsGoodEntry from n w r
+module _ (wire from n : ℕ) (one : (m k : Message) (bytes : List ℕ) → Spells m bytes → Spells k bytes → m ≡ k) where
+  not-passed : (es : List Entry) (w : Waiting) (r : Parcel) → IsPassedBy wire from n es w r → IsGoodEntry wire from n w r
       → ((phase : ℕ) → times_marked phase (es ++ plain_name w ∷ []) ≤ 1) → ⊥
-  not-passed es (waiting.Copy index) (parcel.Frame bytes) (m, spells, other) (k, same, at, to, is) few =
+  not-passed es (waiting.Copy index) (parcel.Frame bytes) (m, spells, other) (k, same, at, to, is, version) few =
       let e : m ≡ k = one m k bytes spells (record { frame = is; text = bytes-same bytes (spelling k) same }) in
-      other (ap (λ (f : Message). f.from) e ∙ at) (ap (λ (f : Message). f.to) e ∙ to)
-  not-passed es (waiting.Copy index) (parcel.Mark tick) passed (k, same, at, to, is) few = absurd (cc)
+      other (ap (λ (f : Message). f.from) e ∙ at) (ap (λ (f : Message). f.to) e ∙ to) (ap (λ (f : Message). f.version) e ∙ version)
+  not-passed es (waiting.Copy index) (parcel.Mark tick) passed (k, same, at, to, is, version) few = absurd (cc)
   not-passed es (waiting.Mark phase) (parcel.Frame bytes) passed (tick, same) few = absurd (cc)
   not-passed es (waiting.Mark phase) (parcel.Mark at) passed (tick, same) few =
       let a = is-marked phase es passed in
@@ -100,7 +100,7 @@ module _ (from n : ℕ) (one : (m k : Message) (bytes : List ℕ) → Spells m b
       absurd (omega (arith, a, b, c, d))
 
   abbrev AreGood : List Carried → Type 0
-  AreGood xs = (c : Carried) → IsIn c xs → IsGood from n c
+  AreGood xs = (c : Carried) → IsIn c xs → IsGood wire from n c
 
   abbrev AreFew : List Carried → Type 0
   AreFew xs = (phase : ℕ) → times_marked phase (names_of xs) ≤ 1
@@ -108,7 +108,7 @@ module _ (from n : ℕ) (one : (m k : Message) (bytes : List ℕ) → Spells m b
   fewer : (xs ys : List Carried) → AreFew (xs ++ ys) → AreFew xs
   fewer xs ys few phase = let a = marks-prefix phase xs ys in let b = few phase in omega (arith, a, b)
 
-  pub all-heard : (xs : List Carried) (es : List Entry) → IsHeard from n xs es → AreGood xs → AreFew xs → es ≡ names_of xs
+  pub all-heard : (xs : List Carried) (es : List Entry) → IsHeard wire from n xs es → AreGood xs → AreFew xs → es ≡ names_of xs
   all-heard _ _ IsHeard.nothing good few = refl
   all-heard _ _ (IsHeard.frame {xs = xs} {es = es} index bytes before) good few =
       let last = carried.Put (record { waiting = waiting.Copy index; received = parcel.Frame bytes }) ∷ [] in

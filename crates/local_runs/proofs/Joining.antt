@@ -191,11 +191,11 @@ module _ (s : Setup) (plan : List FateRow) (P : ℕ → Serving) (served : (n : 
         omega (arith, a, b, c, d)
   ]
 
-  good-in : (from to : ℕ) → from ≢ to → (c : Carried) → IsIn c ((P to).ins from) → IsGood from to c
+  good-in : (from to : ℕ) → from ≢ to → (c : Carried) → IsIn c ((P to).ins from) → IsGood s.wire from to c
   good-in from to differ (carried.Gone proc number index tick) is = tt
   good-in from to differ (carried.Put e) is =
       let xs = (P from).outs to in
-      good-entry from to xs (λ k m found. (served from).links to (λ h. differ (sym h)) k m found) e.waiting e.received
+      good-entry s.wire from to xs (λ k m found. (served from).links to (λ h. differ (sym h)) k m found) e.waiting e.received
       (all-in (λ (f : carried-entry.Entry Parcel). IsFrameOf (parcels_of xs) f.received f.waiting) (kept (put from to)) e
       (recursion_from_All (λ (f : carried-entry.Entry Parcel). IsFrameOf (parcels_of xs) f.received f.waiting) (kept (put from to)) (carries-after (fate_of plan from to) xs).queue)
       (in-kept e (put from to) (in-put from to differ (carried.Put e) is)))
@@ -204,7 +204,7 @@ module _ (s : Setup) (plan : List FateRow) (P : ℕ → Serving) (served : (n : 
   heard-all : (from to : ℕ) → from ≢ to → entries_taken from to (events_in (P to).own) ≡ names_of ((P to).ins from)
   heard-all from to differ =
       let ring = rings from to differ in
-      all-heard from to one ((P to).ins from) (entries_taken from to (events_in (P to).own)) ((served to).takes from differ) (good-in from to differ)
+      all-heard s.wire from to one ((P to).ins from) (entries_taken from to (events_in (P to).own)) ((served to).takes from differ) (good-in from to differ)
       (λ phase.
       let a = marks-prefix phase ((P to).ins from) ring.rest in
       let b = ap (λ (xs : List Carried). times_marked phase (names_of xs)) ring.put in

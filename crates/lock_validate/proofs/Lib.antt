@@ -25,3 +25,5 @@ pub mod DroppedTold
 pub mod OutcomeSays
 pub mod DroppedOrder
 pub mod Leaving
+pub mod EachPage
+pub mod Bounded

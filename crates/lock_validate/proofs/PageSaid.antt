@@ -1,5 +1,6 @@
 -- What a home's answer to a load or store says of the desk.
-use Rattle.std.proofs.Common.{◌≡◌, ℕ, ◌≤◌, nat_lt, true, false, Option, Some, None, IsSome, refl, ap, ◌∙◌, arith}
+use Rattle.std.proofs.Common.{◌≡◌, ℕ, ◌≤◌, nat_lt, Bool, true, false, List, Option, Some, None, IsSome, refl, ap, ◌∙◌, arith}
+use Rattle.std.proofs.lemmas.Option.{same_Some}
 use Rattle.std.specs.Prelude.{unwrap_or}
 use Rattle.std.proofs.lemmas.Bool.Decides.{nat_tests}
 use Rattle.uid_names.specs.Names.{ObjectName, same_uid}
@@ -14,7 +15,8 @@ use Rattle.fault_handler.specs.Tasks.{page_of}
 use Rattle.fault_handler.specs.Transits.{coming, going}
 use Rattle.fault_handler.specs.Desks.{DeskState, entry_at, moving_of, task_of, base_of}
 use Rattle.fault_handler.specs.Changes.{with_raised}
-use Rattle.fault_handler.specs.PageReplies.{PageAnswer, page_answer}
+use Rattle.fault_handler.specs.declared.transits.Transit.{Transit}
+use Rattle.fault_handler.specs.PageReplies.{PageAnswer, answer_inward, answer_outward, answer_by, answer_with, page_answer}
 use Rattle.fault_handler.specs.Unseen.{said_to}
 use Rattle.fault_handler.specs.Invariant.{IsProc, is_dirty, IsAllowed, IsDesk}
 use Rattle.fault_handler.specs.Conditions.{IsAccessing}
@@ -23,6 +25,31 @@ use Rattle.fault_handler.proofs.Fours.{any-of}
 use Rattle.fault_handler.proofs.TransitKeeps.{KeepsAll-open, going-resident, coming-absent}
 use Rattle.lock_validate.specs.Causes.{IsPageAnswer}
 use Rattle.lock_validate.specs.Loading.{Fetches, MakesRoom}
+
+-- the load or store that an answer is to is the open one
+abbrev pub open_task_of : PageAnswer → Task
+open_task_of (PageAnswer.Came task stamp bytes) = task
+open_task_of (PageAnswer.Taken task r stamp) = task
+open_task_of (PageAnswer.NotTaken task r stamp) = task
+
+pub answer-task : (pages : List Resident) (o : Option Task) (t : Option Transit) (x : Answer) (a : PageAnswer) → answer_with pages o t x ≡ Some a → o ≡ Some (open_task_of a)
+answer-task pages None t x a e = absurd (cc)
+answer-task pages (Some task) None x a e = absurd (cc)
+answer-task pages (Some task) (Some t) x a e = by t.inward e
+  where
+    outward : (r : Option Resident) (x : Answer) → answer_outward task r x ≡ Some a → Some task ≡ Some (open_task_of a)
+    outward None x e = absurd (cc)
+    outward (Some r) (Answer.Stored stamp) e = ap (λ b. Some (open_task_of b)) (same_Some (PageAnswer.Taken task r stamp) a e)
+    outward (Some r) (Answer.Stale stamp) e = ap (λ b. Some (open_task_of b)) (same_Some (PageAnswer.NotTaken task r stamp) a e)
+    outward (Some r) x e = absurd (cc)
+
+    inward : (x : Answer) → answer_inward task x ≡ Some a → Some task ≡ Some (open_task_of a)
+    inward (Answer.Page stamp bytes) e = ap (λ b. Some (open_task_of b)) (same_Some (PageAnswer.Came task stamp bytes) a e)
+    inward x e = absurd (cc)
+
+    by : (b : Bool) → answer_by pages task t b x ≡ Some a → Some task ≡ Some (open_task_of a)
+    by true e = inward x e
+    by false e = outward (page_at pages t.uid t.page) x e
 
 module _ (d : DeskState) (p : ℕ) (is : IsDesk d) (proc : IsProc p) (accessing : IsAccessing d p) (task : Task) (opened : task_of d p ≡ Some task) (allowed : IsAllowed d.entries p task) where
   -- the page that an open load or store fetches

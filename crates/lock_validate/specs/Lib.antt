@@ -19,3 +19,4 @@ pub mod Turns
 pub mod Untouched
 pub mod Waiting
 pub mod Room
+pub mod Bounded

@@ -9,12 +9,13 @@ ghost use Rattle.fault_handler.specs.Lengths.{known_of, is_changed};
 ghost use Rattle.fault_handler.specs.Transits.{going};
 ghost use Rattle.fault_handler.specs.Desks.{DeskState, any_writes, moving_of, is_in_transit_there};
 ghost use Rattle.fault_handler.specs.Victims.{Victim, is_idle_page, MayMakeRoom, named_victim};
-ghost use Rattle.fault_handler.specs.Accesses.{room_made};
 ghost use Rattle.fault_handler.specs.Invariant.{IsProc, is_dirty, AreApart, IsDesk};
 ghost use Rattle.fault_handler.specs.Conditions.{IsIdle};
 ghost use Rattle.fault_handler.specs.Ready.{IsReady};
 ghost use Rattle.fault_handler.specs.Next.{FitsTurn, IsAsked, IsNext};
 ghost use Rattle.fault_handler.specs.Drops.{DropsOnly};
+ghost use Rattle.fault_handler.specs.Accesses.{Always, room_made};
+ghost use Rattle.lock_validate.specs.Bounded.{IsBounded, IsToldWithin, StaysWithin};
 ghost use Rattle.lock_validate.specs.Causes.{Cause, comes_of, MayCome, AfterEach, IsOf};
 ghost use Rattle.lock_validate.specs.Settled.{GivesUpSettled};
 ghost use Rattle.lock_validate.specs.Dropped.{MayDropPages};
@@ -103,6 +104,13 @@ pub fn a_page_can_be_chosen()
     ensures there { (d : DeskState) (p : ℕ) → IsDesk d → IsProc p → moving_of d p ≡ None → free_count d.cache ≡ 0 →
         IsSome (named_victim d) }
     ensures found { (d : DeskState) (p : ℕ) (c : Cause) → IsDesk d → IsProc p → MayCome d p c → FindsRoom (comes_of d p c) }
+{}
+
+/// Where no known room or length, no resident page and no page of an open load or store lies above a room, nor what a grant
+/// tells, the desk stays so, and asks nothing above it.
+pub fn what_is_asked_lies_within_what_is_known()
+    ensures { (room : ℕ) (d : DeskState) (p : ℕ) (c : Cause) → IsDesk d → IsProc p → MayCome d p c → IsBounded room d → IsToldWithin room c →
+        Always p (StaysWithin room) (comes_of d p c) }
 {}
 
 /// A page is dirty, and a length changed, only where a process of the node keeps the object in a mode that writes.

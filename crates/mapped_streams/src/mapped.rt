@@ -1,5 +1,6 @@
 //! Objects that are mapped. No function takes memory.
 ghost use Rattle.std.specs.Prelude.{◌≡◌, ◌<◌, ◌≤◌, length};
+ghost use Rattle.uid_names.specs.declared.limits.TheConstants.{MAX_ROOM};
 ghost use Rattle.dom_history.specs.Ranges.{IsOp};
 ghost use Rattle.naming_tree.specs.Entering.{pages as pages_of};
 ghost use Rattle.mapped_streams.specs.Pages.{IsMapped, bytes_in, page_load, page_store, end_of, room_at as room_from};
@@ -46,7 +47,7 @@ impl Mapped {
     /// The store of a page.
     pub fn store(&self, page: u32, bytes: ByteList) -> Op
         requires mapped { IsMapped self.now }
-        requires page { page < 1024 }
+        requires page { page < MAX_ROOM }
         requires some { 1 ≤ length bytes }
         requires few { length bytes ≤ 1024 }
         ensures value { result ≡ page_store self.now page bytes }

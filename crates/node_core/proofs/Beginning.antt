@@ -10,21 +10,25 @@ use Rattle.dom_history.specs.declared.event.NodeLog.{NodeLog}
 use Rattle.uid_names.specs.Openings.{Start, IsStart}
 use Rattle.uid_names.specs.Beginnings.{CanHomeBegin, CanBegin, at_home}
 use Rattle.uid_names.specs.declared.limits.TheConstants.{VOLUME_ROOM, MAX_PHASES}
+use Rattle.uid_names.specs.Wires.{wire_room}
+use Rattle.call_once.specs.Calls.{Call}
+use Rattle.ring_messages.specs.Bodies.{Answer, body_of_answer}
+use Rattle.ring_messages.specs.Ranges.{LiesWithin}
 use Rattle.dom_history.specs.declared.op.Reply.{Reply}
 use Rattle.dom_history.specs.declared.op.Want.{Want}
 use Rattle.dom_history.specs.declared.op.Want.TheVariants.{Phase}
 use Rattle.dom_history.specs.Programs.{program_after}
 use Rattle.dom_history.specs.Ranges.{IsWant}
-use Rattle.object_store.specs.Beginnings.{first_home}
+use Rattle.object_store.specs.Beginnings.{first_home, first_rows}
 use Rattle.object_store.proofs.Begun.{IsHome-first_home}
 use Rattle.page_server.proofs.Begun.{IsBegun-first_home}
 use Rattle.page_server.proofs.Sides.{IsSide-first}
 use Rattle.fault_handler.specs.Invariant.{IsProc}
 use Rattle.fault_handler.specs.Desks.{DeskState, put_at}
-use Rattle.node_runs.specs.Setups.{Given, IsGiven, IsFrames, ArePrograms}
+use Rattle.node_runs.specs.Setups.{Given, IsGiven, IsFrames, ArePrograms, FitsWire}
 use Rattle.node_runs.specs.NodeStates.{NodeState, ProcState, first_proc, first_node, proc_of, with_proc}
 use Rattle.node_runs.specs.NodesKeep.{IsNodeOf, IsCounted}
-use Rattle.node_runs.proofs.Reaching.{IsNodeOf-first}
+use Rattle.node_runs.proofs.Reaching.{IsNodeOf-first, first-rooms}
 use Rattle.node_runs.proofs.Forgetting.{alike-itself, node-anew}
 use Rattle.node_runs.specs.Alikes.{AreAlike}
 use Rattle.node_core.specs.declared.machine.Machine.{Machine}
@@ -45,7 +49,7 @@ use Rattle.uid_names.specs.declared.limits.TheConstants.{MAX_NODES, NODE_PROCESS
 use Rattle.uid_names.proofs.ListLemmas.{zeros-at}
 use Rattle.object_store.specs.HomeStates.{HomeState}
 use Rattle.fault_handler.specs.Conditions.{empty_desk}
-use Rattle.page_server.specs.ServerStates.{ServerState, IsBegun, first_server}
+use Rattle.page_server.specs.ServerStates.{ServerState, AreRoomsWithin, IsBegun, first_server}
 use Rattle.page_server.specs.Serving.{HomeSide, first_side}
 use Rattle.fault_handler.proofs.Fours.{by_proc, first, second, third, fourth}
 use Rattle.dom_history.specs.Follows.{Heard}
@@ -108,7 +112,7 @@ module _ {P G : Type 0} (spent : P → Bool) (wants : P → Want) where
       (is_frames : IsFrames frames) (es : List (ℕ × P)) (programs : m.programs.items ≡ rising_in es) (same : (p : ℕ) → program_in m.programs.items p ≡ program_in es p)
       (whole : (p : ℕ) → IfSome (program_in es p) (λ y. spent y ≡ false)) (fresh : (p : ℕ) → IfSome (program_in es p) (λ y. wants y ≡ Phase))
       (wanted : (p : ℕ) → want_at m.procs p ≡ Phase) (greatest : m.greatest ≡ start.greatest) (phases : m.phases ≤ MAX_PHASES)
-      (home : HomeState) (server : m.server ≡ first_server home) (is_home : home ≡ first_home number (at_home number start.objects)) (desk : m.desk ≡ empty_desk number start.nodes frames)
+      (wire : ℕ) (fits : FitsWire wire start) (home : HomeState) (server : m.server ≡ first_server home wire) (is_home : home ≡ first_home number (at_home number start.objects)) (desk : m.desk ≡ empty_desk number start.nodes frames)
       (procs : map proc_seen m.procs ≡ replicate NODE_PROCESSES first_proc) (emitted : m.emitted ≡ replicate MAX_NODES 0) (tick : m.tick ≡ 0) (phase : m.phase ≡ 1) (ready : m.ready ≡ false) (marks : m.marks ≡ []) where
     abbrev there : Given
     there = record (given_of m) { number = number; opening = start; frames = frames }
@@ -136,10 +140,14 @@ module _ {P G : Type 0} (spent : P → Bool) (wants : P → Want) where
     programs-are : ArePrograms (numbers_in m.programs.items)
     programs-are = subst (λ qs. ArePrograms (numbers_in qs)) (sym programs) (rising-programs es)
 
+    wire-is : m.server.wire ≡ wire
+    wire-is = ap (λ (x : ServerState). x.wire) server
+
     plain-given : IsGiven plain
     plain-given = record {
       start = record { nodes_low = kept_start.nodes_low; nodes_high = kept_start.nodes_high; greatest_low = kept_start.greatest_low; greatest_high = kept_start.greatest_high; objects = All-nil _; apart = tt };
       begins = record { homes = λ home. record { counters = tt; fits = omega arith } };
+      wire = subst (λ k. FitsWire k bare) (sym wire-is) (record { version = fits.version; rooms = fits.rooms });
       frames = is_frames;
       programs = programs-are;
       wants = λ p heard fits named. subst IsWant (sym (wanted p)) tt;
@@ -165,6 +173,14 @@ module _ {P G : Type 0} (spent : P → Bool) (wants : P → Want) where
           four = refl;
           agrees = base.agrees;
           followed = base.followed;
+          within = record {
+            desk = base.within.desk;
+            side = record {
+              rooms = subst (λ k. AreRoomsWithin (wire_room k) (first_rows number (at_home number start.objects))) (sym wire-is) (first-rooms wire number start kept_start fits);
+              kept = All-nil (λ (call : Call Answer). LiesWithin (wire_room m.server.wire) (body_of_answer call.body));
+            };
+            asked = base.within.asked;
+          };
         }
 
     counted-there : IsCounted (first_node there)
@@ -202,6 +218,7 @@ module _ {P G : Type 0} (spent : P → Bool) (wants : P → Want) where
           (record {
             number = ap (λ (s : NodeState). s.desk.node) same-state;
             nodes = ap (λ (s : NodeState). s.desk.nodes) same-state;
+            wire = ap (λ (x : Machine P G). x.server.wire) told.same;
             frames = ap (λ (s : NodeState). s.desk.cache.frames) same-state;
             asks = λ q o heard doing. doing-wants new.procs q o (ap (λ (s : NodeState). (proc_of s q).doing) same-state ∙ doing);
           }) kept.node
@@ -210,6 +227,7 @@ module _ {P G : Type 0} (spent : P → Bool) (wants : P → Want) where
       given-asked = record {
         start = subst (λ (x : Machine P G). IsStart (given_of x).opening) (sym told.same) kept.given.start;
         begins = subst (λ (x : Machine P G). CanBegin (given_of x).opening) (sym told.same) kept.given.begins;
+        wire = subst (λ (x : Machine P G). FitsWire x.server.wire (given_of x).opening) (sym told.same) kept.given.wire;
         frames = subst (λ (x : Machine P G). IsFrames (given_of x).frames) (sym told.same) kept.given.frames;
         programs = subst ArePrograms (sym told.numbers) kept.given.programs;
         wants = λ q heard fits named. told.wanted q;
@@ -232,6 +250,7 @@ module _ {P G : Type 0} (spent : P → Bool) (wants : P → Want) where
         };
         greatest = ap (λ (x : Machine P G). x.greatest) told.same;
         phases = ap (λ (x : Machine P G). x.phases) told.same;
+        wire = ap (λ (x : Machine P G). x.server.wire) told.same;
       }
 
     -- all four were asked, one after the other
@@ -266,11 +285,12 @@ module _ {P G : Type 0} (spent : P → Bool) (wants : P → Want) where
         kept = four.kept;
         greatest = four.greatest ∙ three.greatest ∙ two.greatest ∙ one.greatest;
         phases = four.phases ∙ three.phases ∙ two.phases ∙ one.phases;
+        wire = four.wire ∙ three.wire ∙ two.wire ∙ one.wire;
       }
 
     -- a node at the start stands for its given
     module _ (m new : Machine P G) (asked : AllAsked spent wants becomes m new) (log : NodeLog) (setup : NodeSetup) (start : Start) (es : List (ℕ × P))
-        (same : (p : ℕ) → program_in m.programs.items p ≡ program_in es p) (greatest : m.greatest ≡ start.greatest) (phases : m.phases ≡ setup.phases)
+        (same : (p : ℕ) → program_in m.programs.items p ≡ program_in es p) (greatest : m.greatest ≡ start.greatest) (phases : m.phases ≡ setup.phases) (wire : m.server.wire ≡ setup.wire)
         (state : (g : Given) → g.number ≡ setup.node → g.opening ≡ start → g.frames ≡ setup.frames → state_of m ≡ first_node g) (g : Given) (given_by : IsGivenBy wants becomes setup start es g) where
       begun-state : state_of new ≡ first_node g
       begun-state = asked.state ∙ state g given_by.number given_by.opening given_by.frames
@@ -289,6 +309,7 @@ module _ {P G : Type 0} (spent : P → Bool) (wants : P → Want) where
         number = sym (ap (λ (n : NodeState). n.desk.node) begun-state);
         nodes = sym (ap (λ (n : NodeState). n.desk.nodes) begun-state);
         greatest = ap (λ (s : Start). s.greatest) given_by.opening ∙ sym (asked.greatest ∙ greatest);
+        wire = given_by.wire ∙ sym (asked.wire ∙ wire);
         frames = sym (ap (λ (n : NodeState). n.desk.cache.frames) begun-state);
         phases = given_by.phases ∙ sym (asked.phases ∙ phases);
         programs = given_by.programs;

@@ -114,30 +114,30 @@ module _ {P G : Type 0} (spent : P → Bool) (wants : P → Want) (becomes : P �
   -- an operation of which the desk knows nothing ends
   pub heard-replied : (new : Machine P G) (done : Done) (reply : Reply) (dropped : List (ObjectName × ℕ)) → ((begun : Place) → Turns spent wants becomes old new done p begun (Turn.Ends reply) dropped)
       → dropped ≡ [] → ((op : Op) → want_at old.procs p ≡ Do op → said_of old.desk p op body ≡ Some (Said.Replies reply)) → (begun : Place) → Hears spent wants becomes old new done p begun body
-  heard-replied new done reply dropped turns none said begun g op m number want proc s is =
+  heard-replied new done reply dropped turns none said begun g op m number wire want proc s is =
       let o = λ (begun : Place). let x : BegunOp = record { op = op; begun = begun } in x in
       let n = state_of old in
       let same = same_Some _ s (subst (λ x. stepped_as_named g n (hears_said n m (o begun) x) ≡ Some s) (said op want) is) in
       subst (Led spent wants becomes old new done) same
       (subst (λ q. Led spent wants becomes old new done (dropping [] (turned g n q (o begun) (Stage.Settles m.number) (Turn.Ends reply)))) (sym proc)
       (subst (λ ds. Led spent wants becomes old new done (dropping ds (turned g n p (o begun) (Stage.Settles m.number) (Turn.Ends reply)))) none
-      (turns begun g op (Stage.Settles m.number) number want)))
+      (turns begun g op (Stage.Settles m.number) number wire want)))
 
   -- a reply that does not fit does nothing
   pub heard-nothing : (done : Done) (dropped : List (ObjectName × ℕ)) → IsAtEvent spent wants old → done ≡ nothing dropped → dropped ≡ []
       → ((op : Op) → want_at old.procs p ≡ Do op → said_of old.desk p op body ≡ None) → (begun : Place) → Hears spent wants becomes old old done p begun body
-  heard-nothing done dropped within quietly none said begun g op m number want proc s is =
+  heard-nothing done dropped within quietly none said begun g op m number wire want proc s is =
       let o = λ (begun : Place). let x : BegunOp = record { op = op; begun = begun } in x in
       let n = state_of old in
       let same = same_Some _ s (subst (λ x. stepped_as_named g n (hears_said n m (o begun) x) ≡ Some s) (said op want) is) in
       subst (Led spent wants becomes old old done) same
-      (led-untold spent wants becomes old old done (quiet n Note.Nothing) within refl refl refl refl within.earlier (alike-itself n) (seen-silent old.procs)
+      (led-untold spent wants becomes old old done (quiet n Note.Nothing) within refl refl refl refl refl within.earlier (alike-itself n) (seen-silent old.procs)
       (ap (λ d. d.frame) quietly) (ap (λ d. d.effects) (quietly ∙ ap nothing none)))
 
   -- it says something, which comes to what the desk makes of it
   pub heard-moves : (new : Machine P G) (done : Done) (said : Said) (begun : Place) → Moves spent wants becomes old new done p begun (answered old.desk p said)
       → ((op : Op) → want_at old.procs p ≡ Do op → said_of old.desk p op body ≡ Some said) → Hears spent wants becomes old new done p begun body
-  heard-moves new done said begun moves says g op m number want proc s is =
+  heard-moves new done said begun moves says g op m number wire want proc s is =
       let o = λ (begun : Place). let x : BegunOp = record { op = op; begun = begun } in x in
       let n = state_of old in
       let stage = stage_of m.number said in
@@ -145,7 +145,7 @@ module _ {P G : Type 0} (spent : P → Bool) (wants : P → Want) (becomes : P �
       subst (λ q. stepped_as_named g n (Doing.Moves q (o begun) stage (answered old.desk q said)) ≡ Some s) proc
       (subst (λ x. stepped_as_named g n (hears_said n m (o begun) x) ≡ Some s) (says op want) is) in
       let found = map-some (moved g n p (o begun) stage) (moved_as_named p (answered old.desk p said)) s comes in
-      subst (Led spent wants becomes old new done) (sym found.2) (moves g op stage number want found.0 found.1)
+      subst (Led spent wants becomes old new done) (sym found.2) (moves g op stage number wire want found.0 found.1)
 
   -- where the event is that nothing of it is done
   pub passed-led : (done : Done) (dropped : List (ObjectName × ℕ)) → IsAtEvent spent wants old → done ≡ nothing dropped → dropped ≡ [] → (event : Doing) → event ≡ passed (state_of old)
@@ -153,7 +153,7 @@ module _ {P G : Type 0} (spent : P → Bool) (wants : P → Want) (becomes : P �
   passed-led done dropped within quietly none event same s is =
       let n = state_of old in
       subst (Led spent wants becomes old old done) (same_Some (quiet n Note.Nothing) s (subst (λ e. stepped_as_named (given_of old) n e ≡ Some s) same is))
-      (led-untold spent wants becomes old old done (quiet n Note.Nothing) within refl refl refl refl within.earlier (alike-itself n) (seen-silent old.procs)
+      (led-untold spent wants becomes old old done (quiet n Note.Nothing) within refl refl refl refl refl within.earlier (alike-itself n) (seen-silent old.procs)
       (ap (λ d. d.frame) quietly) (ap (λ d. d.effects) (quietly ∙ ap nothing none)))
 
 -- what is no request asks nothing

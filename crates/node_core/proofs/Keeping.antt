@@ -1,22 +1,24 @@
 -- What a machine keeps: as its event begins, and after it.
 use Rattle.std.proofs.Common.{◌≡◌, ℕ, zero, suc, ◌-◌, ◌^◌, ◌<◌, ◌≤◌, Bool, List, [], ◌∷◌, map, Option, Some, None, IfSome, refl, sym, ap, subst, ◌∙◌, arith}
-use Rattle.std.specs.Prelude.{slice_index_or, true, not, Result, Ok, Err, IfOk, OnOk}
+use Rattle.std.specs.Prelude.{slice_index_or, true, not, ◌==◌, ◌&&◌, Result, Ok, Err, IfOk, OnOk}
 use Rattle.std.proofs.lemmas.List.{length-map}
 use Rattle.std.proofs.lemmas.List.Elements.{All-nil}
 use Rattle.std.proofs.lemmas.Option.{same_Some}
 use Rattle.uid_names.specs.Openings.{Start, IsStart}
+use Rattle.uid_names.specs.Wires.{IsWire, wire_room}
 use Rattle.uid_names.specs.declared.limits.TheConstants.{MAX_PHASES}
-use Rattle.uid_names.proofs.Passed.{left-true, right-true}
+use Rattle.uid_names.proofs.Passed.{left-true, right-true, equal}
 use Rattle.dom_history.specs.declared.event.What.{What}
-use Rattle.dom_history.specs.declared.event.What.TheVariants.{Begin, Go, Notice, Ready, Mark}
+use Rattle.dom_history.specs.declared.event.What.TheVariants.{Begin, Go, Take, Notice, Ready, Mark}
 use Rattle.dom_history.specs.declared.op.Reply.{Reply}
 use Rattle.dom_history.specs.declared.op.Want.{Want}
 use Rattle.dom_history.specs.declared.op.Want.TheVariants.{Do, Phase, Done as AllDone}
 use Rattle.dom_history.specs.Events.{AreEffects}
 use Rattle.dom_history.specs.Ranges.{IsNamedReply}
 use Rattle.ring_messages.specs.Bodies.{Ask}
+use Rattle.ring_messages.specs.Frames.{Message}
 use Rattle.fault_handler.specs.Desks.{DeskState, at}
-use Rattle.node_runs.specs.Setups.{Given, IsGiven, ArePrograms, IsFrames}
+use Rattle.node_runs.specs.Setups.{Given, IsGiven, ArePrograms, IsFrames, FitsWire}
 use Rattle.node_runs.specs.NodeStates.{OpenOp, NodeState, first_proc, is_ended}
 use Rattle.node_runs.specs.Incomings.{Incoming, has_program, may_happen, enabled}
 use Rattle.node_runs.specs.Outcomes.{Stepped}
@@ -56,7 +58,7 @@ module _ {P G : Type 0} (spent : P → Bool) (wants : P → Want) (old : Machine
   pub before-event : (t : ℕ) → old.tick < t → t ≤ 2 ^ 40 → IsBefore spent wants (record old { tick = t })
   before-event t more late = record {
     given = kept.given;
-    node = node-with (given_of old) (state_of old) (state_of (record old { tick = t })) kept.node refl refl kept.node.side kept.node.home;
+    node = node-with (given_of old) (state_of old) (state_of (record old { tick = t })) kept.node refl refl kept.node.side kept.node.home kept.node.within.side;
     within = record {
       four = sym (length-map old.procs proc_seen) ∙ kept.node.four;
       told = kept.told;
@@ -91,10 +93,17 @@ module _ {P G : Type 0} (spent : P → Bool) (wants : P → Want) (old : Machine
         let opening = λ (nodes greatest : ℕ). let x : Start = record { nodes = nodes; greatest = greatest; objects = [] } in x in
         subst (λ k. IsStart (opening k new.greatest)) (sym same-nodes) (subst (λ k. IsStart (opening old.desk.nodes k)) (sym led.same_greatest) kept.given.start)
 
+    wire-after : FitsWire new.server.wire (given_of new).opening
+    wire-after =
+        let fits = kept.given.wire in
+        let room : new.greatest ≤ wire_room old.server.wire = subst (λ k. k ≤ wire_room old.server.wire) (sym led.same_greatest) fits.rooms in
+        record { version = subst IsWire (sym led.same_wire) fits.version; rooms = subst (λ k. new.greatest ≤ wire_room k) (sym led.same_wire) room }
+
     given-after : IsGiven (given_of new)
     given-after = record {
       start = start-after;
       begins = record { homes = kept.given.begins.homes };
+      wire = wire-after;
       frames = subst IsFrames (sym same-frames) kept.given.frames;
       programs = subst ArePrograms (sym led.numbers) kept.given.programs;
       wants = λ p heard fits named. led.wanted p;
@@ -107,6 +116,7 @@ module _ {P G : Type 0} (spent : P → Bool) (wants : P → Want) (old : Machine
           (record {
             number = same-number;
             nodes = same-nodes;
+            wire = led.same_wire;
             frames = same-frames;
             asks = λ p o heard doing. doing-wants new.procs p o ((led.alike.procs p).doing ∙ doing);
           }) keeps.node;
@@ -137,6 +147,11 @@ module _ (g : Given) (n : NodeState) where
   go-is p (Incoming.Gone number tick) may = absurd (cc)
   go-is p (Incoming.Mark tick) may = absurd (cc)
 
+  take-is : (from index : ℕ) (m : Message) → may_happen g n (Take from index) (Incoming.Frame m) ≡ true → (m.to ≡ g.number) × (m.version ≡ g.wire)
+  take-is from index m may =
+      let link = left-true ((m.from == from) && (m.to == g.number)) (m.version == g.wire) may in
+      (equal m.to g.number (right-true (m.from == from) (m.to == g.number) link), equal m.version g.wire (right-true ((m.from == from) && (m.to == g.number)) (m.version == g.wire) may))
+
   notice-is : (p from to index : ℕ) (incoming : Incoming) → may_happen g n (Notice p from to index) incoming ≡ true → (number : ℕ) × (tick : ℕ) × (incoming ≡ Incoming.Gone number tick) × (has_program g p ≡ true)
   notice-is p from to index Incoming.Nothing may = absurd (cc)
   notice-is p from to index (Incoming.Frame m) may = absurd (cc)
@@ -160,6 +175,11 @@ module _ (g : Given) (n : NodeState) where
 
   pub go-at : (p : ℕ) (what : What) (incoming : Incoming) → what ≡ Go p → enabled g n what incoming ≡ true → (incoming ≡ Incoming.Nothing) × (has_program g p ≡ true)
   go-at p what incoming is may = go-is p incoming (happens-true (Go p) incoming (subst (λ w. enabled g n w incoming ≡ true) is may))
+
+  pub take-at : (from index : ℕ) (m : Message) (what : What) (incoming : Incoming) → what ≡ Take from index → incoming ≡ Incoming.Frame m → enabled g n what incoming ≡ true → (m.to ≡ g.number) × (m.version ≡ g.wire)
+  take-at from index m what incoming is frame may =
+      take-is from index m
+      (happens-true (Take from index) (Incoming.Frame m) (subst (λ i. enabled g n (Take from index) i ≡ true) frame (subst (λ w. enabled g n w incoming ≡ true) is may)))
 
   pub notice-at : (p from to index : ℕ) (what : What) (incoming : Incoming) → what ≡ Notice p from to index → enabled g n what incoming ≡ true → (number : ℕ) × (tick : ℕ) × (incoming ≡ Incoming.Gone number tick) × (has_program g p ≡ true)
   notice-at p from to index what incoming is may = notice-is p from to index incoming (happens-true (Notice p from to index) incoming (subst (λ w. enabled g n w incoming ≡ true) is may))

@@ -32,13 +32,14 @@ use Rattle.node_core.specs.Outcomes.{LedFrom, Sent}
 use Rattle.node_core.proofs.Seen.{seen-silent, want-set_same, want-set_other, alike-set}
 
 -- a frame with the same fields
-pub same-frame : (from sender to proc caller number other tick : ℕ) (body carried : Body) → from ≡ sender → proc ≡ caller → number ≡ other → body ≡ carried
-    → ◌≡◌ {A = Message} (record { from = from; to = to; proc = proc; number = number; tick = tick; body = body }) (record { from = sender; to = to; proc = caller; number = other; tick = tick; body = carried })
-same-frame from sender to proc caller number other tick body carried a b c d =
-    ap (λ x. record { from = x; to = to; proc = proc; number = number; tick = tick; body = body }) a
-    ∙ ap (λ x. record { from = sender; to = to; proc = x; number = number; tick = tick; body = body }) b
-    ∙ ap (λ x. record { from = sender; to = to; proc = caller; number = x; tick = tick; body = body }) c
-    ∙ ap (λ x. record { from = sender; to = to; proc = caller; number = other; tick = tick; body = x }) d
+pub same-frame : (version wire from sender to proc caller number other tick : ℕ) (body carried : Body) → version ≡ wire → from ≡ sender → proc ≡ caller → number ≡ other → body ≡ carried
+    → ◌≡◌ {A = Message} (record { version = version; from = from; to = to; proc = proc; number = number; tick = tick; body = body }) (record { version = wire; from = sender; to = to; proc = caller; number = other; tick = tick; body = carried })
+same-frame version wire from sender to proc caller number other tick body carried v a b c d =
+    ap (λ x. record { version = x; from = from; to = to; proc = proc; number = number; tick = tick; body = body }) v
+    ∙ ap (λ x. record { version = wire; from = x; to = to; proc = proc; number = number; tick = tick; body = body }) a
+    ∙ ap (λ x. record { version = wire; from = sender; to = to; proc = x; number = number; tick = tick; body = body }) b
+    ∙ ap (λ x. record { version = wire; from = sender; to = to; proc = caller; number = x; tick = tick; body = body }) c
+    ∙ ap (λ x. record { version = wire; from = sender; to = to; proc = caller; number = other; tick = tick; body = x }) d
 
 module _ {P : Type 0} where
   -- told nothing, a program is what it was
@@ -91,9 +92,9 @@ module _ {P : Type 0} (spent : P → Bool) (wants : P → Want) where
 module _ {P G : Type 0} (spent : P → Bool) (wants : P → Want) (becomes : P → Option Reply → P) where
   -- no program was told anything
   pub led-alike : (old new : Machine P G) (done : Done) (s : Stepped) → IsAtEvent spent wants old → new.programs ≡ old.programs → ((p : ℕ) → want_at new.procs p ≡ want_at old.procs p)
-      → AreAlike (state_of new) s.node → ((p : ℕ) → (proc_of s.node p).heard ≡ []) → done.frame ≡ s.frame → done.effects ≡ s.effects → new.greatest ≡ old.greatest → new.phases ≡ old.phases → new.server.tick ≤ new.tick
-      → LedFrom spent wants becomes old.programs.items old.greatest old.phases new done s
-  led-alike old new done s within programs same alike silent frame effects greatest phases served = record {
+      → AreAlike (state_of new) s.node → ((p : ℕ) → (proc_of s.node p).heard ≡ []) → done.frame ≡ s.frame → done.effects ≡ s.effects → new.greatest ≡ old.greatest → new.phases ≡ old.phases → new.server.wire ≡ old.server.wire → new.server.tick ≤ new.tick
+      → LedFrom spent wants becomes old.programs.items old.greatest old.phases old.server.wire new done s
+  led-alike old new done s within programs same alike silent frame effects greatest phases wire served = record {
     alike = alike;
     programs = λ p proc. ap (λ ps. program_in ps.items p) programs ∙ told-nothing becomes (program_in old.programs.items p) (proc_of s.node p).heard (silent p);
     told = subst (λ ps. AreTold spent wants ps.items new.procs) (sym programs) (told-kept spent wants old.programs.items old.procs new.procs same within.told);
@@ -103,21 +104,22 @@ module _ {P G : Type 0} (spent : P → Bool) (wants : P → Want) (becomes : P �
     numbers = ap (λ ps. numbers_in ps.items) programs;
     same_greatest = greatest;
     same_phases = phases;
+    same_wire = wire;
     served = served;
   }
 
   pub led-still : (old new : Machine P G) (done : Done) (s : Stepped) → IsAtEvent spent wants old → new.programs ≡ old.programs → ((p : ℕ) → want_at new.procs p ≡ want_at old.procs p)
-      → s.node ≡ state_of new → done.frame ≡ s.frame → done.effects ≡ s.effects → new.greatest ≡ old.greatest → new.phases ≡ old.phases → new.server.tick ≤ new.tick
-      → LedFrom spent wants becomes old.programs.items old.greatest old.phases new done s
-  led-still old new done s within programs same node frame effects greatest phases served =
+      → s.node ≡ state_of new → done.frame ≡ s.frame → done.effects ≡ s.effects → new.greatest ≡ old.greatest → new.phases ≡ old.phases → new.server.wire ≡ old.server.wire → new.server.tick ≤ new.tick
+      → LedFrom spent wants becomes old.programs.items old.greatest old.phases old.server.wire new done s
+  led-still old new done s within programs same node frame effects greatest phases wire served =
       led-alike old new done s within programs same (subst (AreAlike (state_of new)) (sym node) (alike-itself (state_of new)))
-      (λ p. ap (λ (n : NodeState). (proc_of n p).heard) node ∙ seen-silent new.procs p) frame effects greatest phases served
+      (λ p. ap (λ (n : NodeState). (proc_of n p).heard) node ∙ seen-silent new.procs p) frame effects greatest phases wire served
 
   -- a frame was sent, and processes that want what they wanted may have changed before
   pub led-sent : (old new : Machine P G) (qs : List Proc) (done : Done) (frame as_defined : Message) (n : NodeState) (dropped : List (ObjectName × ℕ)) (call : Option (ℕ × Asked)) (note : Note)
       → IsAtEvent spent wants old → map (λ (q : Proc). q.want) qs ≡ map (λ (q : Proc). q.want) old.procs → state_of (record old { procs = qs }) ≡ n → frame ≡ as_defined
       → Sent (record old { procs = qs }) new done frame dropped
-      → LedFrom spent wants becomes old.programs.items old.greatest old.phases new done (dropping dropped (sending n as_defined call note))
+      → LedFrom spent wants becomes old.programs.items old.greatest old.phases old.server.wire new done (dropping dropped (sending n as_defined call note))
   led-sent old new qs done frame as_defined n dropped call note within kept state same_frame sent =
       let same = sent.same in
       led-still old new done (dropping dropped (sending n as_defined call note)) within
@@ -126,7 +128,7 @@ module _ {P G : Type 0} (spent : P → Bool) (wants : P → Want) (becomes : P �
       (sym (sent.state ∙ ap (λ x. (sending x frame None Note.Nothing).node) state ∙ ap (λ x. (sending n x None Note.Nothing).node) same_frame))
       (sent.frame ∙ ap Some same_frame)
       (sent.effects ∙ ap (λ x. (dropping dropped (sending x frame None Note.Nothing)).effects) state ∙ ap (λ x. (dropping dropped (sending n x None Note.Nothing)).effects) same_frame)
-      (ap (λ (x : Machine P G). x.greatest) same) (ap (λ (x : Machine P G). x.phases) same)
+      (ap (λ (x : Machine P G). x.greatest) same) (ap (λ (x : Machine P G). x.phases) same) (ap (λ (x : Machine P G). x.server.wire) same)
       (subst (λ (x : Machine P G). x.server.tick ≤ x.tick) (sym same) within.earlier)
 
   -- one program was told something
@@ -170,9 +172,9 @@ module _ {P G : Type 0} (spent : P → Bool) (wants : P → Want) (becomes : P �
 
     pub led-told : program_in new.programs.items p ≡ option_map (λ x. becomes x last) (program_in old.programs.items p) → ((q : ℕ) → q ≢ p → program_in new.programs.items q ≡ program_in old.programs.items q)
         → AreTold spent wants new.programs.items new.procs → ((q : ℕ) → IsWant (want_at new.procs q)) → numbers_in new.programs.items ≡ numbers_in old.programs.items
-        → done.frame ≡ s.frame → done.effects ≡ s.effects → new.greatest ≡ old.greatest → new.phases ≡ old.phases → new.server.tick ≤ new.tick
-        → LedFrom spent wants becomes old.programs.items old.greatest old.phases new done s
-    led-told here others told wanted numbers frame effects greatest phases served = record {
+        → done.frame ≡ s.frame → done.effects ≡ s.effects → new.greatest ≡ old.greatest → new.phases ≡ old.phases → new.server.wire ≡ old.server.wire → new.server.tick ≤ new.tick
+        → LedFrom spent wants becomes old.programs.items old.greatest old.phases old.server.wire new done s
+    led-told here others told wanted numbers frame effects greatest phases wire served = record {
       alike = subst (AreAlike (state_of new)) (sym node) (subst (λ n. AreAlike n (with_proc (state_of old) p y)) (sym state) put-alike);
       programs = programs-told here others;
       told = told;
@@ -182,10 +184,11 @@ module _ {P G : Type 0} (spent : P → Bool) (wants : P → Want) (becomes : P �
       numbers = numbers;
       same_greatest = greatest;
       same_phases = phases;
+      same_wire = wire;
       served = served;
     }
 
   -- what was done is the one thing that there was to do
-  pub led-some : (old new : Machine P G) (done : Done) (s : Stepped) → LedFrom spent wants becomes old.programs.items old.greatest old.phases new done s
-      → (x : Stepped) → Some s ≡ Some x → LedFrom spent wants becomes old.programs.items old.greatest old.phases new done x
-  led-some old new done s led x is = let same : s ≡ x = cc in subst (LedFrom spent wants becomes old.programs.items old.greatest old.phases new done) same led
+  pub led-some : (old new : Machine P G) (done : Done) (s : Stepped) → LedFrom spent wants becomes old.programs.items old.greatest old.phases old.server.wire new done s
+      → (x : Stepped) → Some s ≡ Some x → LedFrom spent wants becomes old.programs.items old.greatest old.phases old.server.wire new done x
+  led-some old new done s led x is = let same : s ≡ x = cc in subst (LedFrom spent wants becomes old.programs.items old.greatest old.phases old.server.wire new done) same led

@@ -4,6 +4,7 @@ pub mod Rising
 pub mod Seen
 pub mod Leading
 pub mod Turning
+pub mod Bounding
 pub mod Enabling
 pub mod Untold
 pub mod Phasing

@@ -4,6 +4,7 @@ use Rattle.std.specs.Option.{ForSome}
 use Rattle.std.proofs.lemmas.Option.{same_Some}
 use Rattle.uid_names.specs.Names.{ObjectName, IsProcNumber}
 use Rattle.uid_names.specs.Steps.{◌>>=◌}
+use Rattle.uid_names.specs.Wires.{wire_room}
 use Rattle.uid_names.specs.declared.ids.Place.{Place}
 use Rattle.uid_names.proofs.Somes.{bind-some, map-some}
 use Rattle.dom_history.specs.declared.op.Op.{Op}
@@ -14,8 +15,9 @@ use Rattle.call_once.specs.Notices.{noticed}
 use Rattle.call_once.specs.declared.asking.Noticed.{Noticed}
 use Rattle.ring_messages.specs.Bodies.{body_of_ask}
 use Rattle.ring_messages.specs.Frames.{Message}
-use Rattle.ring_messages.specs.Ranges.{IsBody}
+use Rattle.ring_messages.specs.Ranges.{IsBody, LiesWithin}
 use Rattle.fault_handler.specs.Accesses.{Accessed}
+use Rattle.node_runs.specs.NodesKeep.{IsOpenWithin}
 use Rattle.node_runs.specs.NodeStates.{Asked, Await, BegunOp, OpenOp, ProcState, proc_of, with_proc}
 use Rattle.node_runs.specs.Notes.{Note}
 use Rattle.node_runs.specs.Operations.{failed}
@@ -80,6 +82,9 @@ module _ {P G : Type 0} (spent : P → Bool) (wants : P → Want) (becomes : P �
       let stands = call-stands spent wants old before p proc (record { began = o; awaits = Await.Answer c }) doing c refl in
       subst (λ h. IsBody h again.body) (sym is.home) (subst (IsBody c.home) (sym is.body) stands.body)
 
+  pub again-within : (again : Again) → IsAgain c again → LiesWithin (wire_room old.server.wire) again.body
+  again-within again is = subst (LiesWithin (wire_room old.server.wire)) (sym is.body) (subst (IsOpenWithin (wire_room old.server.wire)) doing (before.node.within.asked p proc))
+
   pub wanted-notice : want_at old.procs p ≡ Do o.op
   wanted-notice = wanted-open spent wants old before p proc (record { began = o; awaits = Await.Answer c }) doing
 
@@ -89,19 +94,19 @@ module _ {P G : Type 0} (spent : P → Bool) (wants : P → Want) (becomes : P �
   -- it is sent again
   pub resent-led : (i : ℕ) (d x : Proc) (new : Machine P G) (done : Done) (again : Again) (dropped : List (ObjectName × ℕ)) → i ≡ p - 1 → i < 4 → x.want ≡ (get_or old.procs i d).want
       → proc_seen x ≡ record (proc_seen (get_or old.procs i d)) { doing = asking o (noticed_call c) } → IsAgain c again → noticed (c.waiting.notices + 1) ≡ Noticed.Resend
-      → Sent (record old { procs = set old.procs i x }) new done (again_sent old.desk.node p old.tick again) []
+      → Sent (record old { procs = set old.procs i x }) new done (again_sent old.server.wire old.desk.node p old.tick again) []
       → (s : Stepped) → (notices (given_of old) (state_of old) p (proc_of (state_of old) p).doing >>= stepped_as_named (given_of old) (state_of old)) ≡ Some s → Led spent wants becomes old new done s
   resent-led i d x new done again dropped at_p bound same seen is answer sent s comes =
       let n = state_of old in
       let g = given_of old in
       let inside : i < length old.procs = subst (λ k. i < k) (sym before.within.four) bound in
       let put = put-seen old.procs i p d x (λ r. record r { doing = asking o (noticed_call c) }) at_p inside seen in
-      let frame : again_sent old.desk.node p old.tick again ≡ request g n p (noticed_call c) =
-      same-frame old.desk.node old.desk.node again.home p p again.number c.waiting.number old.tick again.body (body_of_ask c.ask) refl refl is.number is.body
-      ∙ ap (λ h. let m : Message = record { from = old.desk.node; to = h; proc = p; number = c.waiting.number; tick = old.tick; body = body_of_ask c.ask } in m) is.home in
+      let frame : again_sent old.server.wire old.desk.node p old.tick again ≡ request g n p (noticed_call c) =
+      same-frame old.server.wire old.server.wire old.desk.node old.desk.node again.home p p again.number c.waiting.number old.tick again.body (body_of_ask c.ask) refl refl refl is.number is.body
+      ∙ ap (λ h. let m : Message = record { version = old.server.wire; from = old.desk.node; to = h; proc = p; number = c.waiting.number; tick = old.tick; body = body_of_ask c.ask } in m) is.home in
       let event : (notices g n p (proc_of n p).doing >>= stepped_as_named g n) ≡ Some (resends g n p o (noticed_call c)) = ap (λ e. e >>= stepped_as_named g n) (notices-as Noticed.Resend answer) in
       subst (Led spent wants becomes old new done) (same_Some (resends g n p o (noticed_call c)) s (sym event ∙ comes))
-      (led-sent spent wants becomes old new (set old.procs i x) done (again_sent old.desk.node p old.tick again) (request g n p (noticed_call c))
+      (led-sent spent wants becomes old new (set old.procs i x) done (again_sent old.server.wire old.desk.node p old.tick again) (request g n p (noticed_call c))
       (with_proc n p (record (proc_of n p) { doing = asking o (noticed_call c) })) [] None Note.Nothing before.within (wants-kept old.procs i d x same)
       (ap (λ ps. record n { procs = ps }) put) frame sent)
 
@@ -116,4 +121,4 @@ module _ {P G : Type 0} (spent : P → Bool) (wants : P → Want) (becomes : P �
       let found = map-some (gives_up n p o c.waiting.number) (failed n.desk p o.op) there.0 (sym (notices-as Noticed.GiveUp answer) ∙ there.1) in
       let stepped : stepped_as_named g n (gives_up n p o c.waiting.number found.0) ≡ Some s = subst (λ e. stepped_as_named g n e ≡ Some s) found.2 there.2 in
       subst (Led spent wants becomes old new done) (same_Some (moved g n p o (Stage.Settles c.waiting.number) found.0) s stepped)
-      (moves o.begun o.op wanted-notice found.0 found.1 g o.op (Stage.Settles c.waiting.number) refl wanted-notice found.0 refl)
+      (moves o.begun o.op wanted-notice found.0 found.1 g o.op (Stage.Settles c.waiting.number) refl refl wanted-notice found.0 refl)

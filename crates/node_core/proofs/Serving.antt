@@ -26,7 +26,7 @@ use Rattle.node_core.proofs.Seen.{seen-silent}
 use Rattle.node_core.proofs.Untold.{led-untold}
 
 module _ {P G : Type 0} (spent : P → Bool) (wants : P → Want) (becomes : P → Option Reply → P) (old : Machine P G) (server : ServerState) (m : Message) (ask : Ask)
-    (within : IsAtEvent spent wants old) (asks : ask_of m.body ≡ Some ask) (side : server.side ≡ (serve_frame old.server.side m).side) (tick : server.tick ≡ old.tick) where
+    (within : IsAtEvent spent wants old) (asks : ask_of m.body ≡ Some ask) (side : server.side ≡ (serve_frame old.server.side m).side) (tick : server.tick ≡ old.tick) (wire : server.wire ≡ old.server.wire) where
   abbrev served : Machine P G
   served = record old { server = server }
 
@@ -45,7 +45,7 @@ module _ {P G : Type 0} (spent : P → Bool) (wants : P → Want) (becomes : P �
   sent-led new done reply dropped answer note sent none is =
       let after = λ (n : NodeState) (r : Message). (sending n r None Note.Nothing).node in
       led-untold spent wants becomes old new done (sending node (reply_to m old.tick answer) None note) within
-      (ap (λ x. x.programs) sent.same) (ap (λ x. x.procs) sent.same) (ap (λ x. x.greatest) sent.same) (ap (λ x. x.phases) sent.same)
+      (ap (λ x. x.programs) sent.same) (ap (λ x. x.procs) sent.same) (ap (λ x. x.greatest) sent.same) (ap (λ x. x.phases) sent.same) (ap (λ x. x.server.wire) sent.same ∙ wire)
       (subst (λ x. x.server.tick ≤ x.tick) (sym sent.same) (let e : server.tick ≤ old.tick = omega (arith, tick) in e))
       (subst (λ x. AreAlike x (after node (reply_to m old.tick answer))) (sym (sent.state ∙ ap (λ n. after n reply) same-node ∙ ap (after node) is)) (alike-itself (after node (reply_to m old.tick answer))))
       (seen-silent old.procs)
@@ -63,7 +63,7 @@ module _ {P G : Type 0} (spent : P → Bool) (wants : P → Want) (becomes : P �
       → Led spent wants becomes old served done (replies node m ask how a)
   passed-led how done (Some answer) same is = absurd (cc)
   passed-led how done None same is =
-      led-untold spent wants becomes old served done (quiet node Note.Nothing) within refl refl refl refl (omega (arith, tick)) (subst (λ x. AreAlike x node) (sym same-node) (alike-itself node))
+      led-untold spent wants becomes old served done (quiet node Note.Nothing) within refl refl refl refl wire (omega (arith, tick)) (subst (λ x. AreAlike x node) (sym same-node) (alike-itself node))
       (seen-silent old.procs) (ap (λ d. d.frame) same) (ap (λ d. d.effects) same)
 
   answered-as : (serve_frame old.server.side m).answer ≡ serving.answer

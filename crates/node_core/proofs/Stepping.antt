@@ -93,6 +93,7 @@ module _ {P : Type 0} (spent : P → Bool) (wants : P → Want) (becomes : P →
     number = sym stands.number;
     nodes = sym stands.nodes;
     greatest = sym stands.greatest;
+    wire = sym stands.wire;
     phases = sym stands.phases;
     programs = same-programs;
     asks = same-asks;
@@ -149,6 +150,7 @@ module _ {P G : Type 0} (spent : P → Bool) (wants : P → Want) (becomes : P �
       number = stands.number ∙ sym number;
       nodes = stands.nodes ∙ sym (same-nodes spent wants m kept becomes new done s what incoming frame led step);
       greatest = stands.greatest ∙ sym led.same_greatest;
+      wire = stands.wire ∙ sym led.same_wire;
       frames = stands.frames ∙ sym (same-frames spent wants m kept becomes new done s what incoming frame led step);
       phases = stands.phases ∙ sym led.same_phases;
       programs = stands.programs;
@@ -195,6 +197,7 @@ module _ {P G : Type 0} (spent : P → Bool) (wants : P → Want) (becomes : P �
               number = there.number;
               nodes = there.nodes;
               greatest = there.greatest;
+              wire = there.wire;
               frames = there.frames;
               phases = there.phases;
               programs = there.programs;

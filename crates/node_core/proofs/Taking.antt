@@ -89,7 +89,7 @@ module _ {P G : Type 0} (spent : P → Bool) (wants : P → Want) (becomes : P �
         pub heard-led : (new : Machine P G) (done : Done) (body : Body) → body ≡ m.body → (m.number == call.asking.number) ≡ true → Hears spent wants becomes old new done p x.begun body
             → (s : Stepped) → stepped_as_named (given_of old) (state_of old) (hears (state_of old) m (proc_of (state_of old) m.proc).doing) ≡ Some s → Led spent wants becomes old new done s
         heard-led new done body same fits heard s comes =
-            heard (given_of old) (op_there q x opened) m refl (wanted-there x opened) (sym caller) s
+            heard (given_of old) (op_there q x opened) m refl refl (wanted-there x opened) (sym caller) s
             (subst (λ b. stepped_as_named (given_of old) (state_of old) (hears_said (state_of old) m begun_there (said_of old.desk p (op_there q x opened) b)) ≡ Some s) (sym same)
             (subst (λ k. stepped_as_named (given_of old) (state_of old) (hears_said (state_of old) m begun_there (said_of old.desk k (op_there q x opened) m.body)) ≡ Some s) (sym caller)
             (subst (λ e. stepped_as_named (given_of old) (state_of old) e ≡ Some s) (if-there true fits) comes)))

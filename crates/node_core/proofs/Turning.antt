@@ -101,17 +101,17 @@ module _ {P G : Type 0} (spent : P → Bool) (wants : P → Want) (becomes : P �
   -- the desk moved, and it came to that
   pub moves-as : (old new : Machine P G) (done : code.Done) (p : ℕ) (begun : Place) (desk : DeskState) (m : Moved) → desk ≡ m.desk → desk.node ≡ old.desk.node
       → Turns spent wants becomes (record old { desk = desk }) new done p begun m.turn m.dropped
-      → (g : Given) (op : Op) (stage : Stage) → g.number ≡ old.desk.node → want_at old.procs p ≡ Do op
+      → (g : Given) (op : Op) (stage : Stage) → g.number ≡ old.desk.node → g.wire ≡ old.server.wire → want_at old.procs p ≡ Do op
       → Led spent wants becomes old new done (moved g (state_of old) p (record { op = op; begun = begun }) stage m)
-  moves-as old new done p begun desk m same node turns g op stage number wanted =
+  moves-as old new done p begun desk m same node turns g op stage number wire wanted =
       subst (λ (d : DeskState). Led spent wants becomes old new done (dropping m.dropped (turned g (record (state_of old) { desk = d }) p (record { op = op; begun = begun }) stage m.turn))) same
-      (turns g op stage (number ∙ sym node) wanted)
+      (turns g op stage (number ∙ sym node) wire wanted)
 
   pub moves-settled : (old new : Machine P G) (done : code.Done) (p : ℕ) (begun : Place) (desk : DeskState) (m : Moved) → desk ≡ m.desk → desk.node ≡ old.desk.node
       → Turns spent wants becomes (record old { desk = desk }) new done p begun m.turn m.dropped → Moves spent wants becomes old new done p begun (Accessed.Settled m)
-  moves-settled old new done p begun desk m same node turns g op stage number wanted x is =
+  moves-settled old new done p begun desk m same node turns g op stage number wire wanted x is =
       subst (λ (y : Moved). Led spent wants becomes old new done (moved g (state_of old) p (record { op = op; begun = begun }) stage y)) (same_Some m x is)
-      (moves-as old new done p begun desk m same node turns g op stage number wanted)
+      (moves-as old new done p begun desk m same node turns g op stage number wire wanted)
 
   -- a step of the desk is what it says
   pub moves-stepped : (old new : Machine P G) (done : code.Done) (p : ℕ) (begun : Place) (desk : DeskState) (m : Moved) (step : Step) (came : Outcome) → Gives as_step desk m step → seen_step step ≡ Some came → desk.node ≡ old.desk.node
@@ -131,14 +131,14 @@ module _ {P G : Type 0} (spent : P → Bool) (wants : P → Want) (becomes : P �
           subst (λ (x : Outcome). Turns spent wants becomes (record old { desk = desk }) new done p begun x.turn x.dropped) (same_Some came (outcome_of m) (sym seen ∙ given-seen desk m access gives)) turns
 
       by_victim : (d : DeskState) (task : Task) (o : Option Victim) → ForSome o (λ victim. Gives as_access desk (room_made d p task victim) access)
-          → (g : Given) (op : Op) (stage : Stage) → g.number ≡ old.desk.node → want_at old.procs p ≡ Do op
+          → (g : Given) (op : Op) (stage : Stage) → g.number ≡ old.desk.node → g.wire ≡ old.server.wire → want_at old.procs p ≡ Do op
           → ForSome (option_map (room_made d p task) o) (λ m. Led spent wants becomes old new done (moved g (state_of old) p (record { op = op; begun = begun }) stage m))
-      by_victim d task None gives g op stage number wanted x is = absurd (cc)
-      by_victim d task (Some victim) gives g op stage number wanted x is =
+      by_victim d task None gives g op stage number wire wanted x is = absurd (cc)
+      by_victim d task (Some victim) gives g op stage number wire wanted x is =
           let m = room_made d p task victim in
           let gave = gives victim refl in
           subst (λ (y : Moved). Led spent wants becomes old new done (moved g (state_of old) p (record { op = op; begun = begun }) stage y)) (same_Some m x is)
-          (moves-as old new done p begun desk m gave.0 node (turned_as m gave) g op stage number wanted)
+          (moves-as old new done p begun desk m gave.0 node (turned_as m gave) g op stage number wire wanted)
 
       by_way : (a : Accessed) → Comes p (λ m. Gives as_access desk m access) a → Moves spent wants becomes old new done p begun a
       by_way (Accessed.Settled m) gives = moves-settled old new done p begun desk m gives.0 node (turned_as m gives)
@@ -149,7 +149,7 @@ module _ {P G : Type 0} (spent : P → Bool) (wants : P → Want) (becomes : P �
       → ForSome (stepped_as_named (given_of old) (state_of old) (Doing.Moves p (record { op = op; begun = begun }) stage accessed)) (λ s. Led spent wants becomes old new done s)
   does-moves old new done p begun op stage accessed wanted moves =
       for-mapped (moved_as_named p accessed) (moved (given_of old) (state_of old) p (record { op = op; begun = begun }) stage) (λ s. Led spent wants becomes old new done s)
-      (moves (given_of old) op stage refl wanted)
+      (moves (given_of old) op stage refl refl wanted)
 
   -- the same of one that goes on
   pub does-goes_on : (old new : Machine P G) (done : code.Done) (p : ℕ) (begun_there : Place) (op : Op) (o : OpenOp) → o.began ≡ record { op = op; begun = begun_there } → want_at old.procs p ≡ Do op

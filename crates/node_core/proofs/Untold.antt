@@ -18,10 +18,10 @@ use Rattle.node_core.proofs.Leading.{told-nothing}
 module _ {P G : Type 0} (spent : P → Bool) (wants : P → Want) (becomes : P → Option Reply → P) where
   -- it has the programs and processes of the old one, and no process of the definition hears anything
   pub led-untold : (old new : Machine P G) (done : Done) (s : Stepped) → IsAtEvent spent wants old
-      → new.programs ≡ old.programs → new.procs ≡ old.procs → new.greatest ≡ old.greatest → new.phases ≡ old.phases → new.server.tick ≤ new.tick
+      → new.programs ≡ old.programs → new.procs ≡ old.procs → new.greatest ≡ old.greatest → new.phases ≡ old.phases → new.server.wire ≡ old.server.wire → new.server.tick ≤ new.tick
       → AreAlike (state_of new) s.node → ((p : ℕ) → (proc_of s.node p).heard ≡ []) → done.frame ≡ s.frame → done.effects ≡ s.effects
       → Led spent wants becomes old new done s
-  led-untold old new done s within programs procs greatest phases served alike heard frame effects = record {
+  led-untold old new done s within programs procs greatest phases wire served alike heard frame effects = record {
     alike = alike;
     programs = λ p proc. ap (λ x. program_in x.items p) programs ∙ told-nothing becomes (program_in old.programs.items p) (proc_of s.node p).heard (heard p);
     told = subst (λ x. AreTold spent wants x.items new.procs) (sym programs) (subst (AreTold spent wants old.programs.items) (sym procs) within.told);
@@ -31,5 +31,6 @@ module _ {P G : Type 0} (spent : P → Bool) (wants : P → Want) (becomes : P �
     numbers = ap (λ x. numbers_in x.items) programs;
     same_greatest = greatest;
     same_phases = phases;
+    same_wire = wire;
     served = served;
   }

@@ -77,6 +77,7 @@ module _ {P : Type 0} where
       record {
         number = x.desk.node;
         opening = record { nodes = x.desk.nodes; greatest = x.greatest; objects = [] };
+        wire = x.server.wire;
         frames = x.desk.cache.frames;
         phases = x.phases;
         programs = numbers_in x.programs;
@@ -136,6 +137,7 @@ module _ {P : Type 0} where
     pub number : g.number ≡ (given_of x).number
     pub nodes : g.opening.nodes ≡ (given_of x).opening.nodes
     pub greatest : g.opening.greatest ≡ (given_of x).opening.greatest
+    pub wire : g.wire ≡ (given_of x).wire
     pub frames : g.frames ≡ (given_of x).frames
     pub phases : g.phases ≡ (given_of x).phases
     pub programs : (p : ℕ) → has_program g p ≡ is_some (made p)
@@ -174,6 +176,7 @@ module _ {P : Type 0} where
   pub record IsGivenBy (wants : P → Want) (becomes : P → Option Reply → P) (setup : NodeSetup) (start : Start) (made : List (ℕ × P)) (g : Given) : Type 0 where
     pub number : g.number ≡ setup.node
     pub opening : g.opening ≡ start
+    pub wire : g.wire ≡ setup.wire
     pub frames : g.frames ≡ setup.frames
     pub phases : g.phases ≡ setup.phases
     pub programs : (p : ℕ) → has_program g p ≡ is_some (program_in made p)

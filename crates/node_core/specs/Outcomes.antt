@@ -43,7 +43,7 @@ pub record Sent {P G : Type 0} (old new : Machine P G) (done : Done) (m : Messag
 module _ {P G : Type 0} (spent : P → Bool) (wants : P → Want) (becomes : P → Option Reply → P) where
   -- with these programs and this given, an event led to a machine as the definition has it; each program was told what its
   -- process heard at it
-  pub record LedFrom (before : List (ℕ × P)) (greatest phases : ℕ) (new : Machine P G) (done : Done) (s : Stepped) : Type 0 where
+  pub record LedFrom (before : List (ℕ × P)) (greatest phases wire : ℕ) (new : Machine P G) (done : Done) (s : Stepped) : Type 0 where
     pub alike : AreAlike (state_of new) s.node
     pub programs : (p : ℕ) → IsProcNumber p → program_in new.programs.items p ≡ option_map (λ x. told_all becomes x (proc_of s.node p).heard) (program_in before p)
     pub told : AreTold spent wants new.programs.items new.procs
@@ -53,10 +53,11 @@ module _ {P G : Type 0} (spent : P → Bool) (wants : P → Want) (becomes : P �
     pub numbers : numbers_in new.programs.items ≡ numbers_in before
     pub same_greatest : new.greatest ≡ greatest
     pub same_phases : new.phases ≡ phases
+    pub same_wire : new.server.wire ≡ wire
     pub served : new.server.tick ≤ new.tick
 
   abbrev pub Led : Machine P G → Machine P G → Done → Stepped → Type 0
-  Led old new done s = LedFrom old.programs.items old.greatest old.phases new done s
+  Led old new done s = LedFrom old.programs.items old.greatest old.phases old.server.wire new done s
 
   -- a program was told this, its process is in this phase, and nothing of it is open
   pub record Told (old new : Machine P G) (p phase : ℕ) (last : Option Reply) : Type 0 where
@@ -76,6 +77,7 @@ module _ {P G : Type 0} (spent : P → Bool) (wants : P → Want) (becomes : P �
     pub kept : IsKept spent wants new
     pub greatest : new.greatest ≡ old.greatest
     pub phases : new.phases ≡ old.phases
+    pub wire : new.server.wire ≡ old.server.wire
 
   -- so was each program
   pub record AllAsked (old new : Machine P G) : Type 0 where
@@ -84,23 +86,24 @@ module _ {P G : Type 0} (spent : P → Bool) (wants : P → Want) (becomes : P �
     pub kept : IsKept spent wants new
     pub greatest : new.greatest ≡ old.greatest
     pub phases : new.phases ≡ old.phases
+    pub wire : new.server.wire ≡ old.server.wire
 
   -- the operation of a process that began there came to this: it ended, asked a home, or waits
   abbrev pub Turns : Machine P G → Machine P G → Done → ℕ → Place → Turn → List (ObjectName × ℕ) → Type 0
   Turns old new done p begun turn dropped =
-      (g : Given) (op : Op) (stage : Stage) → g.number ≡ old.desk.node → want_at old.procs p ≡ Do op
+      (g : Given) (op : Op) (stage : Stage) → g.number ≡ old.desk.node → g.wire ≡ old.server.wire → want_at old.procs p ≡ Do op
       → Led old new done (dropping dropped (turned g (state_of old) p (record { op = op; begun = begun }) stage turn))
 
   -- what its desk made of it, and it came to what that makes of the operation and the node
   abbrev pub Moves : Machine P G → Machine P G → Done → ℕ → Place → Accessed → Type 0
   Moves old new done p begun accessed =
-      (g : Given) (op : Op) (stage : Stage) → g.number ≡ old.desk.node → want_at old.procs p ≡ Do op
+      (g : Given) (op : Op) (stage : Stage) → g.number ≡ old.desk.node → g.wire ≡ old.server.wire → want_at old.procs p ≡ Do op
       → ForSome (moved_as_named p accessed) (λ m. Led old new done (moved g (state_of old) p (record { op = op; begun = begun }) stage m))
 
   -- a reply to the open call of a process came to what the definition makes of it
   abbrev pub Hears : Machine P G → Machine P G → Done → ℕ → Place → Body → Type 0
   Hears old new done p begun body =
-      (g : Given) (op : Op) (m : Message) → g.number ≡ old.desk.node → want_at old.procs p ≡ Do op → m.proc ≡ p
+      (g : Given) (op : Op) (m : Message) → g.number ≡ old.desk.node → g.wire ≡ old.server.wire → want_at old.procs p ≡ Do op → m.proc ≡ p
       → ForSome (stepped_as_named g (state_of old) (hears_said (state_of old) m (record { op = op; begun = begun }) (said_of old.desk p op body))) (λ s. Led old new done s)
 
   -- it did what the definition has

@@ -112,6 +112,6 @@ IsGivenUp old new =
     (o : BegunOp) (c : Asked) → (proc_seen old).doing ≡ Some (record { began = o; awaits = Await.Answer c })
     → (noticed (c.waiting.notices + 1) ≡ Noticed.GiveUp) × (new ≡ old)
 
--- the frame that it is sent in
-abbrev pub again_sent : ℕ → ℕ → ℕ → Again → Message
-again_sent node p tick again = record { from = node; to = again.home; proc = p; number = again.number; tick = tick; body = again.body }
+-- the frame that it is sent in, of this version
+abbrev pub again_sent : ℕ → ℕ → ℕ → ℕ → Again → Message
+again_sent version node p tick again = record { version = version; from = node; to = again.home; proc = p; number = again.number; tick = tick; body = again.body }

@@ -3,6 +3,7 @@ ghost use Rattle.std.specs.Prelude.{◌≡◌, ◌≤◌, length, ◌&&◌, nat_
 ghost use Rattle.std.specs.Option.{ForSome};
 ghost use Rattle.uid_names.specs.Names.{IsProcNumber};
 ghost use Rattle.uid_names.specs.Rooms.{IsRoom};
+ghost use Rattle.uid_names.specs.Wires.{wire_room};
 ghost use Rattle.uid_names.specs.declared.limits.TheConstants.{NODE_PROCESSES};
 ghost use Rattle.dom_history.specs.declared.op.Op.{Op};
 ghost use Rattle.dom_history.specs.declared.op.Op.TheVariants.{New, List as ListOp, Lock, Unlock, Delete};
@@ -11,8 +12,9 @@ ghost use Rattle.dom_history.specs.Ranges.{IsOp};
 ghost use Rattle.fault_handler.specs.Outcomes.{seen_access};
 ghost use Rattle.fault_handler.specs.Accesses.{desk_op};
 ghost use Rattle.fault_handler.specs.Conditions.{IsOf, IsIdle};
-ghost use Rattle.fault_handler.specs.Invariant.{IsDesk};
+ghost use Rattle.fault_handler.specs.Invariant.{IsProc, IsDesk};
 ghost use Rattle.fault_handler.specs.Next.{FitsTurn, IsAsked};
+ghost use Rattle.lock_validate.specs.Bounded.{IsBounded};
 ghost use Rattle.lock_validate.specs.Locking.{begin_lock_of};
 ghost use Rattle.lock_validate.specs.Releases.{begin_unlock_of, begin_delete_of};
 ghost use Rattle.node_runs.specs.Incomings.{may_begin, may_go};
@@ -166,6 +168,8 @@ impl<P: Program, G: Pages> Machine<P, G> {
         requires program { IsSome (program_in self.old.programs.items proc.number) }
         requires wanted { IsWanted (want_at self.old.procs proc.number) }
         requires desk { IsDesk self.old.desk }
+        requires low { IsBounded (wire_room self.old.server.wire) self.old.desk }
+        requires rooms { self.old.greatest ≤ wire_room self.old.server.wire }
         requires idle { IsIdle self.old.desk proc.number }
         ensures { OnOk result (Begins P.spent P.wants P.becomes self.old self.new done.new proc.number begun) }
     {
@@ -225,6 +229,7 @@ impl<P: Program, G: Pages> Machine<P, G> {
         requires program { IsSome (program_in self.old.programs.items proc.number) }
         requires wanted { want_at self.old.procs proc.number ≡ Do (New home kind room) }
         requires room { IsRoom room }
+        requires rooms { self.old.greatest ≤ wire_room self.old.server.wire }
         ensures { OnOk result (Begins P.spent P.wants P.becomes self.old self.new done.new proc.number begun) }
     {
         if self.may_make(home, room) {
@@ -276,6 +281,9 @@ impl<P: Program, G: Pages> Machine<P, G> {
         requires program { IsSome (program_in self.old.programs.items proc.number) }
         requires wanted { want_at self.old.procs proc.number ≡ Do (Lock uid mode) }
         requires range { IsOp (Lock uid mode) }
+        requires process { IsProc proc.number }
+        requires desk { IsDesk self.old.desk }
+        requires low { IsBounded (wire_room self.old.server.wire) self.old.desk }
         requires idle { IsIdle self.old.desk proc.number }
         ensures { OnOk result (Begins P.spent P.wants P.becomes self.old self.new done.new proc.number begun) }
     {
@@ -297,6 +305,9 @@ impl<P: Program, G: Pages> Machine<P, G> {
         requires program { IsSome (program_in self.old.programs.items proc.number) }
         requires wanted { want_at self.old.procs proc.number ≡ Do (Unlock uid) }
         requires range { IsOp (Unlock uid) }
+        requires process { IsProc proc.number }
+        requires desk { IsDesk self.old.desk }
+        requires low { IsBounded (wire_room self.old.server.wire) self.old.desk }
         requires idle { IsIdle self.old.desk proc.number }
         ensures { OnOk result (Begins P.spent P.wants P.becomes self.old self.new done.new proc.number begun) }
     {
@@ -318,6 +329,9 @@ impl<P: Program, G: Pages> Machine<P, G> {
         requires program { IsSome (program_in self.old.programs.items proc.number) }
         requires wanted { want_at self.old.procs proc.number ≡ Do (Delete uid) }
         requires range { IsOp (Delete uid) }
+        requires process { IsProc proc.number }
+        requires desk { IsDesk self.old.desk }
+        requires low { IsBounded (wire_room self.old.server.wire) self.old.desk }
         requires idle { IsIdle self.old.desk proc.number }
         ensures { OnOk result (Begins P.spent P.wants P.becomes self.old self.new done.new proc.number begun) }
     {
@@ -340,6 +354,7 @@ impl<P: Program, G: Pages> Machine<P, G> {
         requires wanted { IsWanted (want_at self.old.procs proc.number) }
         requires access { (op : Op) → want_at self.old.procs proc.number ≡ Do op → IsSome (desk_op op) }
         requires desk { IsDesk self.old.desk }
+        requires low { IsBounded (wire_room self.old.server.wire) self.old.desk }
         requires idle { IsIdle self.old.desk proc.number }
         ensures { OnOk result (Begins P.spent P.wants P.becomes self.old self.new done.new proc.number begun) }
     {

@@ -3,6 +3,7 @@ ghost use Rattle.std.specs.Prelude.{◌≡◌, ◌≤◌, ◌<◌, ◌^◌, ◌&
 ghost use Rattle.std.specs.Option.{ForSome};
 ghost use Rattle.std.specs.List.{list_all, list_any};
 ghost use Rattle.uid_names.specs.Beginnings.{CanHomeBegin, at_home};
+ghost use Rattle.uid_names.specs.Wires.{IsWire, wire_room};
 ghost use Rattle.uid_names.specs.declared.limits.TheConstants.{MAX_PHASES, NODE_PROCESSES};
 ghost use Rattle.dom_history.specs.declared.event.What.TheVariants.{Ready};
 ghost use Rattle.dom_history.specs.Events.{IsWhat, AreEffects};
@@ -116,6 +117,8 @@ impl<P: Program, G: Pages> Machine<P, G> {
         requires begins { CanHomeBegin (at_home setup.node opening.now.objects) }
         requires frames_low { FEWEST_FRAMES ≤ setup.frames }
         requires frames_high { setup.frames ≤ MOST_FRAMES }
+        requires wire { IsWire setup.wire }
+        requires rooms { opening.now.greatest ≤ wire_room setup.wire }
         requires phases { setup.phases ≤ MAX_PHASES }
         requires numbers { ArePrograms (numbers_in programs.items) }
         requires whole { (p : ℕ) → IfSome (program_in programs.items p) (λ y. P.spent y ≡ false) }
@@ -125,11 +128,12 @@ impl<P: Program, G: Pages> Machine<P, G> {
         ensures kept { IfOk result (IsKept P.spent P.wants) }
         ensures greatest { IfOk result (λ m. m.greatest ≡ opening.now.greatest) }
         ensures phases { IfOk result (λ m. m.phases ≡ setup.phases) }
+        ensures wire { IfOk result (λ m. m.server.wire ≡ setup.wire) }
     {
         // What each opening keeps.
         let _nodes = opening.nodes();
         let home = Home::new(alloc, setup.node, pages, opening)?;
-        let server = PageServer::new(alloc, home)?;
+        let server = PageServer::new(alloc, home, setup.wire)?;
         let desk = Desk::new(alloc, setup.node, setup.nodes, setup.frames)?;
         let programs = rising(alloc, programs)?;
         let procs = [Proc::new(), Proc::new(), Proc::new(), Proc::new()];
@@ -372,9 +376,10 @@ impl<P: Program, G: Pages> Machine<P, G> {
     }
 
     fn may_take(&self, from: NodeId, frame: &Frame) -> bool
-        ensures { result ≡ ((frame.now.from == from) && (frame.now.to == self.now.desk.node)) }
+        ensures { result ≡ (((frame.now.from == from) && (frame.now.to == self.now.desk.node)) && (frame.now.version == self.now.server.wire)) }
     {
-        frame.from() == from && frame.to() == self.node()
+        let own = frame.from() == from && frame.to() == self.node();
+        own && frame.version() == self.server.wire()
     }
 
     fn may_notice(&self, p: u8, number: u64) -> bool

@@ -1,6 +1,7 @@
 //! A node of a domain, and its journal.
 ghost use Rattle.std.specs.Prelude.{◌≡◌, ◌≤◌, ◌<◌, ◌^◌, ◌++◌, true, false, [], ◌∷◌, ℕ, filter, option_to_list, Option, IfSome, IfOk, OnOk, OnErr, option_copied};
 ghost use Rattle.uid_names.specs.Beginnings.{CanHomeBegin, at_home};
+ghost use Rattle.uid_names.specs.Wires.{IsWire, wire_room};
 ghost use Rattle.uid_names.specs.declared.limits.TheConstants.{MAX_PHASES};
 ghost use Rattle.page_frames.specs.declared.frame.TheConstants.{FEWEST_FRAMES, MOST_FRAMES};
 ghost use Rattle.page_store.specs.Volumes.{no_pages};
@@ -142,8 +143,8 @@ impl<P: Program, G: Pages> Node<P, G> {
 
     /// A node at the start. Each program is asked what it wants first.
     ///
-    /// The opening has the nodes of `setup`, 1 to 8, of which its node is one; the pages are empty; the programs are of
-    /// processes 1 to 4, each once, and none of them was asked before.
+    /// The opening has the nodes of `setup`, 1 to 8, of which its node is one, and no room that its version can't write; the
+    /// pages are empty; the programs are of processes 1 to 4, each once, and none of them was asked before.
     pub fn new(
         alloc: Global,
         setup: NodeSetup,
@@ -155,6 +156,8 @@ impl<P: Program, G: Pages> Node<P, G> {
         requires node { setup.node ≤ setup.nodes }
         requires frames_low { FEWEST_FRAMES ≤ setup.frames }
         requires frames_high { setup.frames ≤ MOST_FRAMES }
+        requires wire { IsWire setup.wire }
+        requires rooms { opening.now.greatest ≤ wire_room setup.wire }
         requires phases_low { 1 ≤ setup.phases }
         requires phases_high { setup.phases ≤ MAX_PHASES }
         requires empty { G.volume pages ≡ no_pages }

@@ -5,7 +5,8 @@ ghost use Rattle.uid_names.specs.declared.limits.TheConstants.{NODE_PROCESSES};
 ghost use Rattle.dom_history.specs.declared.op.Op.{Op};
 ghost use Rattle.dom_history.specs.declared.op.Want.TheVariants.{Do};
 ghost use Rattle.dom_history.specs.Fitting.{Fits};
-ghost use Rattle.ring_messages.specs.Ranges.{IsBody};
+ghost use Rattle.ring_messages.specs.Ranges.{IsBody, LiesWithin};
+ghost use Rattle.uid_names.specs.Wires.{wire_room};
 ghost use Rattle.fault_handler.specs.Desks.{at};
 ghost use Rattle.fault_handler.specs.Conditions.{IsOf};
 ghost use Rattle.fault_handler.specs.Outcomes.{ended};
@@ -63,10 +64,12 @@ impl<P: Program, G: Pages> Machine<P, G> {
         requires ticked { 1 ≤ self.old.tick }
         requires number { 1 ≤ again.number }
         requires range { IsBody again.home again.body }
-        ensures { Sent self.old self.new done.new (again_sent self.old.desk.node proc.number self.old.tick again) [] }
+        requires within { LiesWithin (wire_room self.old.server.wire) again.body }
+        ensures { Sent self.old self.new done.new (again_sent self.old.server.wire self.old.desk.node proc.number self.old.tick again) [] }
     {
         let Again { home, number, body } = again;
-        let frame = Frame::new(self.node(), home, proc.number(), number, self.tick, body);
+        let (version, from) = (self.server.wire(), self.node());
+        let frame = Frame::new(version, from, home, proc.number(), number, self.tick, body);
         self.sends(frame, Dropped::new(alloc), done)
     }
 

@@ -8,12 +8,13 @@ use ring_messages::{Body, Copied, Frame};
 use std::alloc::Global;
 use uid_names::{NoMemory, NodeId};
 
-/// What a node is given beside the opening: its number and that of all nodes, its page frames, 5 to 256, and the number
-/// of phases, 1 to 1,000.
+/// What a node is given beside the opening: its number and that of all nodes, the version of its frames, 1 or 2, its page
+/// frames, 5 to 256, and the number of phases, 1 to 1,000.
 #[derive(Clone, Copy, Debug, PartialEq, Eq)]
 pub struct NodeSetup {
     pub node: NodeId,
     pub nodes: u8,
+    pub wire: u8,
     pub frames: u16,
     pub phases: u32,
 }

@@ -5,7 +5,9 @@ ghost use Rattle.dom_history.specs.declared.op.Op.{Op};
 ghost use Rattle.dom_history.specs.declared.op.Op.TheVariants.{New, List as ListOp};
 ghost use Rattle.dom_history.specs.declared.op.Want.TheVariants.{Do};
 ghost use Rattle.ring_messages.specs.Bodies.{ask_of, is_request};
-ghost use Rattle.ring_messages.specs.Ranges.{IsBody};
+ghost use Rattle.ring_messages.specs.Ranges.{IsBody, LiesWithin};
+ghost use Rattle.lock_validate.specs.Bounded.{IsBounded};
+ghost use Rattle.uid_names.specs.Wires.{wire_room};
 ghost use Rattle.fault_handler.specs.Invariant.{IsProc};
 ghost use Rattle.node_runs.specs.SentFrames.{IsNamedBody, IsFrame};
 ghost use Rattle.node_runs.specs.NodeStates.{proc_of};
@@ -40,6 +42,7 @@ impl<P: Program, G: Pages> Machine<P, G> {
         requires fresh { IsFresh done.old }
         requires before { IsBefore P.spent P.wants self.old }
         requires here { frame.now.to ≡ self.old.desk.node }
+        requires version { frame.now.version ≡ self.old.server.wire }
         requires frame { IsFrame frame.now }
         ensures { OnOk result (Does P.spent P.wants P.becomes self.old self.new done.new (Some (takes (state_of self.old) frame.now (ask_of frame.now.body)))) }
     {
@@ -55,6 +58,7 @@ impl<P: Program, G: Pages> Machine<P, G> {
         requires fresh { IsFresh done.old }
         requires before { IsBefore P.spent P.wants self.old }
         requires here { frame.now.to ≡ self.old.desk.node }
+        requires version { frame.now.version ≡ self.old.server.wire }
         requires request { IsTrue (is_request frame.now.body) }
         ensures { OnOk result (Does P.spent P.wants P.becomes self.old self.new done.new (Some (takes (state_of self.old) frame.now (ask_of frame.now.body)))) }
     {
@@ -75,6 +79,7 @@ impl<P: Program, G: Pages> Machine<P, G> {
         requires fresh { IsFresh done.old }
         requires before { IsBefore P.spent P.wants self.old }
         requires here { frame.now.to ≡ self.old.desk.node }
+        requires version { frame.now.version ≡ self.old.server.wire }
         requires frame { IsFrame frame.now }
         requires reply { IsFalse (is_request frame.now.body) }
         ensures { OnOk result (Does P.spent P.wants P.becomes self.old self.new done.new
@@ -112,6 +117,8 @@ impl<P: Program, G: Pages> Machine<P, G> {
         requires wanted { IsWanted (want_at self.old.procs proc.number) }
         requires call { (op : Op) → want_at self.old.procs proc.number ≡ Do op → IsInCall self.old.desk proc.number op }
         requires range { IsBody proc.node body.now }
+        requires within { LiesWithin (wire_room self.old.server.wire) body.now }
+        requires low { IsBounded (wire_room self.old.server.wire) self.old.desk }
         requires named { IsNamedBody body.now }
         ensures { OnOk result (Hears P.spent P.wants P.becomes self.old self.new done.new proc.number begun body.now) }
     {
@@ -194,6 +201,8 @@ impl<P: Program, G: Pages> Machine<P, G> {
         requires not_list { is_list (want_at self.old.procs proc.number) ≡ false }
         requires call { (op : Op) → want_at self.old.procs proc.number ≡ Do op → IsInCall self.old.desk proc.number op }
         requires range { IsBody proc.node body.now }
+        requires within { LiesWithin (wire_room self.old.server.wire) body.now }
+        requires low { IsBounded (wire_room self.old.server.wire) self.old.desk }
         requires named { IsNamedBody body.now }
         ensures { OnOk result (Hears P.spent P.wants P.becomes self.old self.new done.new proc.number begun body.now) }
     {

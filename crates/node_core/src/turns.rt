@@ -8,7 +8,9 @@ ghost use Rattle.ring_messages.specs.Bodies.{body_of_ask};
 ghost use Rattle.fault_handler.specs.Desks.{at, put_at};
 ghost use Rattle.fault_handler.specs.Outcomes.{Turn};
 ghost use Rattle.fault_handler.specs.Next.{FitsTurn, IsAsked};
-ghost use Rattle.ring_messages.specs.Ranges.{IsBody};
+ghost use Rattle.ring_messages.specs.Ranges.{IsBody, LiesWithin};
+ghost use Rattle.lock_validate.specs.Bounded.{AsksWithin};
+ghost use Rattle.uid_names.specs.Wires.{wire_room};
 ghost use Rattle.node_core.specs.DeskMoves.{move_seen};
 ghost use Rattle.node_core.specs.Outcomes.{IsFresh};
 ghost use Rattle.node_core.specs.Processes.{IsWanted, want_at};
@@ -90,6 +92,7 @@ impl<P: Program, G: Pages> Machine<P, G> {
         requires wanted { IsWanted (want_at self.old.procs proc.number) }
         requires fits { (op : Op) → want_at self.old.procs proc.number ≡ Do op → FitsTurn op (move_seen came).turn }
         requires asks { IsAsked self.old.desk.nodes (move_seen came).turn }
+        requires within { AsksWithin (wire_room self.old.server.wire) (move_seen came).turn }
         ensures { OnOk result (Turns P.spent P.wants P.becomes self.old self.new done.new proc.number begun (move_seen came).turn (move_seen came).dropped) }
     {
         match came {
@@ -144,11 +147,13 @@ impl<P: Program, G: Pages> Machine<P, G> {
         requires own { proc.node ≡ self.old.desk.node }
         requires at { IsAtEvent P.spent P.wants self.old }
         requires range { IsBody home (body_of_ask request) }
+        requires within { LiesWithin (wire_room self.old.server.wire) (body_of_ask request) }
         ensures { OnOk result (Turns P.spent P.wants P.becomes self.old self.new done.new proc.number begun (Turn.Asks home request) dropped) }
     {
         let number = self.procs[index_of(proc)].call(alloc, begun, home, &request)?;
+        let version = self.server.wire();
         let (from, body) = (self.node(), request.into_body());
-        let frame = Frame::new(from, home, proc.number(), number, self.tick, body);
+        let frame = Frame::new(version, from, home, proc.number(), number, self.tick, body);
         self.sends(frame, dropped, done);
         Ok(())
     }

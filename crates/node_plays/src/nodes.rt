@@ -60,6 +60,7 @@ fn node(alloc: Global, script: &Script, number: u8, frames: u16) -> Result<Shell
     let setup = NodeSetup {
         node,
         nodes: opening.nodes(),
+        wire: script.wire(),
         frames,
         phases: script.phases(),
     };

@@ -7,11 +7,12 @@ use Rattle.dom_history.specs.declared.event.What.{What}
 use Rattle.dom_history.specs.declared.plan.FateRow.{FateRow}
 use Rattle.dom_history.specs.Plans.{fate_of}
 use Rattle.ring_messages.specs.Frames.{Message}
-use Rattle.node_runs.specs.Setups.{Setup}
+use Rattle.node_runs.specs.Setups.{Setup, given}
 use Rattle.node_runs.specs.NodeStates.{NodeState}
 use Rattle.node_runs.specs.Incomings.{Incoming, tick_of}
 use Rattle.node_runs.specs.Outcomes.{Stepped}
 use Rattle.node_runs.specs.Runs.{World}
+use Rattle.node_runs.proofs.Running.{step_of-sends-version}
 use Rattle.world_runs.specs.NamedNodes.{NamesNodesIn}
 use Rattle.world_runs.specs.Sendings.{frames_on}
 use Rattle.world_runs.specs.Waiting.{Entry}
@@ -116,16 +117,16 @@ module _ {P G : Type 0} (wants : P → Want) (becomes : P → Option Reply → P
       (by-sends d.0 d.2 (step-sends wants becomes may.made s n may.own w x.node may.is.node what incoming d.0 node d.2) node.log.node number)
 
 -- a post after what it held was popped: what it takes is still to be done
-pub record IsPopped {P G : Type 0} (n nodes : ℕ) (p : Serving) (rest : List Entry) (ins : ℕ → List Carried) (plan : List FateRow) (what : What) (incoming : Incoming) (old mid : Post P G) : Type 0 where
+pub record IsPopped {P G : Type 0} (wire n nodes : ℕ) (p : Serving) (rest : List Entry) (ins : ℕ → List Carried) (plan : List FateRow) (what : What) (incoming : Incoming) (old mid : Post P G) : Type 0 where
   pub node : mid.node ≡ old.node
   pub outs : mid.outs.items ≡ old.outs.items
   pub ins_are : AreIns nodes n ins mid.ins.items
-  pub own : IsOwnLink n p.world mid.own
-  pub gets : Receives nodes plan n p rest ins mid.own.queue mid.notices.items what incoming
+  pub own : IsOwnLink wire n p.world mid.own
+  pub gets : Receives nodes plan wire n p rest ins mid.own.queue mid.notices.items what incoming
 
 module _ {P G : Type 0} (wants : P → Want) (becomes : P → Option Reply → P) (limit : ℕ) (most : limit ≤ 2 ^ 40) (made : ℕ → Option P) (s : Setup) (plan : List FateRow) (n : ℕ) (old : Post P G) (p : Serving) (is : IsPost wants becomes made s plan n p old)
     (before : (state_of old.node).tick < limit) (what : What) (incoming : Incoming) (early : tick_of incoming < 2 ^ 40) (named : NamesNodesIn s.opening.nodes what)
-    (ins : ℕ → List Carried) (mid new : Post P G) (popped : IsPopped n s.opening.nodes p is.served.own_rest ins plan what incoming old mid) where
+    (ins : ℕ → List Carried) (mid new : Post P G) (popped : IsPopped s.wire n s.opening.nodes p is.served.own_rest ins plan what incoming old mid) where
   node : IsOwn wants becomes made s n p.own p.world mid.node
   node = subst (IsOwn wants becomes made s n p.own p.world) (sym popped.node) is.node
 
@@ -170,9 +171,12 @@ module _ {P G : Type 0} (wants : P → Want) (becomes : P → Option Reply → P
     ticks : (m : Message) → st.frame ≡ Some m → m.tick ≡ st.node.tick
     ticks = step-ticks wants becomes made s n p.own p.world mid.node node what incoming st new.node step
 
+    versions : IfSome st.frame (λ m. m.version ≡ s.wire)
+    versions = step_of-sends-version (given s n) (p.world.nodes n) what incoming st.effects.dropped st step.steps
+
     abbrev served : IsServed s plan n after
     served =
-        served-next s plan is.plan_kept n p is.served what incoming st sends step.node.run step.frame ins mid.own.queue mid.notices.items mid.own refl popped.own popped.gets ticks counted
+        served-next s plan is.plan_kept n p is.served what incoming st sends step.node.run step.frame versions ins mid.own.queue mid.notices.items mid.own refl popped.own popped.gets ticks counted
 
     timely : (after.world.nodes n).tick ≤ 2 ^ 40
     timely =
@@ -212,9 +216,9 @@ module _ {P G : Type 0} (wants : P → Want) (becomes : P → Option Reply → P
       outs =
           outs-after s.opening.nodes plan n p.outs mid.outs.items new.outs.items (λ to. posted st.node.tick to (emitted_by what st))
           (subst (λ (xs : List WireOut). AreOuts s.opening.nodes plan n p.outs xs) (sym popped.outs) is.outs) sent.outs beside.outs;
-      own = subst (IsOwnLink n after.world) (sym sent.own) ((own-next s plan is.plan_kept n p is.served what incoming st sends step.node.run step.frame ins mid.own.queue mid.notices.items mid.own refl popped.own popped.gets ticks counted).own small);
+      own = subst (IsOwnLink s.wire n after.world) (sym sent.own) ((own-next s plan is.plan_kept n p is.served what incoming st sends step.node.run step.frame versions ins mid.own.queue mid.notices.items mid.own refl popped.own popped.gets ticks counted).own small);
       own_rest =
-          rest-next s plan is.plan_kept n p is.served what incoming st sends step.node.run step.frame ins mid.own.queue mid.notices.items mid.own refl popped.own popped.gets ticks counted
+          rest-next s plan is.plan_kept n p is.served what incoming st sends step.node.run step.frame versions ins mid.own.queue mid.notices.items mid.own refl popped.own popped.gets ticks counted
           ∙ ap (λ (l : links.Carrying code.Incoming). map (λ (e : link-entry.Entry code.Incoming). links.plain_name e.waiting) l.queue) (sym sent.own);
       notices =
           subst (AreNotices s.opening.nodes plan n after) (sym sent.notices)

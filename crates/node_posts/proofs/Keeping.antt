@@ -113,7 +113,7 @@ module _ {P G : Type 0} (wants : P → Want) (becomes : P → Option Reply → P
   module _ (most : limit ≤ 2 ^ 40) (x : Post P G) (none : x.fault ≡ None) where
     -- an event that receives nothing
     start-popped : (made : ℕ → Option P) (s : Setup) (plan : List FateRow) (n : ℕ) (p : Serving) (is : IsPost wants becomes made s plan n p x) (what : What) → IsStart what
-        → IsPopped n s.opening.nodes p is.served.own_rest p.ins plan what Incoming.Nothing x x
+        → IsPopped s.wire n s.opening.nodes p is.served.own_rest p.ins plan what Incoming.Nothing x x
     start-popped made s plan n p is (events.Begin q) start =
         record { node = refl; outs = refl; ins_are = is.ins; own = is.own; gets = begin-receives s.opening.nodes plan n p is.served.own_rest x.own.queue x.notices.items is.own_rest s is.served is.notices q }
     start-popped made s plan n p is (events.Go q) start =
@@ -167,7 +167,7 @@ module _ {P G : Type 0} (wants : P → Want) (becomes : P → Option Reply → P
       outs =
           subst (λ (xs : List WireOut). AreOuts s.opening.nodes plan n q.outs xs) (sym outs)
           (subst (λ (f : ℕ → List Posting). AreOuts s.opening.nodes plan n f x.outs.items) (sym sent) is.outs);
-      own = subst (IsOwnLink n q.world) (sym link) (subst (λ w. IsOwnLink n w x.own) (sym world) is.own);
+      own = subst (IsOwnLink s.wire n q.world) (sym link) (subst (λ w. IsOwnLink s.wire n w x.own) (sym world) is.own);
       own_rest = rest ∙ (is.own_rest ∙ ap (λ (l : links.Carrying code.Incoming). map (λ (e : link-entry.Entry code.Incoming). links.plain_name e.waiting) l.queue) (sym link));
       notices = notices;
     }
@@ -245,7 +245,7 @@ module _ {P G : Type 0} (wants : P → Want) (becomes : P → Option Reply → P
                 node = node;
                 outs = outs;
                 ins_are = subst (λ (xs : List WireIn). AreIns s.opening.nodes n p.ins xs) (sym ins) post.ins;
-                own = subst (IsOwnLink n p.world) (sym own) post.own;
+                own = subst (IsOwnLink s.wire n p.world) (sym own) post.own;
                 gets =
                     notice-receives s.opening.nodes plan n p post.served.own_rest mid.own.queue first mid.notices.items
                     (post.own_rest ∙ ap (λ (l : links.Carrying code.Incoming). map (λ (e : link-entry.Entry code.Incoming). links.plain_name e.waiting) l.queue) (sym own)) s post.served told;
@@ -305,11 +305,11 @@ module _ {P G : Type 0} (wants : P → Want) (becomes : P → Option Reply → P
                 node = node;
                 outs = outs;
                 ins_are = subst (λ (xs : List WireIn). AreIns s.opening.nodes n p.ins xs) (sym ins) post.ins;
-                own = subst (IsOwnLink n p.world) (sym popped.1) (own-less n p.world x.own post.own);
+                own = subst (IsOwnLink s.wire n p.world) (sym popped.1) (own-less s.wire n p.world x.own post.own);
                 gets =
-                    subst (λ (q : List (link-entry.Entry code.Incoming)). Receives s.opening.nodes plan n p post.served.own_rest p.ins q mid.notices.items (own_event n e.waiting) (seen e.received))
+                    subst (λ (q : List (link-entry.Entry code.Incoming)). Receives s.opening.nodes plan s.wire n p post.served.own_rest p.ins q mid.notices.items (own_event n e.waiting) (seen e.received))
                     (sym (ap (λ (l : links.Carrying code.Incoming). l.queue) popped.1))
-                    (subst (λ (ns : List notice.Notice). Receives s.opening.nodes plan n p post.served.own_rest p.ins (drop 1 x.own.queue) ns (own_event n e.waiting) (seen e.received)) (sym notices)
+                    (subst (λ (ns : List notice.Notice). Receives s.opening.nodes plan s.wire n p post.served.own_rest p.ins (drop 1 x.own.queue) ns (own_event n e.waiting) (seen e.received)) (sym notices)
                     (own-receives s.opening.nodes plan n p post.served.own_rest x.own x.notices.items post.own_rest s post.served post.notices post.own e popped.0));
               })
               (subst (λ (k : ℕ). IsDone wants becomes limit (own_event k e.waiting) (seen e.received) mid new new.fault) number done));
@@ -392,7 +392,7 @@ module _ {P G : Type 0} (wants : P → Want) (becomes : P → Option Reply → P
               node = node;
               outs = outs;
               ins_are = ins;
-              own = subst (IsOwnLink n p.world) (sym own) post.own;
+              own = subst (IsOwnLink s.wire n p.world) (sym own) post.own;
               gets =
                   ring-receives s.opening.nodes plan n p post.served.own_rest mid.own.queue mid.notices.items
                   (post.own_rest ∙ ap (λ (l : links.Carrying code.Incoming). map (λ (e : link-entry.Entry code.Incoming). links.plain_name e.waiting) l.queue) (sym own)) s post.served
@@ -441,7 +441,7 @@ module _ {P G : Type 0} (wants : P → Want) (becomes : P → Option Reply → P
             (dropped-by (refused-passed s plan n p post.served from apart ended carried what incoming
             (subst (λ (k : ℕ). IsEventFor from k carried what incoming) (ap (λ (m : Noted P). m.log.node) node ∙ number) event)
             (refused made (given s n) (p.world.nodes n) (subst (λ (m : Noted P). Stands wants becomes made (given s n) m (p.world.nodes n)) (sym node) post.node.stands))))
-        come-kept new (Comes.odd odd e) = subst (IsKept wants becomes limit made s plan n) (sym e) (dropped-by (odd-passed from n (entries_taken from n (events_in p.own)) carried odd))
+        come-kept new (Comes.odd odd e) = subst (IsKept wants becomes limit made s plan n) (sym e) (dropped-by (odd-passed s.wire from n (entries_taken from n (events_in p.own)) carried odd))
         come-kept new (Comes.unread e) = unread-by new e
 
       come-ins : (new : Post P G) → Comes wants becomes limit from carried mid new → new.ins.items ≡ mid.ins.items
@@ -504,7 +504,7 @@ module _ {P G : Type 0} (wants : P → Want) (becomes : P → Option Reply → P
             served = post.served;
             ins = subst (λ (xs : List WireIn). AreIns s.opening.nodes n p.ins xs) (sym ins) post.ins;
             outs = outs-still s.opening.nodes plan n p.outs x.outs.items y.outs.items post.outs still;
-            own = subst (IsOwnLink n p.world) (sym own) post.own;
+            own = subst (IsOwnLink s.wire n p.world) (sym own) post.own;
             own_rest = post.own_rest ∙ ap (λ (l : links.Carrying code.Incoming). map (λ (e : link-entry.Entry code.Incoming). links.plain_name e.waiting) l.queue) (sym own);
             notices = subst (λ (ns : List notice.Notice). AreNotices s.opening.nodes plan n p ns) (sym notices) post.notices;
           }));

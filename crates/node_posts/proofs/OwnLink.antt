@@ -1,5 +1,5 @@
 -- A node's link to itself, on which each frame passes, after an event.
-use Rattle.std.proofs.Common.{◌≡◌, ◌≢◌, ℕ, zero, suc, ◌+◌, ◌<◌, Bool, false, cond, List, [], ◌∷◌, ◌++◌, length, map, drop, Option, Some, None, inl, inr, refl, sym, ap, subst, ◌∙◌, append_assoc}
+use Rattle.std.proofs.Common.{◌≡◌, ◌≢◌, ℕ, zero, suc, ◌+◌, ◌<◌, Bool, false, cond, List, [], ◌∷◌, ◌++◌, length, map, drop, Option, Some, None, IfSome, inl, inr, refl, sym, ap, subst, ◌∙◌, append_assoc}
 use Rattle.std.specs.Prelude.{◌==◌, ◌&&◌, ◌^◌, find}
 use Rattle.std.specs.List.{AllByRecursion}
 use Rattle.std.proofs.lemmas.Bool.{cases_eq, eq-eqb, ne_eqb}
@@ -81,29 +81,29 @@ passed x link none =
     ∙ pass-plain link.frames link.queue x
 
 -- the oldest is taken
-pub own-less : (n : ℕ) (w : World) (link : links.Carrying code.Incoming) → IsOwnLink n w link → IsOwnLink n w (record link { queue = drop 1 link.queue })
-own-less n w link is = record {
+pub own-less : (wire n : ℕ) (w : World) (link : links.Carrying code.Incoming) → IsOwnLink wire n w link → IsOwnLink wire n w (record link { queue = drop 1 link.queue })
+own-less wire n w link is = record {
   carries = less-carried 1 (map received.Frame (w.frames n n)) link is.carries;
   later = is.later;
   frames = rest link.queue is.frames;
 }
   where
-    rest : (q : List (carried-entry.Entry code.Incoming)) → AllByRecursion (λ e. IsOwnFrame n e.waiting (seen e.received)) q → AllByRecursion (λ e. IsOwnFrame n e.waiting (seen e.received)) (drop 1 q)
+    rest : (q : List (carried-entry.Entry code.Incoming)) → AllByRecursion (λ e. IsOwnFrame wire n e.waiting (seen e.received)) q → AllByRecursion (λ e. IsOwnFrame wire n e.waiting (seen e.received)) (drop 1 q)
     rest [] all = tt
     rest (e ∷ q) all = all.1
 
-push-all : (n : ℕ) (q : List (carried-entry.Entry code.Incoming)) (e : carried-entry.Entry code.Incoming) → AllByRecursion (λ e. IsOwnFrame n e.waiting (seen e.received)) q → IsOwnFrame n e.waiting (seen e.received)
-    → AllByRecursion (λ e. IsOwnFrame n e.waiting (seen e.received)) (q ++ e ∷ [])
-push-all n [] e all is = (is, tt)
-push-all n (f ∷ q) e all is = (all.0, push-all n q e all.1 is)
+push-all : (wire n : ℕ) (q : List (carried-entry.Entry code.Incoming)) (e : carried-entry.Entry code.Incoming) → AllByRecursion (λ e. IsOwnFrame wire n e.waiting (seen e.received)) q → IsOwnFrame wire n e.waiting (seen e.received)
+    → AllByRecursion (λ e. IsOwnFrame wire n e.waiting (seen e.received)) (q ++ e ∷ [])
+push-all wire n [] e all is = (is, tt)
+push-all wire n (f ∷ q) e all is = (all.0, push-all wire n q e all.1 is)
 
 -- the link after an event, of which these entries were taken
-pub record IsOwnAfter (plan : List FateRow) (n tick : ℕ) (e : Happening) (es : List Happening) (taken : List Entry) (w : World) (link : links.Carrying code.Incoming) : Type 0 where
-  pub own : tick < 2 ^ 40 → IsOwnLink n w link
+pub record IsOwnAfter (plan : List FateRow) (wire n tick : ℕ) (e : Happening) (es : List Happening) (taken : List Entry) (w : World) (link : links.Carrying code.Incoming) : Type 0 where
+  pub own : tick < 2 ^ 40 → IsOwnLink wire n w link
   pub put : entries_put plan n n (e ∷ es) ≡ taken ++ names link
 
-module _ (plan : List FateRow) (kept : IsPlan plan) (n : ℕ) (w : World) (es : List Happening) (what : What) (incoming : Incoming) (st : Stepped)
-    (counted : length (w.frames n n) ≡ frames_in (sendings n n es)) (link : links.Carrying code.Incoming) (is : IsOwnLink n w link)
+module _ (plan : List FateRow) (kept : IsPlan plan) (wire n : ℕ) (w : World) (es : List Happening) (what : What) (incoming : Incoming) (st : Stepped)
+    (counted : length (w.frames n n) ≡ frames_in (sendings n n es)) (link : links.Carrying code.Incoming) (is : IsOwnLink wire n w link)
     (taken : List Entry) (put : entries_put plan n n es ≡ taken ++ names link) where
   abbrev e : Happening
   e = (own_event n what incoming st).event
@@ -111,16 +111,16 @@ module _ (plan : List FateRow) (kept : IsPlan plan) (n : ℕ) (w : World) (es : 
   abbrev v : World
   v = own_world n w what st
 
-  quiet : (l : links.Carrying code.Incoming) → l ≡ link → sent_by n n e ≡ [] → v.frames n n ≡ w.frames n n → IsOwnAfter plan n st.node.tick e es taken v l
+  quiet : (l : links.Carrying code.Incoming) → l ≡ link → sent_by n n e ≡ [] → v.frames n n ≡ w.frames n n → IsOwnAfter plan wire n st.node.tick e es taken v l
   quiet l same none frames = record {
-    own = λ early. subst (IsOwnLink n v) (sym same) (record { carries = subst (λ (ms : List Message). links.CarriesFrames (map received.Frame ms) link) (sym frames) is.carries; later = is.later; frames = is.frames });
+    own = λ early. subst (IsOwnLink wire n v) (sym same) (record { carries = subst (λ (ms : List Message). links.CarriesFrames (map received.Frame ms) link) (sym frames) is.carries; later = is.later; frames = is.frames });
     put = ap (λ (ss : List Sending). entries (fate_of plan n n) (ss ++ sendings n n es)) none ∙ put ∙ ap (λ (k : links.Carrying code.Incoming). taken ++ names k) (sym same);
   }
 
   -- a frame to the node itself
-  own-frame : (m : Message) → m.from ≡ n → m.to ≡ n → m.tick ≡ st.node.tick → sent_by n n e ≡ Sending.Frame ∷ [] → v.frames n n ≡ m ∷ w.frames n n
-      → IsOwnAfter plan n st.node.tick e es taken v (links.frame_sent Pass (received.Frame m) link)
-  own-frame m from to tick sent frames =
+  own-frame : (m : Message) → m.from ≡ n → m.to ≡ n → m.version ≡ wire → m.tick ≡ st.node.tick → sent_by n n e ≡ Sending.Frame ∷ [] → v.frames n n ≡ m ∷ w.frames n n
+      → IsOwnAfter plan wire n st.node.tick e es taken v (links.frame_sent Pass (received.Frame m) link)
+  own-frame m from to version tick sent frames =
       let l = links.frame_sent Pass (received.Frame m) link in
       let k = link.frames + 1 in
       let now = passed (received.Frame m) link is.later in
@@ -131,8 +131,8 @@ module _ (plan : List FateRow) (kept : IsPlan plan) (n : ℕ) (w : World) (es : 
           carries = subst (λ (ms : List Message). links.CarriesFrames (map received.Frame ms) l) (sym frames) (frame-carried Pass (received.Frame m) (map received.Frame (w.frames n n)) link is.carries);
           later = ap (λ (c : links.Carrying code.Incoming). c.later) now;
           frames =
-              subst (λ (es : List (carried-entry.Entry code.Incoming)). AllByRecursion (λ e. IsOwnFrame n e.waiting (seen e.received)) es) (sym q)
-              (push-all n link.queue (links.copy_of (received.Frame m) k) is.frames (from, to, subst (λ (t : ℕ). t < 2 ^ 40) (sym tick) early));
+              subst (λ (es : List (carried-entry.Entry code.Incoming)). AllByRecursion (λ e. IsOwnFrame wire n e.waiting (seen e.received)) es) (sym q)
+              (push-all wire n link.queue (links.copy_of (received.Frame m) k) is.frames (from, to, subst (λ (t : ℕ). t < 2 ^ 40) (sym tick) early, version));
         };
         put =
             ap (λ (ss : List Sending). entries (fate_of plan n n) (ss ++ sendings n n es)) sent
@@ -155,18 +155,18 @@ module _ (plan : List FateRow) (kept : IsPlan plan) (n : ℕ) (w : World) (es : 
   own-sent m x unmarked is sent =
       ap (λ (k : Option ℕ). own_by n k (emitted_by what st).frame link) unmarked ∙ ap (λ (f : Option (ℕ × Message)). own_by n None f link) (emits-frame what st m x is sent)
 
-  pub own-link-after : Sends n what st → ((m : Message) → st.frame ≡ Some m → m.tick ≡ st.node.tick) → IsOwnAfter plan n st.node.tick e es taken v (own_after n (emitted_by what st) link)
-  own-link-after (nothing unmarked none nowhere) ticks =
+  pub own-link-after : Sends n what st → ((m : Message) → st.frame ≡ Some m → m.tick ≡ st.node.tick) → IfSome st.frame (λ m. m.version ≡ wire) → IsOwnAfter plan wire n st.node.tick e es taken v (own_after n (emitted_by what st) link)
+  own-link-after (nothing unmarked none nowhere) ticks versions =
       quiet (own_after n (emitted_by what st) link) (own-nothing unmarked none) (sent-own-none n st.node.tick what incoming st refl unmarked nowhere)
       (frames-none n st.node.tick what incoming st refl w n none)
-  own-link-after (mark phase is none nowhere) ticks =
+  own-link-after (mark phase is none nowhere) ticks versions =
       quiet (own_after n (emitted_by what st) link) (own-mark phase is) (sent-own-mark n st.node.tick what incoming st refl phase is nowhere)
       (frames-none n st.node.tick what incoming st refl w n none)
-  own-link-after (frame m x unmarked f sent from goes) ticks = elim (cases_eq m.to n) [
+  own-link-after (frame m x unmarked f sent from goes) ticks versions = elim (cases_eq m.to n) [
     | inl here ↦
         (let b = eq-eqb m.to n here in
-        subst (IsOwnAfter plan n st.node.tick e es taken v) (sym (own-sent m x unmarked f sent ∙ ap (λ (c : Bool). own_if c m link) b))
-        (own-frame m from here (ticks m f)
+        subst (IsOwnAfter plan wire n st.node.tick e es taken v) (sym (own-sent m x unmarked f sent ∙ ap (λ (c : Bool). own_if c m link) b))
+        (own-frame m from here (subst (λ (o : Option Message). IfSome o (λ x. x.version ≡ wire)) f versions) (ticks m f)
         (sent-own-frame n st.node.tick what incoming st refl m x unmarked sent goes ∙ ap (λ (c : Bool). sending_if c Sending.Frame) b)
         (frames-some n st.node.tick what incoming st refl w n m f ∙ ap (λ (c : Bool). cond c (m ∷ w.frames n n) (w.frames n n)) (eq-eqb n m.to (sym here)))))
     | inr away ↦

@@ -46,10 +46,10 @@ use Rattle.node_posts.proofs.Telling.{grown}
 use Rattle.node_posts.proofs.Coming.{IsLater, came-later, all-came-later}
 
 -- an event receives this, so that this much came out of the rings, and these wait on the node's own link and of its notices
-pub record Receives (nodes : ℕ) (plan : List FateRow) (n : ℕ) (p : Serving) (rest : List Entry) (ins : ℕ → List Carried) (queue : List (link-entry.Entry code.Incoming)) (xs : List notice.Notice) (what : What) (incoming : Incoming) : Type 0 where
+pub record Receives (nodes : ℕ) (plan : List FateRow) (wire n : ℕ) (p : Serving) (rest : List Entry) (ins : ℕ → List Carried) (queue : List (link-entry.Entry code.Incoming)) (xs : List notice.Notice) (what : What) (incoming : Incoming) : Type 0 where
   pub more : (from : ℕ) → (more : List Carried) × (ins from ≡ p.ins from ++ more)
   pub now : Came plan n (record p { ins = ins }) what incoming
-  pub takes : (from : ℕ) → from ≢ n → IsHeard from n (ins from) (entries_taken from n (events_in p.own) ++ entry_by from n n what)
+  pub takes : (from : ℕ) → from ≢ n → IsHeard wire from n (ins from) (entries_taken from n (events_in p.own) ++ entry_by from n n what)
   pub told : (f : FrameName) → f.0 ≢ n → times_named f (noticed_by what ++ noticed_in (events_in p.own)) ≤ times_in f.2 (words_in (ins f.0))
   pub taken : rest ≡ entry_by n n n what ++ map (λ e. links.plain_name e.waiting) queue
   pub each : AllByRecursion (IsNoticeHere nodes plan n p.world) xs
@@ -84,7 +84,7 @@ unmarked-by n t from phase (Ready k) o h = absurd (cc)
 unmarked-by n t from phase (Mark a k) o h = refl
 
 module _ (s : Setup) (plan : List FateRow) (kept : IsPlan plan) (n : ℕ) (p : Serving) (served : IsServed s plan n p) (what : What) (incoming : Incoming) (st : Stepped) (sends : Sends n what st)
-    (run : IsLocalRun s n (own_event n what incoming st ∷ p.own) (own_world n p.world what st)) (spelt : IfSome (emitted_by what st).frame (λ sent. IsFrame sent.1)) where
+    (run : IsLocalRun s n (own_event n what incoming st ∷ p.own) (own_world n p.world what st)) (spelt : IfSome (emitted_by what st).frame (λ sent. IsFrame sent.1)) (versions : IfSome st.frame (λ m. m.version ≡ s.wire)) where
   abbrev w : World
   w = p.world
 
@@ -114,7 +114,7 @@ module _ (s : Setup) (plan : List FateRow) (kept : IsPlan plan) (n : ℕ) (p : S
   frames-next to away = posted-frames n tick what incoming st refl w to (p.outs to) sends (served.frames to away)
 
   abbrev IsOfLink : ℕ → Message → Type 0
-  IsOfLink to m = (m.from ≡ n) × (m.to ≡ to) × IsFrame m
+  IsOfLink to m = (m.from ≡ n) × (m.to ≡ to) × IsFrame m × (m.version ≡ s.wire)
 
   newest : (b : Bool) (to k : ℕ) (m x : Message) (xs : List Message) → (IsOfLink to m) → (numbered k xs ≡ Some x → IsOfLink to x) → cond b (Some m) (numbered k xs) ≡ Some x → IsOfLink to x
   newest true to k m x xs is before found = subst (IsOfLink to) (same_Some m x found) is
@@ -132,7 +132,7 @@ module _ (s : Setup) (plan : List FateRow) (kept : IsPlan plan) (n : ℕ) (p : S
       served.links to away k m (ap (λ (ys : List Posting). numbered k (frames_of (ys ++ p.outs to))) (sym (posted-mark n tick what incoming st refl to phase is)) ∙ found)
   links-next (frame f x unmarked is sent from goes) to away k m found =
       by-frame (to == f.to) to k f m (p.outs to)
-      (λ h. (from, sym (equal to f.to h), subst (λ (o : Option (ℕ × Message)). IfSome o (λ y. IsFrame y.1)) (emits-frame what st f x is sent) spelt))
+      (λ h. (from, sym (equal to f.to h), subst (λ (o : Option (ℕ × Message)). IfSome o (λ y. IsFrame y.1)) (emits-frame what st f x is sent) spelt, subst (λ (o : Option Message). IfSome o (λ m. m.version ≡ s.wire)) is versions))
       (served.links to away k m)
       (ap (λ (ys : List Posting). numbered k (frames_of (ys ++ p.outs to))) (sym (posted-frame n tick what incoming st refl to f x unmarked is sent)) ∙ found)
 
@@ -185,8 +185,8 @@ module _ (s : Setup) (plan : List FateRow) (kept : IsPlan plan) (n : ℕ) (p : S
       (subst (λ (ys : List Posting). IsPosted (Posting.Mark phase t) (ys ++ p.outs to)) (posted-mark n tick what incoming st refl to k ready) is)
 
   -- all of it
-  module _ (ins : ℕ → List Carried) (queue : List (link-entry.Entry code.Incoming)) (xs : List notice.Notice) (link : links.Carrying code.Incoming) (queue_is : link.queue ≡ queue) (own : IsOwnLink n w link)
-      (gets : Receives s.opening.nodes plan n p served.own_rest ins queue xs what incoming) (ticks : (m : Message) → st.frame ≡ Some m → m.tick ≡ tick)
+  module _ (ins : ℕ → List Carried) (queue : List (link-entry.Entry code.Incoming)) (xs : List notice.Notice) (link : links.Carrying code.Incoming) (queue_is : link.queue ≡ queue) (own : IsOwnLink s.wire n w link)
+      (gets : Receives s.opening.nodes plan s.wire n p served.own_rest ins queue xs what incoming) (ticks : (m : Message) → st.frame ≡ Some m → m.tick ≡ tick)
       (counted : length (w.frames n n) ≡ frames_in (sendings n n es)) where
     abbrev after : Serving
     after = serving_after n p ins what incoming st
@@ -200,8 +200,8 @@ module _ (s : Setup) (plan : List FateRow) (kept : IsPlan plan) (n : ℕ) (p : S
         ∙ (sym (append_assoc (entries_taken n n es) (entry_by n n n what) (map (λ (e : link-entry.Entry code.Incoming). links.plain_name e.waiting) queue))
         ∙ ap (λ (q : List (link-entry.Entry code.Incoming)). taken ++ map (λ e. links.plain_name e.waiting) q) (sym queue_is)))
 
-    pub own-next : IsOwnAfter plan n tick e es taken v (own_after n (emitted_by what st) link)
-    own-next = own-link-after plan kept n w es what incoming st counted link own taken put sends ticks
+    pub own-next : IsOwnAfter plan s.wire n tick e es taken v (own_after n (emitted_by what st) link)
+    own-next = own-link-after plan kept s.wire n w es what incoming st counted link own taken put sends ticks versions
 
     later-all : IsLater n p after
     later-all = record { ins = gets.more; frames = grown n w what incoming st sends }

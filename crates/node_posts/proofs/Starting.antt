@@ -66,7 +66,7 @@ module _ {P G : Type 0} (wants : P → Want) (becomes : P → Option Reply → P
     counts : (length ys - 1) + 1 ≡ s.opening.nodes
     counts = let a = within in let b = many in omega (arith, a, b)
 
-    empty-link : IsOwnLink n (first_world s) links.empty_link
+    empty-link : IsOwnLink s.wire n (first_world s) links.empty_link
     empty-link = record {
       carries = record { frames = refl; queue = All-nil (λ (e : link-entry.Entry code.Incoming). links.IsFrameOf [] e.received e.waiting); later = All-nil (λ (c : Later code.Incoming). numbered c.index [] ≡ Some c.received) };
       later = refl;
@@ -80,7 +80,7 @@ module _ {P G : Type 0} (wants : P → Want) (becomes : P → Option Reply → P
       served = idle-served s plan n;
       ins = record { many = ap (λ (i : ℕ). i + 1) first.ins_many ∙ counts; each = λ at i e. first.ins at i e; none = λ from out. refl };
       outs = record { many = ap (λ (i : ℕ). i + 1) first.outs_many ∙ counts; each = λ at o e. first.outs at o e };
-      own = subst (IsOwnLink n (first_world s)) (sym first.own) empty-link;
+      own = subst (IsOwnLink s.wire n (first_world s)) (sym first.own) empty-link;
       own_rest = ap (λ (l : links.Carrying code.Incoming). map (λ (e : link-entry.Entry code.Incoming). links.plain_name e.waiting) l.queue) (sym first.own);
       notices = subst (AreNotices s.opening.nodes plan n (idle s)) (sym first.notices) (record { each = tt; once = λ f at. omega arith });
     }

@@ -49,16 +49,16 @@ pub record AreIns (nodes n : ℕ) (ins : ℕ → List Carried) (ends : List Wire
   pub each : (at : ℕ) (i : WireIn) → slice_get ends at ≡ Some i → taken i ≡ ins (other_at n at)
   pub none : (from : ℕ) → (IsNode nodes from → ⊥) → ins from ≡ []
 
--- a frame that a node sent to itself
-abbrev pub IsOwnFrame : ℕ → Waiting → Incoming → Type 0
-IsOwnFrame n (waiting.Copy index) (Incoming.Frame m) = (m.from ≡ n) × (m.to ≡ n) × (m.tick < 2 ^ 40)
-IsOwnFrame n w incoming = ⊥
+-- a frame that a node sent to itself, of its version
+abbrev pub IsOwnFrame : ℕ → ℕ → Waiting → Incoming → Type 0
+IsOwnFrame wire n (waiting.Copy index) (Incoming.Frame m) = (m.from ≡ n) × (m.to ≡ n) × (m.tick < 2 ^ 40) × (m.version ≡ wire)
+IsOwnFrame wire n w incoming = ⊥
 
 -- a node's link to itself has the frames that it sent there, of which these wait
-pub record IsOwnLink (n : ℕ) (w : World) (link : Carrying code.Incoming) : Type 0 where
+pub record IsOwnLink (wire n : ℕ) (w : World) (link : Carrying code.Incoming) : Type 0 where
   pub carries : CarriesFrames (map received.Frame (w.frames n n)) link
   pub later : link.later ≡ []
-  pub frames : AllByRecursion (λ e. IsOwnFrame n e.waiting (seen e.received)) link.queue
+  pub frames : AllByRecursion (λ e. IsOwnFrame wire n e.waiting (seen e.received)) link.queue
 
 -- a notice that waits is of a frame of the node that is lost or late
 pub record IsNoticeHere (nodes : ℕ) (plan : List FateRow) (n : ℕ) (w : World) (x : Notice) : Type 0 where
@@ -117,7 +117,7 @@ module _ {P G : Type 0} where
       pub served : IsServed s plan n p
       pub ins : AreIns s.opening.nodes n p.ins x.ins.items
       pub outs : AreOuts s.opening.nodes plan n p.outs x.outs.items
-      pub own : IsOwnLink n p.world x.own
+      pub own : IsOwnLink s.wire n p.world x.own
       pub own_rest : served.own_rest ≡ map (λ e. plain_name e.waiting) x.own.queue
       pub notices : AreNotices s.opening.nodes plan n p x.notices.items
 

@@ -67,7 +67,7 @@ SameFound n m (Some event) found = (same : Doing) × (found ≡ Some same) × Sa
 module _ (g other_given : Given) (n other : NodeState) (alike : (p : ℕ) → AreAlikeProcs (proc_of n p) (proc_of other p)) (long : length n.procs ≡ length other.procs)
     (marked : (from phase : ℕ) → is_marked n from phase ≡ is_marked other from phase) where
   abbrev h : Given
-  h = record other_given { number = g.number; phases = g.phases }
+  h = record other_given { number = g.number; wire = g.wire; phases = g.phases }
 
   abbrev m : NodeState
   m = record n { procs = other.procs; marks = other.marks }

@@ -19,7 +19,7 @@ abbrev mixed : NodeState → NodeState → NodeState
 mixed n m = record n { procs = m.procs; marks = m.marks }
 
 abbrev mixed_given : Given → Given → Given
-mixed_given g h = record h { number = g.number; phases = g.phases }
+mixed_given g h = record h { number = g.number; wire = g.wire; phases = g.phases }
 
 -- which is that other one, where they are alike
 mixed-is : (n m : NodeState) → AreAlike n m → mixed n m ≡ m
@@ -32,7 +32,8 @@ mixed-is n m is =
     ∙ ap (λ x. record m { ready = x }) is.ready
 
 mixed-given : (g h : Given) (n m : NodeState) → AreAlikeGiven g h n m → mixed_given g h ≡ h
-mixed-given g h n m is = ap (λ x. record h { number = x; phases = g.phases }) is.number ∙ ap (λ x. record h { phases = x }) is.phases
+mixed-given g h n m is =
+    ap (λ x. record h { number = x; wire = g.wire; phases = g.phases }) is.number ∙ ap (λ x. record h { wire = x; phases = g.phases }) is.wire ∙ ap (λ x. record h { phases = x }) is.phases
 
 module _ (g h : Given) (n m : NodeState) (what : What) (incoming : Incoming) (given : AreAlikeGiven g h n m) (alike : AreAlike n m) where
   mixed-enabled : enabled g n what incoming ≡ enabled (mixed_given g h) (mixed n m) what incoming

@@ -1,6 +1,6 @@
 -- Each step did one of the things that an event does.
 use Rattle.std.proofs.Common.{◌≡◌, ℕ, ◌+◌, Bool, true, false, List, Option, Some, None, refl, sym, ap, subst, ◌∙◌}
-use Rattle.std.specs.Prelude.{◌==◌, not, is_none}
+use Rattle.std.specs.Prelude.{◌==◌, ◌&&◌, not, is_none}
 use Rattle.std.proofs.lemmas.Bool.{not-true}
 use Rattle.std.proofs.lemmas.Option.{same_Some}
 use Rattle.uid_names.specs.Names.{ObjectName}
@@ -24,6 +24,7 @@ use Rattle.node_runs.specs.Operations.{gone_on, Said, said_of, failed}
 use Rattle.node_runs.specs.Incomings.{Incoming, has_program, may_happen, may_go, has_come, may_notice, is_call}
 use Rattle.node_runs.specs.Outcomes.{Stepped, Stage, moved}
 use Rattle.node_runs.specs.Doings.{Doing, begins, goes_on, replies, hears_said, hears_if, hears_at, hears, takes, gives_up, notices_as, notices_at, notices, noticed_call, event_of, ticked}
+use Rattle.node_runs.specs.SentFrames.{IsOfWire}
 use Rattle.node_runs.specs.Steps.{step_of}
 use Rattle.node_runs.specs.Dones.{Did, asking, paused, finished, began, resumed, served, passed_over, heard, ignored, resent, gave_up, got_ready, marked}
 use Rattle.node_runs.proofs.Stepping.{Leaves, step_of-is}
@@ -109,7 +110,8 @@ module _ (g : Given) (n : NodeState) (s : Stepped) where
   event_of-did (Go p) (Incoming.Gone number tick) event may e left = absurd (cc)
   event_of-did (Go p) (Incoming.Mark tick) event may e left = absurd (cc)
   event_of-did (Take from index) (Incoming.Frame m) event may e left =
-      takes-did from index m (equal m.from from (left-true (m.from == from) (m.to == g.number) may)) (equal m.to g.number (right-true (m.from == from) (m.to == g.number) may)) (ask_of m.body) refl (this (takes n m (ask_of m.body)) event e left)
+      let link = left-true ((m.from == from) && (m.to == g.number)) (m.version == g.wire) may in
+      takes-did from index m (equal m.from from (left-true (m.from == from) (m.to == g.number) link)) (equal m.to g.number (right-true (m.from == from) (m.to == g.number) link)) (ask_of m.body) refl (this (takes n m (ask_of m.body)) event e left)
   event_of-did (Take from index) Incoming.Nothing event may e left = absurd (cc)
   event_of-did (Take from index) (Incoming.Gone number tick) event may e left = absurd (cc)
   event_of-did (Take from index) (Incoming.Mark tick) event may e left = absurd (cc)
@@ -131,3 +133,18 @@ pub step_of-did : (g : Given) (n : NodeState) (what : What) (incoming : Incoming
 step_of-did g n what incoming dropped s e =
     let is = step_of-is g n what incoming dropped s e in
     event_of-did g (ticked n incoming) s what incoming is.event (right-true (not (is_ended g n)) (may_happen g n what incoming) is.enabled) is.comes is.leaves
+
+-- a frame that may be taken is of the node's version
+version-of : (g : Given) (n : NodeState) (what : What) (incoming : Incoming) → may_happen g n what incoming ≡ true → IsOfWire g.wire incoming
+version-of g n what Incoming.Nothing may = tt
+version-of g n what (Incoming.Gone number tick) may = tt
+version-of g n what (Incoming.Mark tick) may = tt
+version-of g n (Take from index) (Incoming.Frame m) may = equal m.version g.wire (right-true ((m.from == from) && (m.to == g.number)) (m.version == g.wire) may)
+version-of g n (Begin p) (Incoming.Frame m) may = absurd (cc)
+version-of g n (Go p) (Incoming.Frame m) may = absurd (cc)
+version-of g n (Notice p from to index) (Incoming.Frame m) may = absurd (cc)
+version-of g n (Ready phase) (Incoming.Frame m) may = absurd (cc)
+version-of g n (Mark from phase) (Incoming.Frame m) may = absurd (cc)
+
+pub step_of-version : (g : Given) (n : NodeState) (what : What) (incoming : Incoming) (dropped : List (ObjectName × ℕ)) (s : Stepped) → step_of g n what incoming dropped ≡ Some s → IsOfWire g.wire incoming
+step_of-version g n what incoming dropped s e = version-of g n what incoming (right-true (not (is_ended g n)) (may_happen g n what incoming) (step_of-is g n what incoming dropped s e).enabled)

@@ -7,6 +7,7 @@ use Rattle.std.proofs.lemmas.List.{length-map}
 use Rattle.std.proofs.lemmas.List.Elements.{All-nil}
 use Rattle.uid_names.specs.declared.mode.ObjKind.{ObjKind}
 use Rattle.uid_names.specs.Names.{ObjectName, ProcName}
+use Rattle.uid_names.specs.Wires.{wire_room}
 use Rattle.dom_history.specs.declared.op.Op.{Op}
 use Rattle.dom_history.specs.declared.op.Op.TheVariants as ops
 use Rattle.dom_history.specs.declared.op.Reply.{Reply}
@@ -14,19 +15,20 @@ use Rattle.dom_history.specs.Follows.{Heard}
 use Rattle.dom_history.specs.Ranges.{IsOp, IsNamedReply, AreNamedReplies}
 use Rattle.ring_messages.specs.Bodies.{Ask}
 use Rattle.page_server.specs.Serving.{HomeSide}
-use Rattle.page_server.specs.ServerStates.{IsSide, IsCountedTo}
+use Rattle.page_server.specs.ServerStates.{IsSide, IsSideWithin, IsCountedTo}
 use Rattle.fault_handler.specs.Desks.{DeskState, at, open_call_of, moving_of}
 use Rattle.fault_handler.specs.Conditions.{IsIdle}
 use Rattle.fault_handler.specs.Invariant.{IsProc, IsDesk}
 use Rattle.fault_handler.specs.Ready.{IsReady}
 use Rattle.fault_handler.specs.Next.{IsOpen, IsRequest, MayGoOn}
+use Rattle.lock_validate.specs.Bounded.{IsBounded}
 use Rattle.node_runs.specs.Setups.{Given}
 use Rattle.node_runs.specs.NodeStates.{Asked, BegunOp, OpenOp, ProcState, NodeState, first_proc, proc_of}
 use Rattle.node_runs.specs.Agreements.{IsCallOpen, IsCalling, IsOpenCall, Agrees}
 use Rattle.node_runs.specs.Told.{AreFitting}
 use Rattle.node_runs.specs.Following.{IsWanted, IsFollowed}
 use Rattle.node_runs.specs.Dones.{asking, waiting}
-use Rattle.node_runs.specs.NodesKeep.{IsOwnDesk, IsNodeOf, IsCounted}
+use Rattle.node_runs.specs.NodesKeep.{IsOpenWithin, IsNodeWithin, IsOwnDesk, IsNodeOf, IsCounted}
 use Rattle.node_runs.specs.Alikes.{AreAlikeProcs, AreAlike, forgetting, forgotten, HasHeardNothing, IsGivenAnew}
 use Rattle.node_runs.proofs.Keeping.{IsDeskOp}
 
@@ -105,6 +107,14 @@ module _ (g h : Given) (n m : NodeState) (alike : AreAlike n m) (silent : HasHea
     named = subst AreNamedReplies (sym (silent p)) (All-nil (λ (t : Option Reply). IfSome t IsNamedReply));
   }
 
+  -- all that it knows can be written in the same version
+  within-anew : IsNodeWithin (wire_room g.wire) n → IsNodeWithin (wire_room h.wire) m
+  within-anew is = subst (λ wire. IsNodeWithin (wire_room wire) m) (sym anew.wire) (record {
+    desk = subst (IsBounded (wire_room g.wire)) alike.desk is.desk;
+    side = subst (IsSideWithin (wire_room g.wire)) alike.side is.side;
+    asked = λ p proc. subst (IsOpenWithin (wire_room g.wire)) (alike.procs p).doing (is.asked p proc);
+  })
+
   pub node-anew : IsNodeOf g n → IsNodeOf h m
   node-anew is = record {
     side = subst IsSide alike.side is.side;
@@ -114,6 +124,7 @@ module _ (g h : Given) (n m : NodeState) (alike : AreAlike n m) (silent : HasHea
     four = sym alike.many ∙ is.four;
     agrees = λ p proc. agrees-anew p (is.agrees p proc);
     followed = λ p proc. followed-anew p;
+    within = within-anew is.within;
   }
 
 pub counted-alike : (n m : NodeState) → AreAlike n m → IsCounted n → IsCounted m

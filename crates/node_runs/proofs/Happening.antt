@@ -1,6 +1,6 @@
 -- An enabled event of a node happens: however room is made, and also as its cache names it.
 use Rattle.std.proofs.Common.{◌≡◌, ℕ, ◌+◌, Bool, true, false, Option, Some, None, IsSome, refl, sym, ap, subst, ◌∙◌}
-use Rattle.std.specs.Prelude.{◌==◌, not, is_none}
+use Rattle.std.specs.Prelude.{◌==◌, ◌&&◌, not, is_none}
 use Rattle.std.specs.Option.{option_map}
 use Rattle.uid_names.specs.Steps.{◌>>=◌}
 use Rattle.uid_names.proofs.Passed.{left-true, right-true, equal}
@@ -138,7 +138,8 @@ module _ (g : Given) (given_is : IsGiven g) (n : NodeState) (is : IsNodeOf g n) 
   event_of-happens (Go p) (Incoming.Gone number tick) frame may = absurd (cc)
   event_of-happens (Go p) (Incoming.Mark tick) frame may = absurd (cc)
   event_of-happens (Take from index) (Incoming.Frame m) frame may =
-      (takes n m (ask_of m.body), refl, takes-happens m frame (equal m.to g.number (right-true (m.from == from) (m.to == g.number) may)) (ask_of m.body))
+      let link = left-true ((m.from == from) && (m.to == g.number)) (m.version == g.wire) may in
+      (takes n m (ask_of m.body), refl, takes-happens m frame (equal m.to g.number (right-true (m.from == from) (m.to == g.number) link)) (ask_of m.body))
   event_of-happens (Take from index) Incoming.Nothing frame may = absurd (cc)
   event_of-happens (Take from index) (Incoming.Gone number tick) frame may = absurd (cc)
   event_of-happens (Take from index) (Incoming.Mark tick) frame may = absurd (cc)
@@ -165,7 +166,7 @@ named-leaves g n (Doing.Moves p o stage accessed) (to, named, may) = (moved g n 
 pub enabled-happens : (g : Given) (n : NodeState) (what : What) (incoming : Incoming) → IsGiven g → IsNodeOf g n → IsIncoming incoming → enabled g n what incoming ≡ true
     → (s : Stepped) × (named_step g n what incoming ≡ Some s) × (step_of g n what incoming s.effects.dropped ≡ Some s)
 enabled-happens g n what incoming given_is is frame may =
-    let later = node-with g n (ticked n incoming) is refl refl is.side is.home in
+    let later = node-with g n (ticked n incoming) is refl refl is.side is.home is.within.side in
     let found = event_of-happens g given_is (ticked n incoming) later what incoming frame (right-true (not (is_ended g n)) (may_happen g n what incoming) may) in
     let out = named-leaves g (ticked n incoming) found.0 found.2 in
     (out.0, ap (λ x. x >>= stepped_as_named g (ticked n incoming)) found.1 ∙ out.1, leaves-steps g n what incoming found.0 out.0 may found.1 out.2)

@@ -1,10 +1,10 @@
--- In every run each node keeps what each node keeps, and each frame that was sent is one.
+-- In every run each node keeps what each node keeps, and each frame that was sent is one, of the version of the run.
 use Rattle.std.proofs.Common.{◌≡◌, ◌≢◌, ℕ, ◌+◌, ◌≤◌, true, List, Option, Some, None, IfSome, inl, inr, refl, sym, ap, subst, arith}
 use Rattle.std.specs.Prelude.{◌^◌, nat_le, ◌&&◌, max}
 use Rattle.std.proofs.lemmas.Bool.{cases_eq}
 use Rattle.std.proofs.lemmas.Bool.Decides.{nat_tests}
 use Rattle.std.proofs.lemmas.List.Elements.{All-nil}
-use Rattle.uid_names.specs.Names.{IsName}
+use Rattle.uid_names.specs.Names.{IsName, ObjectName}
 use Rattle.dom_history.specs.declared.event.What.{What}
 use Rattle.dom_history.specs.Events.{IsWhat, IsEvent}
 use Rattle.dom_history.specs.Objects.{is_node}
@@ -20,11 +20,12 @@ use Rattle.node_runs.specs.Incomings.{Incoming, tick_of, has_program}
 use Rattle.node_runs.specs.Outcomes.{Stepped, Stage, turned, moved}
 use Rattle.node_runs.specs.Doings.{begun_at, stage_of, ticked}
 use Rattle.node_runs.specs.Dones.{Did, paused, finished, began, resumed, served, passed_over, heard, ignored, resent, gave_up, got_ready, marked}
+use Rattle.node_runs.specs.Steps.{step_of}
 use Rattle.node_runs.specs.Runs.{World, first_world, Choice, put, frames_after, world_with, world_after}
 use Rattle.node_runs.specs.CallsKeep.{EachOf}
-use Rattle.node_runs.specs.SentFrames.{IsNamedBody, IsFrame, IsIncoming, AreFrames}
+use Rattle.node_runs.specs.SentFrames.{IsNamedBody, IsFrame, IsIncoming, AreFrames, IsOfWire, AreOfWire}
 use Rattle.node_runs.specs.NodesKeep.{IsNodeOf, IsCounted, IsTimely}
-use Rattle.node_runs.proofs.Doing.{step_of-did}
+use Rattle.node_runs.proofs.Doing.{step_of-did, step_of-version}
 use Rattle.node_runs.proofs.Sides.{did-side}
 use Rattle.node_runs.proofs.Counts.{step_of-counted, first-counted}
 use Rattle.node_runs.proofs.Ticks.{step_of-tick}
@@ -78,6 +79,37 @@ module _ (g : Given) (n : NodeState) where
     did-named : (what : What) (incoming : Incoming) (s : Stepped) → Did g n what incoming s → AreNamed s.node.side
     did-named what incoming s did = did-side g n AreNamed named what incoming s (λ m ask comes receiver asks. served-named n.side (caller_of m) m.number ask named next) did
 
+-- what a node sends is of its version
+abbrev pub SendsVersion : ℕ → Stepped → Type 0
+SendsVersion wire s = IfSome s.frame (λ m. m.version ≡ wire)
+
+module _ (g : Given) (n : NodeState) where
+  turned-version : (p : ℕ) (o : BegunOp) (stage : Stage) (d : DeskState) (turn : Turn) → SendsVersion g.wire (turned g (record n { desk = d }) p o stage turn)
+  turned-version p o stage d (Turn.Ends reply) = tt
+  turned-version p o stage d (Turn.Asks home ask) = refl
+  turned-version p o stage d (Turn.Waits u k) = tt
+
+  moved-version : (p : ℕ) (o : BegunOp) (stage : Stage) (m : Moved) → SendsVersion g.wire (moved g n p o stage m)
+  moved-version p o stage m = turned-version p o stage m.desk m.turn
+
+  did-version : (what : What) (incoming : Incoming) (s : Stepped) → IsOfWire g.wire incoming → Did g n what incoming s → SendsVersion g.wire s
+  did-version what incoming s version (paused p has none is) = tt
+  did-version what incoming s version (finished p has none is) = tt
+  did-version what incoming s version (began p op to has none is may) = moved-version p (begun_at g n op) Stage.Starts to
+  did-version what incoming s version (resumed p o u k accessed to has is come goes may) = moved-version p o Stage.Resumes to
+  did-version what incoming s version (served from index m ask answer sender receiver asks is) = version
+  did-version what incoming s version (passed_over from index m ask sender receiver asks is) = tt
+  did-version what incoming s version (heard from index m o c said to sender receiver asks is same says may) = moved-version m.proc o (stage_of m.number said) to
+  did-version what incoming s version (ignored from index m sender receiver asks) = tt
+  did-version what incoming s version (resent p from to index number tick o c has is same answer) = refl
+  did-version what incoming s version (gave_up p from to index number tick o c into has is same answer fails) = moved-version p o (Stage.Settles c.waiting.number) into
+  did-version what incoming s version (got_ready phase may) = tt
+  did-version what incoming s version (marked from phase tick may) = tt
+
+pub step_of-sends-version : (g : Given) (n : NodeState) (what : What) (incoming : Incoming) (dropped : List (ObjectName × ℕ)) (s : Stepped) → step_of g n what incoming dropped ≡ Some s → SendsVersion g.wire s
+step_of-sends-version g n what incoming dropped s e =
+    did-version g (ticked n incoming) what incoming s (step_of-version g n what incoming dropped s e) (step_of-did g n what incoming dropped s e)
+
 -- the process that an event names is one that has a program
 did-what : (g : Given) → ((p : ℕ) → has_program g p ≡ true → IsProc p) → (n : NodeState) (what : What) (incoming : Incoming) (s : Stepped) → Did g n what incoming s → IsWhat what
 did-what g procs n what incoming s (paused p has none is) = procs p has
@@ -108,12 +140,14 @@ pub record AreKept (s : Setup) (w : World) : Type 0 where
 
 pub record RunKeeps (s : Setup) (w : World) : Type 0 where
   pub counted : (n : ℕ) → IsCounted (w.nodes n)
+  pub wire : AreOfWire s.wire w
   pub kept : IsTimely w → AreKept s w
 
 module _ (s : Setup) (setup : IsSetup s) where
   run-first : RunKeeps s (first_world s)
   run-first = record {
     counted = λ n. first-counted s setup n;
+    wire = λ from to. tt;
     kept = λ timely. record {
       nodes = λ n node. IsNodeOf-first (given s n) (setup-gives s setup n node);
       named = λ n node. All-nil (λ (call : Call Answer). IsNamedAnswer call.body);
@@ -131,6 +165,14 @@ module _ (s : Setup) (setup : IsSetup s) where
 
     tick-is : is.step.node.tick ≡ max (old.nodes c.node).tick (tick_of is.incoming) + 1
     tick-is = step_of-tick g (old.nodes c.node) c.what is.incoming c.dropped is.step is.steps
+
+    -- each frame is of the version of the run
+    wire-kept : (o : Option Message) → is.step.frame ≡ o → (from to : ℕ) → EachOf (λ (m : Message). m.version ≡ s.wire) (frames_after old c.node o from to)
+    wire-kept None same = keeps.wire
+    wire-kept (Some m) same =
+        let version : m.version ≡ s.wire = subst (λ (f : Option Message). IfSome f (λ x. x.version ≡ s.wire)) same
+        (step_of-sends-version g (old.nodes c.node) c.what is.incoming c.dropped is.step is.steps) in
+        frames-one old c.node m (λ from to x. x.version ≡ s.wire) version keeps.wire
 
     -- ticks never fall
     timely-before : IsTimely after → IsTimely old
@@ -191,6 +233,7 @@ module _ (s : Setup) (setup : IsSetup s) where
     run-later : RunKeeps s new
     run-later = subst (RunKeeps s) (sym is.world) (record {
       counted = put-each (λ a x. IsCounted x) old.nodes c.node is.step.node (step_of-counted g (old.nodes c.node) c.what is.incoming c.dropped is.step (keeps.counted c.node) is.steps) (λ a differs. keeps.counted a);
+      wire = wire-kept is.step.frame refl;
       kept = kept-after;
     })
 

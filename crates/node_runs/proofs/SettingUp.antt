@@ -34,6 +34,7 @@ setup-gives s is n node =
     let a = is.all_frames in let b = is.all_programs in let c : nat_le 1 n && nat_le n s.opening.nodes ≡ true = node in record {
       start = is.start;
       begins = is.begins;
+      wire = is.wire;
       frames = is.frames (n - 1) 0 (grind (arith, nat_tests, a, c));
       programs = is.programs (n - 1) [] (grind (arith, nat_tests, b, c));
       wants = λ p. is.wants (record { node = n; number = p });

@@ -32,6 +32,7 @@ pub record AreAlikeGiven (g h : Given) (n m : NodeState) : Type 0 where
   pub number : g.number ≡ h.number
   pub nodes : g.opening.nodes ≡ h.opening.nodes
   pub greatest : g.opening.greatest ≡ h.opening.greatest
+  pub wire : g.wire ≡ h.wire
   pub phases : g.phases ≡ h.phases
   pub programs : (p : ℕ) → has_program g p ≡ has_program h p
   pub asks : (p : ℕ) → has_program g p ≡ true → g.asks p (proc_of n p).heard ≡ h.asks p (proc_of m p).heard
@@ -67,10 +68,11 @@ forgotten n = record n { procs = map forgetting n.procs }
 abbrev pub HasHeardNothing : NodeState → Type 0
 HasHeardNothing n = (p : ℕ) → (proc_of n p).heard ≡ []
 
--- what such a node is given in place of the other: its own number, nodes and frames, and programs that want the operation
--- that is open, whatever they heard
+-- what such a node is given in place of the other: its own number, nodes, version and frames, and programs that want the
+-- operation that is open, whatever they heard
 pub record IsGivenAnew (g h : Given) (n : NodeState) : Type 0 where
   pub number : h.number ≡ g.number
   pub nodes : h.opening.nodes ≡ g.opening.nodes
+  pub wire : h.wire ≡ g.wire
   pub frames : h.frames ≡ g.frames
   pub asks : (p : ℕ) (o : OpenOp) (heard : Heard) → (proc_of n p).doing ≡ Some o → h.asks p heard ≡ Do o.began.op

@@ -1,5 +1,5 @@
 -- What the calls of a run keep: each request on a link is of a call of its process, and a call asks one thing of one home.
-use Rattle.std.specs.Prelude.{◌≡◌, ℕ, true, Option, Some, None, List, [], ◌∷◌, length}
+use Rattle.std.specs.Prelude.{◌≡◌, ℕ, true, Option, Some, None, List, length}
 use Rattle.uid_names.specs.declared.limits.TheConstants.{NODE_PROCESSES}
 use Rattle.ring_messages.specs.Bodies.{Ask, ask_of}
 use Rattle.ring_messages.specs.Frames.{Message}
@@ -8,6 +8,7 @@ use Rattle.node_runs.specs.NodeStates.{Asked, Await, OpenOp, proc_of}
 use Rattle.node_runs.specs.Setups.{Setup, given}
 use Rattle.node_runs.specs.Incomings.{has_program}
 use Rattle.node_runs.specs.Runs.{World, numbered}
+pub use Rattle.uid_names.specs.Each.{EachOf}
 
 -- the processes that have a program are 1 to 4
 abbrev pub HasProcs : Setup → Type 0
@@ -27,11 +28,6 @@ pub record IsOnLink (calls : ℕ → ℕ → List Asked) (from to : ℕ) (m : Me
   pub receiver : m.to ≡ to
   pub proc : IsProc m.proc
   pub call : (ask : Ask) → ask_of m.body ≡ Some ask → IsCallAt (calls from m.proc) m.number to ask
-
--- P holds of each
-abbrev pub EachOf : {A : Type 0} → (A → Type 0) → List A → Type 0
-EachOf P [] = Unit {0}
-EachOf P (x ∷ xs) = P x × EachOf P xs
 
 abbrev pub IsAwaited : List Asked → Await → Type 0
 IsAwaited calls (Await.Answer c) = IsCallAt calls c.waiting.number c.home c.ask

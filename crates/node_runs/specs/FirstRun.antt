@@ -44,6 +44,7 @@ abbrev pub setup : Setup
 setup =
     record {
       opening = record { nodes = 1; greatest = 1024; objects = [] };
+      wire = 1;
       frames = 64 ∷ [];
       phases = 1;
       programs = (1 ∷ []) ∷ [];

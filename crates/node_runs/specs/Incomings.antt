@@ -50,11 +50,12 @@ may_notice number (Some o) = is_call number o.awaits
 abbrev pub may_be_ready : Given → NodeState → ℕ → Bool
 may_be_ready g n phase = (phase == n.phase) && (not n.ready && list_all (is_at_end n) g.programs)
 
--- the event may happen at a node that has not ended; one that doesn't receive what it needs may not
+-- the event may happen at a node that has not ended; one that doesn't receive what it needs may not, nor a frame of another
+-- version
 abbrev pub may_happen : Given → NodeState → What → Incoming → Bool
 may_happen g n (events.Begin p) Incoming.Nothing = may_begin g n p
 may_happen g n (events.Go p) Incoming.Nothing = has_program g p && may_go n.desk (proc_of n p).doing
-may_happen g n (events.Take from index) (Incoming.Frame m) = (m.from == from) && (m.to == g.number)
+may_happen g n (events.Take from index) (Incoming.Frame m) = ((m.from == from) && (m.to == g.number)) && (m.version == g.wire)
 may_happen g n (events.Notice p from to index) (Incoming.Gone number tick) = has_program g p && may_notice number (proc_of n p).doing
 may_happen g n (events.Ready phase) Incoming.Nothing = may_be_ready g n phase
 may_happen g n (events.Mark from phase) (Incoming.Mark tick) = not (from == g.number) && not (is_marked n from phase)

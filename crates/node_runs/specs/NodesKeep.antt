@@ -1,14 +1,18 @@
 -- What each node keeps, wherever its events led.
-use Rattle.std.specs.Prelude.{◌≡◌, ℕ, ◌≤◌, ◌^◌, true, Some, List, ◌∷◌, length}
+use Rattle.std.specs.Prelude.{◌≡◌, ℕ, ◌≤◌, ◌^◌, true, Option, Some, None, List, ◌∷◌, length}
 use Rattle.uid_names.specs.Names.{ObjectName}
+use Rattle.uid_names.specs.Wires.{wire_room}
 use Rattle.uid_names.specs.declared.limits.TheConstants.{NODE_PROCESSES}
 use Rattle.dom_history.specs.declared.event.What.{What}
 use Rattle.dom_history.specs.Objects.{is_node}
-use Rattle.page_server.specs.ServerStates.{IsSide, IsCountedTo}
+use Rattle.ring_messages.specs.Bodies.{body_of_ask}
+use Rattle.ring_messages.specs.Ranges.{LiesWithin}
+use Rattle.page_server.specs.ServerStates.{IsSide, IsSideWithin, IsCountedTo}
 use Rattle.fault_handler.specs.Desks.{DeskState}
 use Rattle.fault_handler.specs.Invariant.{IsProc, IsDesk}
+use Rattle.lock_validate.specs.Bounded.{IsBounded}
 use Rattle.node_runs.specs.Setups.{Given, IsGiven, Setup, IsSetup}
-use Rattle.node_runs.specs.NodeStates.{NodeState, first_node, proc_of, emitted_to}
+use Rattle.node_runs.specs.NodeStates.{Await, OpenOp, NodeState, first_node, proc_of, emitted_to}
 use Rattle.node_runs.specs.Incomings.{Incoming}
 use Rattle.node_runs.specs.Outcomes.{Stepped}
 use Rattle.node_runs.specs.Steps.{step_of, Dropped, StepsTo}
@@ -23,8 +27,23 @@ pub record IsOwnDesk (g : Given) (d : DeskState) : Type 0 where
   pub nodes : d.nodes ≡ g.opening.nodes
   pub frames : d.cache.frames ≡ g.frames
 
+-- what an open call asks lies within a room
+abbrev pub IsAwaitWithin : ℕ → Await → Type 0
+IsAwaitWithin room (Await.Answer c) = LiesWithin room (body_of_ask c.ask)
+IsAwaitWithin room (Await.Page u k) = Unit {0}
+
+abbrev pub IsOpenWithin : ℕ → Option OpenOp → Type 0
+IsOpenWithin room None = Unit {0}
+IsOpenWithin room (Some o) = IsAwaitWithin room o.awaits
+
+-- all that its desk, its home side and its open calls know lies within a room
+pub record IsNodeWithin (room : ℕ) (n : NodeState) : Type 0 where
+  pub desk : IsBounded room n.desk
+  pub side : IsSideWithin room n.side
+  pub asked : (p : ℕ) → IsProc p → IsOpenWithin room (proc_of n p).doing
+
 -- its home side is one and its desk is one, both its own; the desk agrees with each process, and each process does what
--- its program wants
+-- its program wants; and all that it knows can be written in its version
 pub record IsNodeOf (g : Given) (n : NodeState) : Type 0 where
   pub side : IsSide n.side
   pub home : n.side.home.node ≡ g.number
@@ -33,6 +52,7 @@ pub record IsNodeOf (g : Given) (n : NodeState) : Type 0 where
   pub four : length n.procs ≡ NODE_PROCESSES
   pub agrees : (p : ℕ) → IsProc p → Agrees n.desk p (proc_of n p).last (proc_of n p).doing
   pub followed : (p : ℕ) → IsProc p → IsFollowed (g.asks p) (proc_of n p)
+  pub within : IsNodeWithin (wire_room g.wire) n
 
 -- no number is above the tick: no event sends two frames, makes two calls, or gives two grants, counters or stamps
 pub record IsCounted (n : NodeState) : Type 0 where

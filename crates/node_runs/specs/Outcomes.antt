@@ -41,9 +41,9 @@ sending n m call note =
       note = note;
     }
 
--- the frame of a call
+-- the frame of a call, in the version of the node
 abbrev pub request : Given → NodeState → ℕ → Asked → Message
-request g n p c = record { from = g.number; to = c.home; proc = p; number = c.waiting.number; tick = n.tick; body = body_of_ask c.ask }
+request g n p c = record { version = g.wire; from = g.number; to = c.home; proc = p; number = c.waiting.number; tick = n.tick; body = body_of_ask c.ask }
 
 -- how far an operation had come: it begins; its desk goes on with it; the answer to a call of this number, or its link
 -- fault, settles it

@@ -33,6 +33,7 @@ abbrev pub setup : Setup
 setup =
     record {
       opening = record { nodes = 2; greatest = 1024; objects = record { uid = y; kind = File; room = 1 } ∷ [] };
+      wire = 1;
       frames = 64 ∷ 64 ∷ [];
       phases = 1;
       programs = (1 ∷ []) ∷ [] ∷ [];

@@ -1,5 +1,5 @@
 -- Frames as nodes send them.
-use Rattle.std.specs.Prelude.{ℕ}
+use Rattle.std.specs.Prelude.{◌≡◌, ℕ}
 use Rattle.uid_names.specs.Names.{IsName}
 use Rattle.ring_messages.specs.declared.body.Body.{Body}
 use Rattle.ring_messages.specs.declared.body.Body.TheVariants as bodies
@@ -25,3 +25,12 @@ IsIncoming incoming = Unit {0}
 -- each frame that was ever sent is one
 abbrev pub AreFrames : World → Type 0
 AreFrames w = (from to : ℕ) → EachOf IsFrame (w.frames from to)
+
+-- what is received is of a version, where it is a frame
+abbrev pub IsOfWire : ℕ → Incoming → Type 0
+IsOfWire wire (Incoming.Frame m) = m.version ≡ wire
+IsOfWire wire incoming = Unit {0}
+
+-- each frame that was ever sent is of this version
+abbrev pub AreOfWire : ℕ → World → Type 0
+AreOfWire wire w = (from to : ℕ) → EachOf (λ (m : Message). m.version ≡ wire) (w.frames from to)

@@ -3,16 +3,19 @@ use Rattle.std.specs.Prelude.{ℕ, ◌-◌, ◌≡◌, ◌≤◌, ◌≢◌, Lis
 use Rattle.uid_names.specs.Names.{ProcName}
 use Rattle.uid_names.specs.Openings.{Start, IsStart}
 use Rattle.uid_names.specs.Beginnings.{CanBegin}
+use Rattle.uid_names.specs.Wires.{IsWire, wire_room}
 use Rattle.dom_history.specs.declared.op.Want.{Want}
 use Rattle.dom_history.specs.Follows.{Heard}
 use Rattle.page_frames.specs.declared.frame.TheConstants.{FEWEST_FRAMES, MOST_FRAMES}
 use Rattle.fault_handler.specs.Invariant.{IsProc}
 use Rattle.node_runs.specs.Told.{AreWantsInRange}
 
--- what all nodes are given: the opening, the frames of each node, the number of phases, the processes of each node
--- that have a program, and what each program wants once it has heard this. The lists begin with node 1
+-- what all nodes are given: the opening, the version of the frames that they send each other, the page frames of each node,
+-- the number of phases, the processes of each node that have a program, and what each program wants once it has heard this.
+-- The lists begin with node 1
 pub record Setup : Type 0 where
   pub opening : Start
+  pub wire : ℕ
   pub frames : List ℕ
   pub phases : ℕ
   pub programs : List (List ℕ)
@@ -22,6 +25,7 @@ pub record Setup : Type 0 where
 pub record Given : Type 0 where
   pub number : ℕ
   pub opening : Start
+  pub wire : ℕ
   pub frames : ℕ
   pub phases : ℕ
   pub programs : List ℕ
@@ -32,6 +36,7 @@ given s n =
     record {
       number = n;
       opening = s.opening;
+      wire = s.wire;
       frames = slice_index_or s.frames (n - 1) 0;
       phases = s.phases;
       programs = slice_index_or s.programs (n - 1) [];
@@ -52,10 +57,16 @@ pub record IsFrames (frames : ℕ) : Type 0 where
 abbrev pub AreWants : Given → Type 0
 AreWants g = (p : ℕ) → AreWantsInRange (g.asks p)
 
+-- a version, and an opening all whose rooms it can write
+pub record FitsWire (wire : ℕ) (opening : Start) : Type 0 where
+  pub version : IsWire wire
+  pub rooms : opening.greatest ≤ wire_room wire
+
 -- the conditions on what one node is given
 pub record IsGiven (g : Given) : Type 0 where
   pub start : IsStart g.opening
   pub begins : CanBegin g.opening
+  pub wire : FitsWire g.wire g.opening
   pub frames : IsFrames g.frames
   pub programs : ArePrograms g.programs
   pub wants : AreWants g
@@ -64,6 +75,7 @@ pub record IsGiven (g : Given) : Type 0 where
 pub record IsSetup (s : Setup) : Type 0 where
   pub start : IsStart s.opening
   pub begins : CanBegin s.opening
+  pub wire : FitsWire s.wire s.opening
   pub frames : All IsFrames s.frames
   pub all_frames : length s.frames ≡ s.opening.nodes
   pub phases_low : 1 ≤ s.phases

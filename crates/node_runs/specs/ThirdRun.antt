@@ -31,6 +31,7 @@ abbrev pub setup : List Op → Setup
 setup ops =
     record {
       opening = record { nodes = 1; greatest = MAX_ROOM; objects = record { uid = x; kind = File; room = 6 } ∷ [] };
+      wire = 2;
       frames = 5 ∷ [];
       phases = 1;
       programs = (1 ∷ []) ∷ [];

@@ -14,7 +14,7 @@ ghost use Rattle.node_runs.specs.RoomMade.{TakesEachVictim, TookSomeVictim};
 ghost use Rattle.node_runs.specs.Alikes.{AreAlikeGiven, AreAlike, DoesAlike};
 ghost use Rattle.node_runs.specs.Doings.{ticked};
 ghost use Rattle.node_runs.specs.Dones.{Did};
-ghost use Rattle.node_runs.specs.SentFrames.{IsIncoming, AreFrames};
+ghost use Rattle.node_runs.specs.SentFrames.{IsIncoming, AreFrames, AreOfWire};
 ghost use Rattle.node_runs.specs.NodesKeep.{IsNodeOf, AtEachStep, IsCounted, Reached, IsTimely, InEveryRun};
 ghost use Rattle.node_runs.specs.Runs.{IsRun, Choice, World, world_after, world_of, AreRising};
 ghost use Rattle.node_runs.specs.CallsKeep.{HasProcs, EachOf, AreCalls};
@@ -94,7 +94,8 @@ pub fn what_a_setup_gives()
 /// Wherever its events led, a node's desk is one and agrees with each of its processes: one that does nothing may begin,
 /// one that waits may go on, and an open call is of its operation, stands, and asks what it can be asked. Its home side is
 /// one. An open operation is what its program wants, and each program was told what fits, and of no object but real ones.
-/// What a node sends is a frame in its range, and what the journal has of its events is what each event's effects keep.
+/// All rooms, lengths and pages that it knows can be written in its version. What a node sends is a frame in its range, and
+/// what the journal has of its events is what each event's effects keep.
 pub fn each_reached_node_agrees_with_its_desk()
     ensures step { AtEachStep (λ g s. IsNodeOf g s.node) }
     ensures sends { AtEachStep (λ g s. IfSome s.frame IsInRange) }
@@ -103,12 +104,13 @@ pub fn each_reached_node_agrees_with_its_desk()
 {}
 
 /// So does each node of every run in which no tick is above 2^40; each frame that was ever sent is one, and each event is
-/// one that a journal can have.
+/// one that a journal can have. Whatever the ticks, each frame is of the version that all the nodes are given.
 pub fn each_node_of_a_run_agrees_with_its_desk()
     ensures nodes { (s : Setup) → IsSetup s → (cs : List Choice) (w : World) → world_after s cs ≡ Some w → IsTimely w →
         (n : ℕ) → is_node s.opening n ≡ true → IsNodeOf (given s n) (w.nodes n) }
     ensures frames { InEveryRun (λ s w. AreFrames w) }
     ensures events { InEveryRun (λ s w. EachOf IsEvent w.done) }
+    ensures wire { (s : Setup) → IsSetup s → (cs : List Choice) (w : World) → world_after s cs ≡ Some w → AreOfWire s.wire w }
 {}
 
 /// In every run, whatever becomes of frames: each request on a link is of a call of its process, so that one number

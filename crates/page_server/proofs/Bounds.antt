@@ -112,5 +112,5 @@ IsCountedTo-later side before tick counted later =
     }
 
 -- a server at a later tick
-pub IsServer-later : (server : ServerState) (tick : ℕ) → IsServer server → server.tick < tick → IsServer (record { side = server.side; tick = tick })
-IsServer-later server tick keeps later = record { side = keeps.side; counted = IsCountedTo-later server.side server.tick tick keeps.counted later }
+pub IsServer-later : (server : ServerState) (tick : ℕ) → IsServer server → server.tick < tick → IsServer (record { side = server.side; tick = tick; wire = server.wire })
+IsServer-later server tick keeps later = record { side = keeps.side; counted = IsCountedTo-later server.side server.tick tick keeps.counted later; wire = keeps.wire; within = keeps.within }

@@ -26,17 +26,18 @@ pub record Leaves (before after : ServerState) (m : Message) (now : ℕ) (answer
   pub answered : answer ≡ (serve_frame before.side m).answer
   pub side : after.side ≡ (serve_frame before.side m).side
   pub tick : after.tick ≡ now
+  pub wire : after.wire ≡ before.wire
   pub old : IsNone answer ↔ (m.number < last_of (caller_of m) before.side.served)
   pub node : after.side.home.node ≡ before.side.home.node
 
--- a side with the tick of its last request, and what is answered beside it
-abbrev pub server_of : HomeState → Table → List (Call Answer) → ℕ → ServerState
-server_of home locks served tick = record { side = record { home = home; locks = locks; served = served }; tick = tick }
+-- a side with the tick of its last request and its version, and what is answered beside it
+abbrev pub server_of : HomeState → Table → List (Call Answer) → ℕ → ℕ → ServerState
+server_of home locks served tick wire = record { side = record { home = home; locks = locks; served = served }; tick = tick; wire = wire }
 
 abbrev serving_of : HomeState → Table → List (Call Answer) → Answer → Serving
 serving_of home locks served answer = record { side = record { home = home; locks = locks; served = served }; answer = Some answer }
 
-module _ (before : ServerState) (home : HomeState) (locks : Table) (served : List (Call Answer)) (last : ℕ) (view : server_of home locks served last ≡ before) (m : Message) (asked : IsSome (ask_of m.body)) (how : Looked)
+module _ (before : ServerState) (home : HomeState) (locks : Table) (served : List (Call Answer)) (last wire : ℕ) (view : server_of home locks served last wire ≡ before) (m : Message) (asked : IsSome (ask_of m.body)) (how : Looked)
     (looks : looked m.number (last_of (caller_of m) served) ≡ how) where
   abbrev here : HomeSide
   here = record { home = home; locks = locks; served = served }
@@ -46,11 +47,11 @@ module _ (before : ServerState) (home : HomeState) (locks : Table) (served : Lis
   served-as None some s is = absurd (false≢true some)
   served-as (Some ask) some s is = ap (λ (l : Looked). serve_as l here (caller_of m) m.number ask) looks ∙ is ask refl
 
-  leaves : (after : ServerState) (tick : ℕ) (s : Serving) → serve_frame here m ≡ s → after.side ≡ s.side → after.tick ≡ tick
+  leaves : (after : ServerState) (tick : ℕ) (s : Serving) → serve_frame here m ≡ s → after.side ≡ s.side → after.tick ≡ tick → after.wire ≡ wire
       → (IsNone s.answer ↔ (m.number < last_of (caller_of m) served)) → after.side.home.node ≡ home.node → Leaves before after m tick s.answer
-  leaves after tick s is side ticked old node =
+  leaves after tick s is side ticked same old node =
       subst (λ (b : ServerState). Leaves b after m tick s.answer) view
-      (record { answered = sym (ap (λ (x : Serving). x.answer) is); side = side ∙ sym (ap (λ (x : Serving). x.side) is); tick = ticked; old = old; node = node })
+      (record { answered = sym (ap (λ (x : Serving). x.answer) is); side = side ∙ sym (ap (λ (x : Serving). x.side) is); tick = ticked; wire = same; old = old; node = node })
 
   -- what it wants
   pub wants-so : IfSome (ask_of m.body) (λ ask. IsTrue (wants_as how here (caller_of m) ask)) → IfSome (ask_of m.body) (λ ask. IsTrue (may_want before.side (caller_of m) m.number ask))
@@ -64,12 +65,12 @@ module _ (before : ServerState) (home : HomeState) (locks : Table) (served : Lis
       → IfSome (ask_of m.body) (λ ask. after ≡ (decide home locks (caller_of m) ask).home)
       → IfSome (ask_of m.body) (λ ask. table ≡ (decide home locks (caller_of m) ask).locks)
       → calls ≡ with_call (record { proc = caller_of m; number = m.number; body = answer }) served
-      → after.node ≡ home.node → Leaves before (server_of after table calls tick) m tick (Some answer)
+      → after.node ≡ home.node → Leaves before (server_of after table calls tick wire) m tick (Some answer)
   leaves-fresh is after table calls answer tick told at_home at_locks kept node =
-      leaves (server_of after table calls tick) tick (serving_of after table calls answer)
+      leaves (server_of after table calls tick wire) tick (serving_of after table calls answer)
       (served-as (ask_of m.body) asked (serving_of after table calls answer)
       (λ ask asks. ap (λ (l : Looked). serve_as l here (caller_of m) m.number ask) is ∙ sym (decided ask (there (λ a. answer ≡ (decide home locks (caller_of m) a).answer) ask asks told) (there (λ a. after ≡ (decide home locks (caller_of m) a).home) ask asks at_home) (there (λ a. table ≡ (decide home locks (caller_of m) a).locks) ask asks at_locks))))
-      refl refl (λ none. absurd cc, λ older. absurd (let newer = fresh-above m.number (last_of (caller_of m) served) (looks ∙ is) in omega (arith, older, newer))) node
+      refl refl refl (λ none. absurd cc, λ older. absurd (let newer = fresh-above m.number (last_of (caller_of m) served) (looks ∙ is) in omega (arith, older, newer))) node
     where
       there : (P : Ask → Type 0) (ask : Ask) → ask_of m.body ≡ Some ask → IfSome (ask_of m.body) P → P ask
       there P ask asks holds = subst (λ (o : Option Ask). IfSome o P) asks holds
@@ -84,19 +85,19 @@ module _ (before : ServerState) (home : HomeState) (locks : Table) (served : Lis
           ∙ ap (λ (a : Answer). serving_of d.home d.locks (with_call (record { proc = caller_of m; number = m.number; body = a }) served) a) told
 
   -- it is answered again
-  pub leaves-again : how ≡ Again → (answer : Answer) (tick : ℕ) → body_of (caller_of m) served ≡ Some answer → Leaves before (server_of home locks served tick) m tick (Some answer)
+  pub leaves-again : how ≡ Again → (answer : Answer) (tick : ℕ) → body_of (caller_of m) served ≡ Some answer → Leaves before (server_of home locks served tick wire) m tick (Some answer)
   leaves-again is answer tick kept =
-      leaves (server_of home locks served tick) tick (record { side = here; answer = Some answer })
+      leaves (server_of home locks served tick wire) tick (record { side = here; answer = Some answer })
       (served-as (ask_of m.body) asked (record { side = here; answer = Some answer })
       (λ ask asks. ap (λ (l : Looked). serve_as l here (caller_of m) m.number ask) is ∙ ap (λ (o : Option Answer). record { side = here; answer = o }) kept))
-      refl refl (λ none. absurd cc, λ older. absurd (let same = again-same m.number (last_of (caller_of m) served) (looks ∙ is) in omega (arith, older, same))) refl
+      refl refl refl (λ none. absurd cc, λ older. absurd (let same = again-same m.number (last_of (caller_of m) served) (looks ∙ is) in omega (arith, older, same))) refl
 
   -- it is not answered
-  pub leaves-old : how ≡ Old → (tick : ℕ) → Leaves before (server_of home locks served tick) m tick None
+  pub leaves-old : how ≡ Old → (tick : ℕ) → Leaves before (server_of home locks served tick wire) m tick None
   leaves-old is tick =
-      leaves (server_of home locks served tick) tick (record { side = here; answer = None })
+      leaves (server_of home locks served tick wire) tick (record { side = here; answer = None })
       (served-as (ask_of m.body) asked (record { side = here; answer = None }) (λ ask asks. ap (λ (l : Looked). serve_as l here (caller_of m) m.number ask) is))
-      refl refl (λ none. old-below m.number (last_of (caller_of m) served) (looks ∙ is), λ older. refl) refl
+      refl refl refl (λ none. old-below m.number (last_of (caller_of m) served) (looks ∙ is), λ older. refl) refl
 
 -- how the number of a frame stands, as it was looked up
 pub looked-so : (m : Message) (p : ProcName) (n : ℕ) (served : List (Call Answer)) (how : Looked) → p ≡ caller_of m → n ≡ m.number → how ≡ looked n (last_of p served) → looked m.number (last_of (caller_of m) served) ≡ how
@@ -104,7 +105,7 @@ looked-so m p n served how caller number is =
     sym (is ∙ ap (λ (q : ProcName). looked n (last_of q served)) caller ∙ ap (λ (k : ℕ). looked k (last_of (caller_of m) served)) number)
 
 -- without memory nothing changed
-pub left-alone : (before : ServerState) (home after : HomeState) (locks table : Table) (served calls : List (Call Answer)) (last : ℕ) → server_of home locks served last ≡ before
-    → after ≡ home → table ≡ locks → calls ≡ served → server_of after table calls last ≡ before
-left-alone before home after locks table served calls last view at_home at_locks kept =
-    ap (λ (h : HomeState). server_of h table calls last) at_home ∙ ap (λ (t : Table). server_of home t calls last) at_locks ∙ ap (λ (cs : List (Call Answer)). server_of home locks cs last) kept ∙ view
+pub left-alone : (before : ServerState) (home after : HomeState) (locks table : Table) (served calls : List (Call Answer)) (last wire : ℕ) → server_of home locks served last wire ≡ before
+    → after ≡ home → table ≡ locks → calls ≡ served → server_of after table calls last wire ≡ before
+left-alone before home after locks table served calls last wire view at_home at_locks kept =
+    ap (λ (h : HomeState). server_of h table calls last wire) at_home ∙ ap (λ (t : Table). server_of home t calls last wire) at_locks ∙ ap (λ (cs : List (Call Answer)). server_of home locks cs last wire) kept ∙ view

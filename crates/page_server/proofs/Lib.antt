@@ -8,6 +8,8 @@ pub mod Given
 pub mod Again
 pub mod Begun
 pub mod Sides
+pub mod Within
+pub mod Servers
 pub mod Writes
 pub mod Copying
 pub mod Leaving

@@ -1,6 +1,6 @@
 -- Whatever is asked, a home side stays one.
 use Rattle.std.proofs.Common.{◌≡◌, ℕ, ◌+◌, ◌*◌, ◌<◌, ◌≤◌, ◌==◌, List, ◌∙◌, refl, subst, arith}
-use Rattle.std.specs.Prelude.{Bool, true, false, ◌&&◌, if◌then◌else◌, nat_le, All, Option, Some, None, IsSome, IfSome, is_some, is_none}
+use Rattle.std.specs.Prelude.{Bool, true, false, ◌&&◌, if◌then◌else◌, nat_le, All, Option, Some, None, is_some, is_none}
 use Rattle.std.proofs.lemmas.Bool.{eq-eqb, ltb-true, leb-true}
 use Rattle.uid_names.specs.Names.{ProcName, ObjectName}
 use Rattle.uid_names.specs.declared.lock_row.LockRow.{LockRow}
@@ -22,15 +22,13 @@ use Rattle.call_once.specs.declared.served.Looked.TheVariants.{Fresh, Again, Old
 use Rattle.call_once.specs.Calls.{Call, call_of, body_in, last_of, looked, with_call}
 use Rattle.call_once.proofs.KeptCalls.{with_call-all, call_of-all}
 use Rattle.std.proofs.lemmas.List.Elements.{All-nil}
-use Rattle.ring_messages.specs.declared.body.Body.{Body}
-use Rattle.ring_messages.specs.Bodies.{Ask, Answer, ask_of, body_of_ask, body_of_answer}
-use Rattle.ring_messages.proofs.Asking.{asked-body}
+use Rattle.ring_messages.specs.Bodies.{Ask, Answer, body_of_ask, body_of_answer}
 use Rattle.ring_messages.specs.Ranges.{IsBody}
 use Rattle.page_server.specs.Answers.{IsCarried}
 use Rattle.page_server.specs.Decisions.{Decision, decide, page_answer, write_answer, lock_answer, remove_answer, make_answer, may_remove}
 use Rattle.page_server.specs.Serving.{HomeSide, first_side, serve_as, serve_of}
-use Rattle.page_server.specs.ServerStates.{ServerState, IsSide, IsServer}
-use Rattle.page_server.proofs.Bounds.{either, IsCountedTo-decided}
+use Rattle.page_server.specs.ServerStates.{IsSide}
+use Rattle.page_server.proofs.Bounds.{either}
 use Rattle.page_server.proofs.Listing.{listed}
 
 -- ---- the objects
@@ -194,28 +192,3 @@ told-carried side p number ask answer kept = by (looked number (last_of p side.s
         subst IsCarried same (decided-answer side.home side.locks kept.home kept.table p ask)
     by Again told = kept-carried side.served p (call_of p side.served) answer kept.kept refl told
     by Old told = absurd cc
-
--- ---- the server
-
--- what the code has of a decision on what was asked
-pub record IsDecided (side : HomeSide) (p : ProcName) (number : ℕ) (asked : Option Ask) (new : HomeSide) (told : Answer) : Type 0 where
-  pub home : IfSome asked (λ ask. new.home ≡ (decide side.home side.locks p ask).home)
-  pub locks : IfSome asked (λ ask. new.locks ≡ (decide side.home side.locks p ask).locks)
-  pub answer : IfSome asked (λ ask. told ≡ (decide side.home side.locks p ask).answer)
-  pub served : new.served ≡ with_call (record { proc = p; number = number; body = told }) side.served
-
--- a server that decided on what was asked is one at each later tick
-pub IsServer-asked : (server : ServerState) (p : ProcName) (number : ℕ) (asked : Option Ask) (new : HomeSide) (told : Answer) (tick : ℕ)
-    → IsServer server → server.tick < tick → IsSome asked → IfSome asked (λ ask. IsBody server.side.home.node (body_of_ask ask))
-    → IsDecided server.side p number asked new told → IsServer (record { side = new; tick = tick })
-IsServer-asked server p number None new told tick keeps later asks range is = absurd cc
-IsServer-asked server p number (Some ask) new told tick keeps later asks range is =
-    rw (is.served, is.home, is.locks, is.answer) (record {
-      side = IsSide-decided server.side p number ask keeps.side range;
-      counted = IsCountedTo-decided server.side p ask (with_call (record { proc = p; number = number; body = (decide server.side.home server.side.locks p ask).answer }) server.side.served) server.tick tick keeps.counted later;
-    })
-
--- what a body in its range asks
-pub asked-range : (to : ℕ) (body : Body) (asked : Option Ask) → ask_of body ≡ asked → IsBody to body → IfSome asked (λ ask. IsBody to (body_of_ask ask))
-asked-range to body None is range = tt
-asked-range to body (Some ask) is range = rw (← (asked-body body ask is)) range

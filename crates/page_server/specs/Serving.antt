@@ -54,6 +54,6 @@ serve_asked side p number (Some ask) = serve_of side p number ask
 abbrev pub serve_frame : HomeSide → Message → Serving
 serve_frame side m = serve_asked side (caller_of m) m.number (ask_of m.body)
 
--- the frame of the answer goes back, for the same call of the same process
+-- the frame of the answer goes back, in the same version, for the same call of the same process
 abbrev pub reply_to : Message → ℕ → Answer → Message
-reply_to m tick answer = record { from = m.to; to = m.from; proc = m.proc; number = m.number; tick = tick; body = body_of_answer answer }
+reply_to m tick answer = record { version = m.version; from = m.to; to = m.from; proc = m.proc; number = m.number; tick = tick; body = body_of_answer answer }

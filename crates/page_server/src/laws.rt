@@ -6,15 +6,15 @@ ghost use Rattle.object_store.specs.HomeStates.{HomeState};
 ghost use Rattle.object_store.specs.Kept.{IsHome};
 ghost use Rattle.lock_manager.specs.Tables.{Table, IsTable};
 ghost use Rattle.call_once.specs.Calls.{call_of, last_of};
-ghost use Rattle.ring_messages.specs.Bodies.{Ask, Answer, body_of_ask};
-ghost use Rattle.ring_messages.specs.Ranges.{IsBody};
+ghost use Rattle.ring_messages.specs.Bodies.{Ask, Answer, body_of_ask, body_of_answer};
+ghost use Rattle.ring_messages.specs.Ranges.{IsBody, LiesWithin};
 ghost use Rattle.page_server.specs.Answers.{IsCarried};
 ghost use Rattle.page_server.specs.Afterwards.{ChangesServed, HoldsAsBefore, IsNewNumber, IsTold, KeepsStamp};
 ghost use Rattle.page_server.specs.Decisions.{decide};
 ghost use Rattle.page_server.specs.NewNumbers.{GrantsNewOnes, MakesNewOnes};
 ghost use Rattle.page_server.specs.Outcomes.{is_refusal, is_remove};
 ghost use Rattle.page_server.specs.Serving.{HomeSide, first_side, serve_of};
-ghost use Rattle.page_server.specs.ServerStates.{IsSide};
+ghost use Rattle.page_server.specs.ServerStates.{AreRoomsWithin, IsSide, IsSideWithin};
 ghost use Rattle.page_server.specs.Taken.{TakesLengths, TakesPages, TookOnStamp};
 
 use crate::server::PageServer;
@@ -79,6 +79,16 @@ pub fn a_home_side_stays_one()
     ensures first { (home : HomeState) → IsHome home → IsSide (first_side home) }
     ensures served { (side : HomeSide) (p : ProcName) (number : ℕ) (ask : Ask) →
         IsSide side → IsBody side.home.node (body_of_ask ask) → IsSide (serve_of side p number ask).side }
+{}
+
+/// Where no room of a home side, and no answer that it keeps, is above a bound, nor what it is asked, it stays so, and what it
+/// answers is not above the bound either.
+pub fn a_home_side_stays_within_a_room()
+    ensures first { (room : ℕ) (home : HomeState) → AreRoomsWithin room home.objects → IsSideWithin room (first_side home) }
+    ensures served { (room : ℕ) (side : HomeSide) (p : ProcName) (number : ℕ) (ask : Ask) → IsSide side → IsSideWithin room side →
+        LiesWithin room (body_of_ask ask) → IsSideWithin room (serve_of side p number ask).side }
+    ensures told { (room : ℕ) (side : HomeSide) (p : ProcName) (number : ℕ) (ask : Ask) (answer : Answer) → IsSide side →
+        IsSideWithin room side → IsTold side p number ask answer → LiesWithin room (body_of_answer answer) }
 {}
 
 /// An old number changes nothing, and is not answered.

@@ -3,11 +3,13 @@ ghost use Rattle.std.specs.Prelude.{◌≡◌, ◌-◌, ◌^◌, ◌<◌, ◌≤
 ghost use Rattle.std.specs.Option.{option_map};
 ghost use Rattle.lock_manager.specs.Tables.{IsTable};
 ghost use Rattle.call_once.specs.Calls.{last_of, body_of, with_call};
-ghost use Rattle.ring_messages.specs.Bodies.{ask_of, is_request};
+ghost use Rattle.ring_messages.specs.Bodies.{ask_of, body_of_answer, is_request};
 ghost use Rattle.ring_messages.specs.Frames.{caller_of};
 ghost use Rattle.page_server.specs.Decisions.{decide};
 ghost use Rattle.page_server.specs.Serving.{serve_frame, reply_to};
-ghost use Rattle.page_server.specs.ServerStates.{AreStampedTo, IsBegun, first_server};
+ghost use Rattle.uid_names.specs.Wires.{IsWire, wire_room};
+ghost use Rattle.ring_messages.specs.Ranges.{LiesWithin};
+ghost use Rattle.page_server.specs.ServerStates.{AreStampedTo, AreRoomsWithin, IsBegun, first_server};
 ghost use Rattle.page_server.specs.Wants.{decision_wants, kept_wants, may_want};
 
 use crate::answers::HomeAnswer;
@@ -28,6 +30,8 @@ pub struct PageServer<P: Pages> {
     served: Served<HomeAnswer>,
     // The tick of the last call of `serve`, 0 at first.
     tick: u64,
+    // The version of the frames that it takes and sends.
+    wire: u8,
 }
 
 // Of its own, so that what drops one calls this and does not take it apart in place.
@@ -38,6 +42,7 @@ impl<P: Pages> Drop for PageServer<P> {
             locks: _,
             served: _,
             tick: _,
+            wire: _,
         } = self;
     }
 }
@@ -49,16 +54,19 @@ impl<P: Pages> Model for PageServer<P> {
 
     ghost coded = { server_code };
 
-    ghost view = { λ s. record { side = record { home = s.home; locks = s.locks; served = s.served }; tick = s.tick } };
+    ghost view = { λ s. record { side = record { home = s.home; locks = s.locks; served = s.served }; tick = s.tick; wire = s.wire } };
 
-    ghost invariant = { λ s. IsServer (record { side = record { home = s.home; locks = s.locks; served = s.served }; tick = s.tick }) };
+    ghost invariant = { λ s. IsServer (record { side = record { home = s.home; locks = s.locks; served = s.served }; tick = s.tick; wire = s.wire }) };
 }
 
 impl<P: Pages> PageServer<P> {
-    /// The home side of a node at the start, over its home as it was made.
-    pub fn new(alloc: Global, home: Home<P>) -> Result<PageServer<P>, NoMemory>
-        requires { IsBegun home }
-        ensures { IfOk result (λ server. server ≡ first_server home) }
+    /// The home side of a node at the start, over its home as it was made, for frames of this version, which can write the
+    /// rooms of all its objects.
+    pub fn new(alloc: Global, home: Home<P>, wire: u8) -> Result<PageServer<P>, NoMemory>
+        requires begun { IsBegun home }
+        requires wire { IsWire wire }
+        requires rooms { AreRoomsWithin (wire_room wire) home.objects }
+        ensures { IfOk result (λ server. server ≡ first_server home wire) }
     {
         // What each home keeps.
         let _node = home.node();
@@ -69,6 +77,7 @@ impl<P: Pages> PageServer<P> {
             locks,
             served,
             tick: 0,
+            wire,
         })
     }
 
@@ -79,7 +88,15 @@ impl<P: Pages> PageServer<P> {
         self.home.node()
     }
 
-    /// Answers a request, by the event with this tick; None where the process has an answer to a later
+    /// The version of the frames that it takes and sends. Takes no memory.
+    pub fn wire(&self) -> u8
+        ensures value { result ≡ self.now.wire }
+        ensures range { IsWire result }
+    {
+        self.wire
+    }
+
+    /// Answers a request of its version, by the event with this tick; None where the process has an answer to a later
     /// call. A number above the process's last one is decided; the last one gets the same answer again.
     /// Memory may be wanted for a page that is answered or stored, a grant where the table is full, an object that is
     /// made, and a list. Without memory nothing changes.
@@ -91,12 +108,14 @@ impl<P: Pages> PageServer<P> {
     ) -> Result<Option<Frame>, NoMemory>
         requires request { IsTrue (is_request frame.now.body) }
         requires here { frame.now.to ≡ self.old.side.home.node }
+        requires version { frame.now.version ≡ self.old.wire }
         requires later { self.old.tick < tick }
         requires tick { tick ≤ 2 ^ 40 }
         ensures reply { IfOk result (λ reply.
             reply ≡ option_map (reply_to frame.now tick) (serve_frame self.old.side frame.now).answer) }
         ensures side { OnOk result (self.new.side ≡ (serve_frame self.old.side frame.now).side) }
         ensures tick { OnOk result (self.new.tick ≡ tick) }
+        ensures wire { self.new.wire ≡ self.old.wire }
         ensures old { IfOk result (λ reply.
             IsNone reply ↔ (frame.now.number < last_of (caller_of frame.now) self.old.side.served)) }
         ensures node { self.new.side.home.node ≡ self.old.side.home.node }
@@ -171,12 +190,14 @@ fn again(alloc: Global, served: &Served<HomeAnswer>, proc: ProcId) -> Result<Hom
     }
 }
 
-/// The frame that answers a request.
+/// The frame that answers a request, in its version.
 fn reply(frame: &Frame, tick: u64, answer: HomeAnswer) -> Frame
-    requires { 1 ≤ tick }
+    requires tick { 1 ≤ tick }
+    requires within { LiesWithin (wire_room frame.now.version) (body_of_answer answer) }
     ensures { result ≡ reply_to frame.now tick answer }
 {
     Frame::new(
+        frame.version(),
         frame.to(),
         frame.from(),
         frame.proc(),

@@ -270,4 +270,4 @@ module _ (g : Given) (given : IsGiven g) (procs : (p : ℕ) → has_program g p 
 -- so each step of a node: the page that it uses comes to the front, and all others stay in their order
 pub step-kept : (g : Given) (n : NodeState) (what : What) (incoming : Incoming) (dropped : List (ObjectName × ℕ)) (s : Stepped) → IsGiven g → IsNodeOf g n → IsIncoming incoming → AreTasksPlaced n → step_of g n what incoming dropped ≡ Some s → StepKept n s
 step-kept g n what incoming dropped s given is frame placed e =
-    did-kept g given (given-procs g given.programs) (ticked n incoming) (node-with g n (ticked n incoming) is refl refl is.side is.home) placed what incoming s frame (step_of-did g n what incoming dropped s e)
+    did-kept g given (given-procs g given.programs) (ticked n incoming) (node-with g n (ticked n incoming) is refl refl is.side is.home is.within.side) placed what incoming s frame (step_of-did g n what incoming dropped s e)

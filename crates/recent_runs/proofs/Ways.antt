@@ -123,6 +123,6 @@ module _ (g : Given) (given : IsGiven g) (n : NodeState) (is : IsNodeOf g n) whe
 -- so of each step
 pub step-happens : (g : Given) (n : NodeState) (what : What) (incoming : Incoming) (dropped : List PageName) (s : Stepped) → IsGiven g → IsNodeOf g n → IsIncoming incoming → (step : IsStep g n what incoming dropped s) → step_of g n what incoming dropped ≡ Some s → HasWay n.desk step.event
 step-happens g n what incoming dropped s given is frame step e =
-    let later = node-with g n (ticked n incoming) is refl refl is.side is.home in
+    let later = node-with g n (ticked n incoming) is refl refl is.side is.home is.within.side in
     let found = did-happens g given (ticked n incoming) later what incoming s frame (step_of-did g n what incoming dropped s e) in
     subst (HasWay n.desk) (same_Some found.0 step.event (sym found.1 ∙ step.comes)) found.2

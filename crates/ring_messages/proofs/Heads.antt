@@ -11,7 +11,7 @@ use Rattle.ring_messages.proofs.Fields.{IsBytes, IsBytes-rest, IsBytes-drop, len
 -- the fields of a header, at their places
 pub record Shows (h : Head) (bytes : List ℕ) : Type 0 where
   pub long : 24 ≤ length bytes
-  pub version : get_or bytes 0 0 ≡ 1
+  pub version : get_or bytes 0 0 ≡ h.version
   pub kind : get_or bytes 1 0 ≡ kind_number h.kind
   pub from : get_or bytes 2 0 ≡ h.from
   pub to : get_or bytes 3 0 ≡ h.to

@@ -9,3 +9,4 @@ pub mod Frames
 pub mod WhatIsRead
 pub mod RowByRow
 pub mod Asking
+pub mod Versions

@@ -1,39 +1,40 @@
 -- The fields of frames, one by one.
 use Rattle.std.proofs.Common.{◌≡◌, ℕ, zero, suc, ◌/◌, ◌%◌, ◌^◌, ◌<◌, ◌≤◌, Bool, true, false, List, [], ◌∷◌, ◌++◌, length, take, drop, Some, None, refl, sym, ap, subst, ◌∙◌, append_assoc, arith}
-use Rattle.std.specs.Prelude.{All, nat_lt, nat_le, ◌==◌, ◌&&◌, if◌then◌else◌}
+use Rattle.std.specs.Prelude.{All, nat_lt, nat_le, not, ◌*◌, ◌==◌, ◌&&◌, if◌then◌else◌}
 use Rattle.std.specs.List.{flat_map, AllByRecursion}
 use Rattle.std.proofs.lemmas.Bool.{ltb-false, le-ltb, and_parts}
 use Rattle.std.proofs.lemmas.Bool.Decides.{nat_tests}
-use Rattle.std.proofs.lemmas.List.{take_at, drop_at, take-append-drop, length-append, length-take, get_or_default}
+use Rattle.std.proofs.lemmas.List.{take_at, drop_at, take-append-drop, length-append, length-take, length-replicate, get_or_default}
+use Rattle.std.proofs.lemmas.List.Elements.{All-replicate}
+use Rattle.std.proofs.lemmas.Slice.Eq.{bytes_eq-Decides}
 use Rattle.std.proofs.lemmas.List.Concat.{flat_map-cons}
 use Rattle.uid_names.specs.Names.{ProcName, ObjectName, IsName, number_of, IsProcName}
 use Rattle.uid_names.specs.Modes.{mode_code, object_code}
 use Rattle.uid_names.specs.declared.lock_row.LockRow.{LockRow}
-use Rattle.ring_messages.specs.Spelling.{be32, be64, uid_bytes, proc_bytes, flag, row_bytes}
-use Rattle.uid_names.specs.declared.limits.TheConstants.{PAGE_BYTES, WRITTEN_ROOM}
-use Rattle.ring_messages.specs.declared.limits.TheConstants.{WRITTEN_LENGTH}
+use Rattle.ring_messages.specs.Spelling.{be32, be64, uid_bytes, proc_bytes, flag, row_bytes, blank_page, is_blank, formed, page_by, page_bytes}
+use Rattle.uid_names.specs.declared.limits.TheConstants.{PAGE_BYTES}
 use Rattle.ring_messages.specs.Ranges.{IsWhole}
 use Rattle.ring_messages.specs.Spelled.{IsRow, AreBytes}
 use Rattle.uid_names.specs.Modes.{mode_of_code, object_of_code}
 use Rattle.uid_names.specs.Steps.{◌>>=◌}
 use Rattle.ring_messages.specs.ReaderSteps.{◌then◌}
-use Rattle.ring_messages.specs.ReaderFields.{bytes_at, page_at, length_at, room_at, count_at, name_of, is_name, uid_of, own_of, proc_of, flag_of, uid_at, own_at, proc_at, mode_at, object_at, flag_at}
+use Rattle.ring_messages.specs.ReaderFields.{byte_at, bytes_at, full_at, page_of_form, formed_at, whole_by, whole_at, page_at, length_at, room_at, count_at, name_of, is_name, uid_of, own_of, proc_of, flag_of, uid_at, own_at, proc_at, mode_at, object_at, flag_at}
 use Rattle.ring_messages.specs.ReaderRows.{row_of, row_at, rows_at}
 use Rattle.uid_names.proofs.Codes.{mode_of_code-code, mode_of_code-found, mode_code-small, object_of_code-code, object_of_code-found, object_code-small}
 use Rattle.uid_names.proofs.Somes.{bind-some}
 use Rattle.ring_messages.proofs.Fields.{IsBytes, IsBytes-take, IsBytes-rest, if_some, unless_some, some_is, IsField, field-then, field-passing, field-meaning, field-byte, field-be32, field-be64}
 
-pub field-page : IsField be32 (λ n. (n < 2 ^ 32) × (n < WRITTEN_ROOM)) page_at
+pub field-page : (room : ℕ) → IsField be32 (λ n. (n < 2 ^ 32) × (n < room)) (page_at room)
 unfolding page_at
-field-page = field-passing (λ n. nat_lt n WRITTEN_ROOM) (λ n. n < WRITTEN_ROOM) (λ n h. grind (arith, nat_tests)) (λ n h. grind (arith, nat_tests)) field-be32
+field-page room = field-passing (λ n. nat_lt n room) (λ n. n < room) (λ n h. grind (arith, nat_tests)) (λ n h. grind (arith, nat_tests)) field-be32
 
-pub field-length : IsField be32 (λ n. (n < 2 ^ 32) × (n ≤ WRITTEN_LENGTH)) length_at
+pub field-length : (room : ℕ) → IsField be32 (λ n. (n < 2 ^ 32) × (n ≤ PAGE_BYTES * room)) (length_at room)
 unfolding length_at
-field-length = field-passing (λ n. nat_le n WRITTEN_LENGTH) (λ n. n ≤ WRITTEN_LENGTH) (λ n h. grind (arith, nat_tests)) (λ n h. grind (arith, nat_tests)) field-be32
+field-length room = field-passing (λ n. nat_le n (PAGE_BYTES * room)) (λ n. n ≤ PAGE_BYTES * room) (λ n h. grind (arith, nat_tests)) (λ n h. grind (arith, nat_tests)) field-be32
 
-pub field-room : IsField be32 (λ n. (n < 2 ^ 32) × ((1 ≤ n) × (n ≤ WRITTEN_ROOM))) room_at
+pub field-room : (room : ℕ) → IsField be32 (λ n. (n < 2 ^ 32) × ((1 ≤ n) × (n ≤ room))) (room_at room)
 unfolding room_at
-field-room = field-passing (λ n. nat_le 1 n && nat_le n WRITTEN_ROOM) (λ n. (1 ≤ n) × (n ≤ WRITTEN_ROOM)) (λ n h. grind (arith, nat_tests, h.0, h.1)) (λ n h. (grind (arith, nat_tests), grind (arith, nat_tests))) field-be32
+field-room room = field-passing (λ n. nat_le 1 n && nat_le n room) (λ n. (1 ≤ n) × (n ≤ room)) (λ n h. grind (arith, nat_tests, h.0, h.1)) (λ n h. (grind (arith, nat_tests), grind (arith, nat_tests))) field-be32
 
 pub field-count : IsField be64 (λ n. (n < 2 ^ 64) × (1 ≤ n)) count_at
 unfolding count_at
@@ -164,8 +165,68 @@ bytes-takes bytes x small e =
     } in
     subst (λ (y : List ℕ × List ℕ). (bytes ≡ y.0 ++ y.1) × IsPageBytes y.0) g.1 (sym (take-append-drop PAGE_BYTES bytes), is)
 
-pub field-bytes : IsField (λ bytes. bytes) IsPageBytes bytes_at
+field-bytes : IsField (λ bytes. bytes) IsPageBytes bytes_at
 field-bytes = record { again = bytes-again; takes = bytes-takes }
+
+-- a page of zeros is one
+pub blank-itself : is_blank blank_page ≡ true
+blank-itself = (bytes_eq-Decides blank_page blank_page).1 refl
+
+pub blank-is : IsPageBytes blank_page
+unfolding blank_page
+blank-is = record { len = length-replicate PAGE_BYTES 0; small = All-replicate (λ (b : ℕ). b < 256) PAGE_BYTES 0 (omega arith) }
+
+not_so : (b : Bool) → not b ≡ true → b ≡ false
+not_so true h = absurd cc
+not_so false h = refl
+
+-- any other page, without its form
+field-full : IsField (λ (bytes : List ℕ). bytes) (λ (bytes : List ℕ). IsPageBytes bytes × (is_blank bytes ≡ false)) full_at
+unfolding full_at
+field-full = field-passing (λ (bytes : List ℕ). not (is_blank bytes)) (λ (bytes : List ℕ). is_blank bytes ≡ false) (λ bytes h. ap not h) (λ bytes h. not_so (is_blank bytes) h) field-bytes
+
+-- a page behind its form
+form-again : (bytes rest : List ℕ) (b : Bool) → IsPageBytes bytes → is_blank bytes ≡ b → formed_at (formed b bytes ++ rest) ≡ Some (bytes, rest)
+unfolding formed_at page_of_form byte_at
+form-again bytes rest true is blank = ap (λ (page : List ℕ). Some (page, rest)) (sym ((bytes_eq-Decides bytes blank_page).0 blank))
+form-again bytes rest false is full = field-full.again bytes rest (is, full)
+
+by_form : (form : ℕ) (rest : List ℕ) (x : List ℕ × List ℕ) (a b : Bool) → (form == 0) ≡ a → (form == 1) ≡ b → IsBytes rest → (if a then Some (blank_page, rest) else if b then full_at rest else None) ≡ Some x
+    → (form ∷ rest ≡ formed (is_blank x.0) x.0 ++ x.1) × IsPageBytes x.0
+by_form form rest x true b zero_so one_so small e =
+    let is : form ≡ 0 = grind (arith, nat_tests, zero_so) in
+    let read : List ℕ × List ℕ = (blank_page, rest) in
+    subst (λ (y : List ℕ × List ℕ). (form ∷ rest ≡ formed (is_blank y.0) y.0 ++ y.1) × IsPageBytes y.0) (some_is read x e)
+    (ap (λ (n : ℕ). n ∷ rest) is ∙ ap (λ (b : Bool). formed b blank_page ++ rest) (sym blank-itself), blank-is)
+by_form form rest x false true zero_so one_so small e =
+    let is : form ≡ 1 = grind (arith, nat_tests, one_so) in
+    let full = field-full.takes rest x small e in
+    (ap (λ (n : ℕ). n ∷ rest) is ∙ ap (λ (r : List ℕ). 1 ∷ r) full.0 ∙ ap (λ (b : Bool). formed b x.0 ++ x.1) (sym full.1.1), full.1.0)
+by_form form rest x false false zero_so one_so small e = absurd cc
+
+form-takes : (form : ℕ) (rest : List ℕ) (x : List ℕ × List ℕ) → IsBytes rest → page_of_form form rest ≡ Some x → (form ∷ rest ≡ formed (is_blank x.0) x.0 ++ x.1) × IsPageBytes x.0
+unfolding page_of_form
+form-takes form rest x small e = by_form form rest x (form == 0) (form == 1) refl refl small e
+
+formed-takes : (bytes : List ℕ) (x : List ℕ × List ℕ) → IsBytes bytes → formed_at bytes ≡ Some x → (bytes ≡ formed (is_blank x.0) x.0 ++ x.1) × IsPageBytes x.0
+unfolding formed_at
+formed-takes bytes x small e =
+    let form = bind-some (byte_at bytes) (λ (form : ℕ × List ℕ). page_of_form form.0 form.1) x e in
+    let first = field-byte.takes bytes form.0 small form.1 in
+    let rest = IsBytes-rest (form.0.0 ∷ []) form.0.1 (subst IsBytes first.0 small) in
+    let page = form-takes form.0.0 form.0.1 x rest form.2 in
+    (first.0 ∙ page.0, page.1)
+
+field-formed : IsField (λ (bytes : List ℕ). formed (is_blank bytes) bytes) IsPageBytes formed_at
+field-formed = record { again = λ bytes rest is. form-again bytes rest (is_blank bytes) is refl; takes = formed-takes }
+
+-- a page, in a version
+pub field-whole : (version : ℕ) → IsField (λ (bytes : List ℕ). page_bytes version bytes) IsPageBytes (λ (bytes : List ℕ). whole_at version bytes)
+field-whole version = by (version == 1)
+  where
+    by : (b : Bool) → IsField (λ (bytes : List ℕ). page_by b bytes) IsPageBytes (λ (bytes : List ℕ). whole_by b bytes)
+    by true = field-bytes
+    by false = field-formed
 
 -- ---- rows
 

@@ -8,7 +8,8 @@ use Rattle.ring_messages.specs.declared.frame.Head.{Head}
 use Rattle.ring_messages.specs.declared.frame.FrameFault.{FrameFault}
 use Rattle.ring_messages.specs.declared.frame.FrameFault.TheVariants as faults
 use Rattle.ring_messages.specs.Frames.{Message}
-use Rattle.ring_messages.specs.Ranges.{IsBody}
+use Rattle.uid_names.specs.Wires.{wire_room}
+use Rattle.ring_messages.specs.Ranges.{IsBody, LiesWithin}
 use Rattle.ring_messages.specs.Spelling.{header, framed, spelling}
 use Rattle.ring_messages.specs.Spelled.{IsHead, IsFrame, Spells}
 use Rattle.uid_names.specs.Steps.{◌>>=◌}
@@ -20,8 +21,12 @@ use Rattle.ring_messages.proofs.Bodies.{body-takes}
 use Rattle.ring_messages.proofs.Frames.{frame-takes, frame-again}
 
 -- what was read keeps its ranges
-pub in-range : (k : FrameKind) (to : ℕ) (bytes : List ℕ) (b : Body) → IsBytes bytes → body_at k to bytes ≡ Some b → IsBody to b
-in-range k to bytes b small e = (body-takes k to bytes b small e).ranges
+pub in-range : (version : ℕ) (k : FrameKind) (to : ℕ) (bytes : List ℕ) (b : Body) → IsBytes bytes → body_at version k to bytes ≡ Some b → IsBody to b
+in-range version k to bytes b small e = (body-takes version k to bytes b small e).ranges
+
+-- and lies within what its version can write
+pub in-within : (version : ℕ) (k : FrameKind) (to : ℕ) (bytes : List ℕ) (b : Body) → IsBytes bytes → body_at version k to bytes ≡ Some b → LiesWithin (wire_room version) b
+in-within version k to bytes b small e = (body-takes version k to bytes b small e).within
 
 -- the bytes behind a header
 abbrev pub behind : List ℕ → List ℕ
@@ -33,18 +38,21 @@ to_the_end bytes = take_all (length bytes - 24) (drop 24 bytes) (omega (arith, l
 module _ (h : Head) (bytes : List ℕ) (is : IsHead h) (head : take 24 bytes ≡ header h) where
   -- ---- one kind
 
-  pub kind-range : (k : FrameKind) (b : Body) → IsBytes bytes → body_at k h.to (behind bytes) ≡ Some b → IsBody h.to b
-  kind-range k b small e = in-range k h.to (behind bytes) b (subst IsBytes (sym (to_the_end bytes)) (IsBytes-drop 24 bytes small)) e
+  pub kind-range : (k : FrameKind) (b : Body) → IsBytes bytes → body_at h.version k h.to (behind bytes) ≡ Some b → IsBody h.to b
+  kind-range k b small e = in-range h.version k h.to (behind bytes) b (subst IsBytes (sym (to_the_end bytes)) (IsBytes-drop 24 bytes small)) e
 
-  pub kind-found : (k : FrameKind) (b : Body) (m : Message) → IsBytes bytes → h.kind ≡ k → body_at k h.to (behind bytes) ≡ Some b → m ≡ framed h b → Spells m bytes
+  pub kind-within : (k : FrameKind) (b : Body) → IsBytes bytes → body_at h.version k h.to (behind bytes) ≡ Some b → LiesWithin (wire_room h.version) b
+  kind-within k b small e = in-within h.version k h.to (behind bytes) b (subst IsBytes (sym (to_the_end bytes)) (IsBytes-drop 24 bytes small)) e
+
+  pub kind-found : (k : FrameKind) (b : Body) (m : Message) → IsBytes bytes → h.kind ≡ k → body_at h.version k h.to (behind bytes) ≡ Some b → m ≡ framed h b → Spells m bytes
   kind-found k b m small kind e made =
-      let read : body_at h.kind h.to (drop 24 bytes) ≡ Some b = ap (λ (x : FrameKind). body_at x h.to (drop 24 bytes)) kind ∙ ap (body_at k h.to) (sym (to_the_end bytes)) ∙ e in
+      let read : body_at h.version h.kind h.to (drop 24 bytes) ≡ Some b = ap (λ (x : FrameKind). body_at h.version x h.to (drop 24 bytes)) kind ∙ ap (body_at h.version k h.to) (sym (to_the_end bytes)) ∙ e in
       rw made (frame-takes h bytes b small is head read)
 
-  pub kind-bad : (k : FrameKind) (fault : FrameFault) → h.kind ≡ k → Fails fault (body_at k h.to (behind bytes)) → fault ≡ faults.BadFrame → (m : Message) → IsFrame m → bytes ≢ spelling m
+  pub kind-bad : (k : FrameKind) (fault : FrameFault) → h.kind ≡ k → Fails fault (body_at h.version k h.to (behind bytes)) → fault ≡ faults.BadFrame → (m : Message) → IsFrame m → bytes ≢ spelling m
   kind-bad k fault kind fails bad m frame text =
-      let none : body_at k h.to (behind bytes) ≡ None = subst (λ (f : FrameFault). Fails f (body_at k h.to (behind bytes))) bad fails in
-      let same : body_at k h.to (behind bytes) ≡ body_at h.kind h.to (drop 24 bytes) = ap (body_at k h.to) (to_the_end bytes) ∙ ap (λ (x : FrameKind). body_at x h.to (drop 24 bytes)) (sym kind) in
+      let none : body_at h.version k h.to (behind bytes) ≡ None = subst (λ (f : FrameFault). Fails f (body_at h.version k h.to (behind bytes))) bad fails in
+      let same : body_at h.version k h.to (behind bytes) ≡ body_at h.version h.kind h.to (drop 24 bytes) = ap (body_at h.version k h.to) (to_the_end bytes) ∙ ap (λ (x : FrameKind). body_at h.version x h.to (drop 24 bytes)) (sym kind) in
       let again = frame-again h m bytes is head frame text in
       absurd (cc (none, same, again.1))
 
@@ -52,7 +60,7 @@ module _ (h : Head) (bytes : List ℕ) (is : IsHead h) (head : take 24 bytes ≡
 
   pub answer-found : (r : Result Message FrameFault) → IsBytes bytes → Gives (λ (m : Message). m) r (frame_at h (behind bytes)) → IfOk r (λ m. Spells m bytes)
   answer-found (Ok m) small e =
-      let b = bind-some (body_at h.kind h.to (behind bytes)) (λ (b : Body). Some (framed h b)) m e in
+      let b = bind-some (body_at h.version h.kind h.to (behind bytes)) (λ (b : Body). Some (framed h b)) m e in
       kind-found h.kind b.0 m small refl b.1 (sym (some_is (framed h b.0) m b.2))
   answer-found (Err fault) small e = tt
 

@@ -1,14 +1,14 @@
 -- The reader's fields, one by one.
 -- It decides nothing: which bytes are a frame stands in Spelled, and what a frame's bytes are in Spelling.
-use Rattle.std.specs.Prelude.{ℕ, ◌/◌, ◌%◌, ◌^◌, Bool, true, false, ◌==◌, ◌&&◌, nat_lt, nat_le, if◌then◌else◌, List, [], ◌∷◌, length, take, drop, Option, Some, None}
+use Rattle.std.specs.Prelude.{ℕ, ◌*◌, ◌/◌, ◌%◌, ◌^◌, Bool, true, false, not, ◌==◌, ◌&&◌, nat_lt, nat_le, if◌then◌else◌, List, [], ◌∷◌, length, take, drop, Option, Some, None}
 use Rattle.byteorder.specs.Endian.{big_number}
 use Rattle.uid_names.specs.Names.{ProcName, ObjectName}
 use Rattle.uid_names.specs.declared.mode.Mode.{Mode}
 use Rattle.uid_names.specs.declared.mode.ObjKind.{ObjKind}
 use Rattle.uid_names.specs.Modes.{mode_of_code, object_of_code}
-use Rattle.uid_names.specs.declared.limits.TheConstants.{PAGE_BYTES, WRITTEN_ROOM}
-use Rattle.ring_messages.specs.declared.limits.TheConstants.{WRITTEN_LENGTH}
+use Rattle.uid_names.specs.declared.limits.TheConstants.{PAGE_BYTES}
 use Rattle.uid_names.specs.Steps.{◌>>=◌}
+use Rattle.ring_messages.specs.Spelling.{blank_page, is_blank}
 use Rattle.ring_messages.specs.ReaderSteps.{◌then◌, passing, meaning}
 
 unfoldable pub byte_at : List ℕ → Option (ℕ × List ℕ)
@@ -24,14 +24,37 @@ be64_at bytes = if nat_lt (length bytes) 8 then None else Some (big_number 8 byt
 unfoldable pub bytes_at : List ℕ → Option (List ℕ × List ℕ)
 bytes_at bytes = if nat_lt (length bytes) PAGE_BYTES then None else Some (take PAGE_BYTES bytes, drop PAGE_BYTES bytes)
 
-unfoldable pub page_at : List ℕ → Option (ℕ × List ℕ)
-page_at bytes = be32_at bytes >>= passing (λ n. nat_lt n WRITTEN_ROOM)
+-- a page other than that of zeros
+unfoldable pub full_at : List ℕ → Option (List ℕ × List ℕ)
+full_at bytes = bytes_at bytes >>= passing (λ page. not (is_blank page))
 
-unfoldable pub length_at : List ℕ → Option (ℕ × List ℕ)
-length_at bytes = be32_at bytes >>= passing (λ n. nat_le n WRITTEN_LENGTH)
+-- a page, by its form and the bytes behind that
+unfoldable pub page_of_form : ℕ → List ℕ → Option (List ℕ × List ℕ)
+page_of_form form bytes = if form == 0 then Some (blank_page, bytes) else if form == 1 then full_at bytes else None
 
-unfoldable pub room_at : List ℕ → Option (ℕ × List ℕ)
-room_at bytes = be32_at bytes >>= passing (λ n. nat_le 1 n && nat_le n WRITTEN_ROOM)
+unfoldable pub formed_at : List ℕ → Option (List ℕ × List ℕ)
+formed_at bytes = do
+  form ← byte_at bytes
+  page_of_form form.0 form.1
+
+-- a page, in version 1 or not
+abbrev pub whole_by : Bool → List ℕ → Option (List ℕ × List ℕ)
+whole_by true bytes = bytes_at bytes
+whole_by false bytes = formed_at bytes
+
+-- a page, in a version
+abbrev pub whole_at : ℕ → List ℕ → Option (List ℕ × List ℕ)
+whole_at version bytes = whole_by (version == 1) bytes
+
+-- the number of a page below this room, a length or a room up to it
+unfoldable pub page_at : ℕ → List ℕ → Option (ℕ × List ℕ)
+page_at room bytes = be32_at bytes >>= passing (λ n. nat_lt n room)
+
+unfoldable pub length_at : ℕ → List ℕ → Option (ℕ × List ℕ)
+length_at room bytes = be32_at bytes >>= passing (λ n. nat_le n (PAGE_BYTES * room))
+
+unfoldable pub room_at : ℕ → List ℕ → Option (ℕ × List ℕ)
+room_at room bytes = be32_at bytes >>= passing (λ n. nat_le 1 n && nat_le n room)
 
 -- a number from 1
 unfoldable pub count_at : List ℕ → Option (ℕ × List ℕ)

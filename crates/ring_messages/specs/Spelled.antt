@@ -1,6 +1,7 @@
 -- Which frames there are, and which bytes spell one.
 use Rattle.std.specs.Prelude.{◌≡◌, ℕ, ◌≤◌, ◌<◌, ◌^◌, List, All, Option, Some, None}
 use Rattle.uid_names.specs.Names.{ProcName, ObjectName, IsName, IsNodeNumber, IsProcName}
+use Rattle.uid_names.specs.Wires.{IsWire}
 use Rattle.uid_names.specs.declared.lock_row.LockRow.{LockRow}
 use Rattle.ring_messages.specs.declared.body.Body.{Body}
 use Rattle.ring_messages.specs.declared.body.Body.TheVariants.{PageIn, PageOut, AttrOut, Lock, Unlock, Remove, Make, List as ListLocks, Page, Stored, Stale, NoGrant, NoObject, Granted, Conflict, Done, Made, NoSpace, Listed}
@@ -45,6 +46,7 @@ IsTypedBody (Listed rows more) = All IsRow rows
 
 -- the header of a frame
 pub record IsHead (h : Head) : Type 0 where
+  pub version : IsWire h.version
   pub from : IsNodeNumber h.from
   pub to : IsNodeNumber h.to
   pub proc_low : 1 ≤ h.proc

@@ -1,10 +1,11 @@
 -- The one spelling of each frame. Numbers are big-endian.
-use Rattle.std.specs.Prelude.{ℕ, Bool, true, false, List, [], ◌∷◌, ◌++◌, replicate, length, Option, Some, None}
+use Rattle.std.specs.Prelude.{ℕ, ◌==◌, Bool, true, false, List, [], ◌∷◌, ◌++◌, replicate, length, Option, Some, None, bytes_eq}
 use Rattle.std.specs.List.{flat_map}
 use Rattle.byteorder.specs.Endian.{big_bytes}
 use Rattle.uid_names.specs.Names.{ProcName, ObjectName, number_of}
 use Rattle.uid_names.specs.Modes.{mode_code, object_code}
 use Rattle.uid_names.specs.FrameKinds.{kind_number}
+use Rattle.uid_names.specs.declared.limits.TheConstants.{PAGE_BYTES}
 use Rattle.uid_names.specs.declared.lock_row.LockRow.{LockRow}
 use Rattle.ring_messages.specs.declared.body.Body.{Body}
 use Rattle.ring_messages.specs.declared.body.Body.TheVariants.{PageIn, PageOut, AttrOut, Lock, Unlock, Remove, Make, List as ListLocks, Page, Stored, Stale, NoGrant, NoObject, Granted, Conflict, Done, Made, NoSpace, Listed}
@@ -41,39 +42,60 @@ abbrev pub after_bytes : Option (ObjectName × ProcName) → List ℕ
 after_bytes None = 0 ∷ replicate 10 0
 after_bytes (Some (u, p)) = 1 ∷ (uid_bytes u ++ proc_bytes p)
 
--- the bytes behind the header
-abbrev pub body_bytes : Body → List ℕ
-body_bytes (PageIn u page) = uid_bytes u ++ be32 page
-body_bytes (PageOut u page grant base bytes) = uid_bytes u ++ (be32 page ++ (be64 grant ++ (be64 base ++ bytes)))
-body_bytes (AttrOut u n grant base) = uid_bytes u ++ (be32 n ++ (be64 grant ++ be64 base))
-body_bytes (Lock u m) = uid_bytes u ++ (mode_code m ∷ [])
-body_bytes (Unlock u) = uid_bytes u
-body_bytes (Remove u) = uid_bytes u
-body_bytes (Make kind room) = object_code kind ∷ be32 room
-body_bytes (ListLocks after) = after_bytes after
-body_bytes (Page stamp bytes) = be64 stamp ++ bytes
-body_bytes (Stored stamp) = be64 stamp
-body_bytes (Stale stamp) = be64 stamp
-body_bytes NoGrant = []
-body_bytes NoObject = []
-body_bytes (Granted grant stamp kind room n) = be64 grant ++ (be64 stamp ++ (object_code kind ∷ (be32 room ++ be32 n)))
-body_bytes (Conflict p m) = proc_bytes p ++ (mode_code m ∷ [])
-body_bytes Done = []
-body_bytes (Made u) = uid_bytes u
-body_bytes NoSpace = []
-body_bytes (Listed rows more) = length rows ∷ flag more ∷ flat_map row_bytes rows
+-- a page of zeros
+unfoldable pub blank_page : List ℕ
+blank_page = replicate PAGE_BYTES 0
+
+abbrev pub is_blank : List ℕ → Bool
+is_blank bytes = bytes_eq bytes blank_page
+
+-- a form, and then the page: 0 for a page of zeros, which is left out, and 1 for any other
+abbrev pub formed : Bool → List ℕ → List ℕ
+formed true bytes = 0 ∷ []
+formed false bytes = 1 ∷ bytes
+
+-- a page, in version 1 or not
+abbrev pub page_by : Bool → List ℕ → List ℕ
+page_by true bytes = bytes
+page_by false bytes = formed (is_blank bytes) bytes
+
+-- a page, in a version
+abbrev pub page_bytes : ℕ → List ℕ → List ℕ
+page_bytes version bytes = page_by (version == 1) bytes
+
+-- the bytes behind the header, in a version
+abbrev pub body_bytes : ℕ → Body → List ℕ
+body_bytes version (PageIn u page) = uid_bytes u ++ be32 page
+body_bytes version (PageOut u page grant base bytes) = uid_bytes u ++ (be32 page ++ (be64 grant ++ (be64 base ++ page_bytes version bytes)))
+body_bytes version (AttrOut u n grant base) = uid_bytes u ++ (be32 n ++ (be64 grant ++ be64 base))
+body_bytes version (Lock u m) = uid_bytes u ++ (mode_code m ∷ [])
+body_bytes version (Unlock u) = uid_bytes u
+body_bytes version (Remove u) = uid_bytes u
+body_bytes version (Make kind room) = object_code kind ∷ be32 room
+body_bytes version (ListLocks after) = after_bytes after
+body_bytes version (Page stamp bytes) = be64 stamp ++ page_bytes version bytes
+body_bytes version (Stored stamp) = be64 stamp
+body_bytes version (Stale stamp) = be64 stamp
+body_bytes version NoGrant = []
+body_bytes version NoObject = []
+body_bytes version (Granted grant stamp kind room n) = be64 grant ++ (be64 stamp ++ (object_code kind ∷ (be32 room ++ be32 n)))
+body_bytes version (Conflict p m) = proc_bytes p ++ (mode_code m ∷ [])
+body_bytes version Done = []
+body_bytes version (Made u) = uid_bytes u
+body_bytes version NoSpace = []
+body_bytes version (Listed rows more) = length rows ∷ flag more ∷ flat_map row_bytes rows
 
 -- the 24 bytes of a header: version, kind, the two nodes, the process, three zeros, the number of the call, the tick
 abbrev pub header : Head → List ℕ
-header h = 1 ∷ kind_number h.kind ∷ h.from ∷ h.to ∷ h.proc ∷ 0 ∷ 0 ∷ 0 ∷ (be64 h.number ++ be64 h.tick)
+header h = h.version ∷ kind_number h.kind ∷ h.from ∷ h.to ∷ h.proc ∷ 0 ∷ 0 ∷ 0 ∷ (be64 h.number ++ be64 h.tick)
 
 -- the header of a frame
 abbrev pub head_of : Message → Head
-head_of m = record { kind = kind_of m.body; from = m.from; to = m.to; proc = m.proc; number = m.number; tick = m.tick }
+head_of m = record { version = m.version; kind = kind_of m.body; from = m.from; to = m.to; proc = m.proc; number = m.number; tick = m.tick }
 
 -- the frame of a header and a body
 abbrev pub framed : Head → Body → Message
-framed h b = record { from = h.from; to = h.to; proc = h.proc; number = h.number; tick = h.tick; body = b }
+framed h b = record { version = h.version; from = h.from; to = h.to; proc = h.proc; number = h.number; tick = h.tick; body = b }
 
 abbrev pub spelling : Message → List ℕ
-spelling m = header (head_of m) ++ body_bytes m.body
+spelling m = header (head_of m) ++ body_bytes m.version m.body

@@ -10,10 +10,11 @@ use std::marker::Model;
 use thiserror::Error;
 use uid_names::{FrameKind, NoMemory, NodeId, ProcId};
 
-/// A frame: from which node to which, for which process, with the number of its call and the tick
-/// of the event that sends it. It keeps all ranges that its spelling has.
+/// A frame: in which version it is written, from which node to which, for which process, with the number of its call and
+/// the tick of the event that sends it. It keeps all ranges that its spelling has.
 #[derive(Debug)]
 pub struct Frame {
+    version: u8,
     from: NodeId,
     to: NodeId,
     proc: u8,
@@ -26,6 +27,7 @@ pub struct Frame {
 impl Drop for Frame {
     fn drop(self) {
         let Frame {
+            version: _,
             from: _,
             to: _,
             proc: _,
@@ -43,14 +45,15 @@ impl Model for Frame {
 
     ghost use Rattle.ring_messages.specs.Frames.{IsInRange};
 
-    ghost view = { λ f. record { from = f.from; to = f.to; proc = f.proc; number = f.number; tick = f.tick; body = f.body } };
+    ghost view = { λ f. record { version = f.version; from = f.from; to = f.to; proc = f.proc; number = f.number; tick = f.tick; body = f.body } };
 
-    ghost invariant = { λ f. IsInRange (record { from = f.from; to = f.to; proc = f.proc; number = f.number; tick = f.tick; body = f.body }) };
+    ghost invariant = { λ f. IsInRange (record { version = f.version; from = f.from; to = f.to; proc = f.proc; number = f.number; tick = f.tick; body = f.body }) };
 }
 
 /// The header of a frame. The process is of node `from` in a request, and of node `to` in a reply.
 #[derive(Clone, Copy, Debug, PartialEq, Eq)]
 pub struct Head {
+    pub version: u8,
     pub kind: FrameKind,
     pub from: NodeId,
     pub to: NodeId,
@@ -82,11 +85,20 @@ impl Frame {
     ghost use Rattle.ring_messages.specs.Frames.{Message, IsInRange, caller_of};
 
     /// A frame. The process is of node `from` in a request, and of node `to` in a reply.
-    pub fn new(from: NodeId, to: NodeId, proc: u8, number: u64, tick: u64, body: Body) -> Frame
-        requires { IsInRange (record { from = from; to = to; proc = proc; number = number; tick = tick; body = body }) }
-        ensures { result ≡ record { from = from; to = to; proc = proc; number = number; tick = tick; body = body } }
+    pub fn new(
+        version: u8,
+        from: NodeId,
+        to: NodeId,
+        proc: u8,
+        number: u64,
+        tick: u64,
+        body: Body,
+    ) -> Frame
+        requires { IsInRange (record { version = version; from = from; to = to; proc = proc; number = number; tick = tick; body = body }) }
+        ensures { result ≡ record { version = version; from = from; to = to; proc = proc; number = number; tick = tick; body = body } }
     {
         Frame {
+            version,
             from,
             to,
             proc,
@@ -94,6 +106,14 @@ impl Frame {
             tick,
             body,
         }
+    }
+
+    /// The version in which it is written, 1 or 2.
+    pub fn version(&self) -> u8
+        ensures value { result ≡ self.now.version }
+        ensures ranges { IsInRange self.now }
+    {
+        self.version
     }
 
     /// The node that sends it.
@@ -171,6 +191,7 @@ impl Frame {
         ensures ranges { IsInRange self }
     {
         let Frame {
+            version: _,
             from: _,
             to: _,
             proc: _,
@@ -185,6 +206,14 @@ impl Frame {
 impl Copied for Frame {
     fn copy(&self, alloc: Global) -> Result<Frame, NoMemory> {
         let body = self.body.copy(alloc)?;
-        Ok(Frame::new(self.from, self.to, self.proc, self.number, self.tick, body))
+        Ok(Frame {
+            version: self.version,
+            from: self.from,
+            to: self.to,
+            proc: self.proc,
+            number: self.number,
+            tick: self.tick,
+            body,
+        })
     }
 }

@@ -18,12 +18,13 @@ pub fn frames_have_one_spelling()
     ensures prefix { (m n : Message) (rest : List ℕ) → IsFrame m → IsFrame n → spelling n ≡ spelling m ++ rest → rest ≡ [] }
 {}
 
-/// A spelling begins with its header, and the longest is that of a page-out.
+/// A spelling begins with its header, and the longest is that of a page-out, which has a form in version 2.
 pub fn spellings_have_their_parts()
     ensures head { (m : Message) → IsFrame m → IsHead (head_of m) }
     ensures begins { (m : Message) → take 24 (spelling m) ≡ header (head_of m) }
-    ensures length { (m : Message) → IsFrame m → length (spelling m) ≡ 24 + body_size m.body }
-    ensures longest { (m : Message) → IsFrame m → length (spelling m) ≤ 24 + (28 + PAGE_BYTES) }
+    ensures length { (m : Message) → IsFrame m → length (spelling m) ≡ 24 + body_size m.version m.body }
+    ensures longest { (m : Message) → IsFrame m → length (spelling m) ≤ 24 + (29 + PAGE_BYTES) }
+    ensures first { (m : Message) → IsFrame m → m.version ≡ 1 → length (spelling m) ≤ 24 + (28 + PAGE_BYTES) }
 {}
 
 /// A body asks one thing of a home or answers one thing.

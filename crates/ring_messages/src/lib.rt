@@ -5,7 +5,6 @@ pub mod body;
 pub mod copied;
 pub mod frame;
 pub mod laws;
-pub mod limits;
 pub mod page_bytes;
 mod reading;
 mod writing;

@@ -1,5 +1,6 @@
 //! The bytes of a page, as a frame carries them.
 ghost use Rattle.std.specs.Prelude.{◌≡◌, IfOk};
+ghost use Rattle.ring_messages.specs.Spelling.{is_blank};
 
 use std::alloc::{AllocError, Global};
 use std::marker::Model;
@@ -49,10 +50,25 @@ impl PageBytes {
         &self.kept
     }
 
+    /// Whether all are zeros. Takes no memory.
+    pub fn is_blank(&self) -> bool
+        ensures { result ≡ is_blank self.now }
+    {
+        is_blank(self.bytes())
+    }
+
     /// Writes over the bytes.
     pub fn write(&mut self, bytes: &[u8; PAGE_BYTES])
         ensures { self.new ≡ bytes.now }
     {
         *self.kept = *bytes;
     }
+}
+
+/// Whether all bytes of a page are zeros.
+#[tactic(auto, unfolding(crate::specs::Spelling::blank_page))]
+pub(crate) fn is_blank(bytes: &[u8; PAGE_BYTES]) -> bool
+    ensures { result ≡ is_blank bytes.now }
+{
+    *bytes == [0; PAGE_BYTES]
 }

@@ -6,7 +6,8 @@ ghost use Rattle.uid_names.specs.declared.frame_kind.FrameKind.TheVariants as ki
 ghost use Rattle.ring_messages.specs.declared.frame.Head.{Head};
 ghost use Rattle.ring_messages.specs.declared.frame.FrameFault.TheVariants as faults;
 ghost use Rattle.ring_messages.specs.Frames.{Message};
-ghost use Rattle.ring_messages.specs.Ranges.{IsBody};
+ghost use Rattle.uid_names.specs.Wires.{wire_room};
+ghost use Rattle.ring_messages.specs.Ranges.{IsBody, LiesWithin};
 ghost use Rattle.ring_messages.specs.Spelling.{header, framed, spelling};
 ghost use Rattle.ring_messages.specs.Spelled.{IsHead, IsFrame, Spells};
 ghost use Rattle.ring_messages.specs.ReaderSteps.{Gives};
@@ -39,7 +40,11 @@ pub fn head(bytes: &[u8]) -> Option<Head>
     ensures long { IfSome result (λ _. 24 ≤ length bytes.now) }
     ensures none { IfNone result ((h : Head) → IsHead h → take 24 bytes.now ≢ header h) }
 {
-    if bytes.len() < 24 || bytes[0] != 1 || bytes[5] != 0 || bytes[6] != 0 || bytes[7] != 0 {
+    if bytes.len() < 24 || bytes[5] != 0 || bytes[6] != 0 || bytes[7] != 0 {
+        return None;
+    }
+    let version = bytes[0];
+    if version < 1 || 2 < version {
         return None;
     }
     let proc = bytes[4];
@@ -52,6 +57,7 @@ pub fn head(bytes: &[u8]) -> Option<Head>
     let from = NodeId::new(bytes[2])?;
     let to = NodeId::new(bytes[3])?;
     Some(Head {
+        version,
         kind,
         from,
         to,
@@ -65,9 +71,18 @@ pub fn head(bytes: &[u8]) -> Option<Head>
 fn framed(head: &Head, body: Body) -> Frame
     requires head { IsHead head.now }
     requires body { IsBody head.now.to body }
+    requires within { LiesWithin (wire_room head.now.version) body }
     ensures { result ≡ framed head.now body }
 {
-    Frame::new(head.from, head.to, head.proc, head.number, head.tick, body)
+    Frame::new(
+        head.version,
+        head.from,
+        head.to,
+        head.proc,
+        head.number,
+        head.tick,
+        body,
+    )
 }
 
 /// The frame of an attr-out, from its header and the bytes behind it.
@@ -76,7 +91,7 @@ fn attr_out(head: &Head, rest: &[u8]) -> Result<Frame, FrameFault>
     requires kind { head.now.kind ≡ kinds.AttrOut }
     ensures { Gives (λ frame. frame) result (frame_at head.now rest.now) }
 {
-    let (uid, length, grant, base) = requests::attr_out(head.to, rest)?;
+    let (uid, length, grant, base) = requests::attr_out(head.version, head.to, rest)?;
     let body = Body::AttrOut {
         uid,
         length,
@@ -92,7 +107,7 @@ fn page_out(alloc: Global, head: &Head, rest: &[u8]) -> Result<Frame, FrameFault
     requires kind { head.now.kind ≡ kinds.PageOut }
     ensures { Gives (λ frame. frame) result (frame_at head.now rest.now) }
 {
-    let (uid, page, grant, base, bytes) = requests::page_out(alloc, head.to, rest)?;
+    let (uid, page, grant, base, bytes) = requests::page_out(alloc, head.version, head.to, rest)?;
     let body = Body::PageOut {
         uid,
         page,
@@ -109,7 +124,7 @@ fn page(alloc: Global, head: &Head, rest: &[u8]) -> Result<Frame, FrameFault>
     requires kind { head.now.kind ≡ kinds.Page }
     ensures { Gives (λ frame. frame) result (frame_at head.now rest.now) }
 {
-    let (stamp, bytes) = replies::page(alloc, rest)?;
+    let (stamp, bytes) = replies::page(alloc, head.version, rest)?;
     Ok(framed(head, Body::Page { stamp, bytes }))
 }
 
@@ -119,7 +134,7 @@ fn granted(head: &Head, rest: &[u8]) -> Result<Frame, FrameFault>
     requires kind { head.now.kind ≡ kinds.Granted }
     ensures { Gives (λ frame. frame) result (frame_at head.now rest.now) }
 {
-    let (grant, stamp, kind, room, length) = replies::granted(rest)?;
+    let (grant, stamp, kind, room, length) = replies::granted(head.version, rest)?;
     let body = Body::Granted {
         grant,
         stamp,
@@ -133,7 +148,7 @@ fn granted(head: &Head, rest: &[u8]) -> Result<Frame, FrameFault>
 /// The frame of a body without fields, from its header and the bytes behind it.
 fn empty(head: &Head, rest: &[u8], body: Body) -> Result<Frame, FrameFault>
     requires head { IsHead head.now }
-    requires body { body_at head.now.kind head.now.to rest.now ≡ empty_at body rest.now }
+    requires body { body_at head.now.version head.now.kind head.now.to rest.now ≡ empty_at body rest.now }
     ensures { Gives (λ frame. frame) result (frame_at head.now rest.now) }
 {
     end(rest)?;
@@ -187,7 +202,7 @@ fn other(alloc: Global, head: &Head, rest: &[u8]) -> Result<Frame, FrameFault>
 {
     match head.kind {
         FrameKind::PageIn => {
-            let (uid, page) = requests::page_in(head.to, rest)?;
+            let (uid, page) = requests::page_in(head.version, head.to, rest)?;
             Ok(framed(head, Body::PageIn { uid, page }))
         }
         FrameKind::Lock => unreachable!(),
@@ -200,7 +215,7 @@ fn other(alloc: Global, head: &Head, rest: &[u8]) -> Result<Frame, FrameFault>
             Ok(framed(head, Body::Remove { uid }))
         }
         FrameKind::Make => {
-            let (kind, room) = requests::make(rest)?;
+            let (kind, room) = requests::make(head.version, rest)?;
             Ok(framed(head, Body::Make { kind, room }))
         }
         FrameKind::List => {

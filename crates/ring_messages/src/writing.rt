@@ -6,12 +6,13 @@ ghost use Rattle.uid_names.specs.Names.{IsName, IsProcName};
 ghost use Rattle.ring_messages.specs.Bodies.{is_request};
 ghost use Rattle.ring_messages.specs.Frames.{IsInRange};
 ghost use Rattle.ring_messages.specs.Ranges.{IsBody};
-ghost use Rattle.ring_messages.specs.Spelling.{be32, be64, uid_bytes, proc_bytes, row_bytes, flag, after_bytes, body_bytes, header, head_of, spelling};
+ghost use Rattle.ring_messages.specs.Spelling.{be32, be64, uid_bytes, proc_bytes, row_bytes, flag, after_bytes, is_blank, formed, page_bytes, body_bytes, header, head_of, spelling};
 ghost use Rattle.ring_messages.specs.Spelled.{IsRow, AreBytes, IsAfter, IsTypedBody, IsHead, Spells};
-ghost use Rattle.ring_messages.specs.Sizes.{body_size};
+ghost use Rattle.ring_messages.specs.Sizes.{page_size, body_size};
 
 use crate::body::Body;
 use crate::frame::Frame;
+use crate::page_bytes::{PageBytes, is_blank};
 use byteorder::{BigEndian, ByteOrder};
 use std::alloc::Global;
 use uid_names::{ByteList, LockRow, Mode, NoMemory, ObjKind, PAGE_BYTES, ProcId, Uid};
@@ -67,10 +68,36 @@ fn put_rows(out: &mut ByteList, rows: &[LockRow]) -> Result<(), NoMemory>
     Ok(())
 }
 
-fn put_page(out: &mut ByteList, bytes: &[u8; PAGE_BYTES]) -> Result<(), NoMemory>
-    ensures text { OnOk result (out.new ≡ out.old ++ bytes.now) }
+/// A page: its bytes, in version 2 behind a form.
+fn put_page(out: &mut ByteList, version: u8, bytes: &[u8; PAGE_BYTES]) -> Result<(), NoMemory>
+    ensures text { OnOk result (out.new ≡ out.old ++ page_bytes version bytes.now) }
     ensures are_bytes { OnOk result (AreBytes bytes.now) }
 {
+    if version == 1 {
+        out.extend(bytes)
+    } else {
+        put_formed(out, bytes)
+    }
+}
+
+/// A page behind its form. Of a page of zeros the form alone is written.
+fn put_formed(out: &mut ByteList, bytes: &[u8; PAGE_BYTES]) -> Result<(), NoMemory>
+    ensures text { OnOk result (out.new ≡ out.old ++ formed (is_blank bytes.now) bytes.now) }
+    ensures are_bytes { OnOk result (AreBytes bytes.now) }
+{
+    if is_blank(bytes) {
+        out.push(0)
+    } else {
+        put_full(out, bytes)
+    }
+}
+
+/// A page other than that of zeros.
+fn put_full(out: &mut ByteList, bytes: &[u8; PAGE_BYTES]) -> Result<(), NoMemory>
+    ensures text { OnOk result (out.new ≡ out.old ++ 1 ∷ bytes.now) }
+    ensures are_bytes { OnOk result (AreBytes bytes.now) }
+{
+    out.push(1)?;
     out.extend(bytes)
 }
 
@@ -106,9 +133,9 @@ fn put_written(
 }
 
 /// The bytes behind the header of a request.
-fn put_request(out: &mut ByteList, body: &Body) -> Result<(), NoMemory>
+fn put_request(out: &mut ByteList, version: u8, body: &Body) -> Result<(), NoMemory>
     requires { IsTrue (is_request body.now) }
-    ensures text { OnOk result (out.new ≡ out.old ++ body_bytes body.now) }
+    ensures text { OnOk result (out.new ≡ out.old ++ body_bytes version body.now) }
     ensures typed { OnOk result (IsTypedBody body.now) }
 {
     match *body {
@@ -124,7 +151,7 @@ fn put_request(out: &mut ByteList, body: &Body) -> Result<(), NoMemory>
             ref bytes,
         } => {
             put_written(out, uid, page, grant, base)?;
-            put_page(out, bytes.bytes())
+            put_page(out, version, bytes.bytes())
         }
         Body::AttrOut {
             uid,
@@ -147,12 +174,17 @@ fn put_request(out: &mut ByteList, body: &Body) -> Result<(), NoMemory>
 }
 
 /// A page, with its stamp.
-fn put_stamped(out: &mut ByteList, stamp: u64, bytes: &[u8; PAGE_BYTES]) -> Result<(), NoMemory>
-    ensures text { OnOk result (out.new ≡ out.old ++ (be64 stamp ++ bytes.now)) }
+fn put_stamped(
+    out: &mut ByteList,
+    version: u8,
+    stamp: u64,
+    bytes: &[u8; PAGE_BYTES],
+) -> Result<(), NoMemory>
+    ensures text { OnOk result (out.new ≡ out.old ++ (be64 stamp ++ page_bytes version bytes.now)) }
     ensures typed { OnOk result ((stamp < 2 ^ 64) × AreBytes bytes.now) }
 {
     put_u64(out, stamp)?;
-    put_page(out, bytes)
+    put_page(out, version, bytes)
 }
 
 /// What is granted: the grant, and what the home knows of the object.
@@ -194,14 +226,14 @@ fn put_listed(out: &mut ByteList, rows: &[LockRow], more: bool) -> Result<(), No
 }
 
 /// The bytes behind the header of a reply.
-fn put_reply(out: &mut ByteList, body: &Body) -> Result<(), NoMemory>
+fn put_reply(out: &mut ByteList, version: u8, body: &Body) -> Result<(), NoMemory>
     requires few { IsBody 0 body.now }
     requires reply { IsFalse (is_request body.now) }
-    ensures text { OnOk result (out.new ≡ out.old ++ body_bytes body.now) }
+    ensures text { OnOk result (out.new ≡ out.old ++ body_bytes version body.now) }
     ensures typed { OnOk result (IsTypedBody body.now) }
 {
     match body {
-        Body::Page { stamp, bytes } => put_stamped(out, *stamp, bytes.bytes()),
+        Body::Page { stamp, bytes } => put_stamped(out, version, *stamp, bytes.bytes()),
         Body::Stored { stamp } | Body::Stale { stamp } => put_u64(out, *stamp),
         Body::Granted {
             grant,
@@ -219,14 +251,14 @@ fn put_reply(out: &mut ByteList, body: &Body) -> Result<(), NoMemory>
 }
 
 fn put_body(out: &mut ByteList, frame: &Frame) -> Result<(), NoMemory>
-    ensures text { OnOk result (out.new ≡ out.old ++ body_bytes frame.now.body) }
+    ensures text { OnOk result (out.new ≡ out.old ++ body_bytes frame.now.version frame.now.body) }
     ensures typed { OnOk result (IsTypedBody frame.now.body) }
 {
-    let body = frame.body();
+    let (version, body) = (frame.version(), frame.body());
     if body.is_request() {
-        put_request(out, body)
+        put_request(out, version, body)
     } else {
-        put_reply(out, body)
+        put_reply(out, version, body)
     }
 }
 
@@ -236,26 +268,37 @@ fn put_header(out: &mut ByteList, frame: &Frame) -> Result<(), NoMemory>
     ensures head { OnOk result (IsHead (head_of frame.now)) }
     ensures ranges { OnOk result (IsInRange frame.now) }
 {
-    let kind = frame.body().kind().number();
+    let (version, kind) = (frame.version(), frame.body().kind().number());
     let (from, to) = (frame.from().number(), frame.to().number());
-    out.extend(&[1, kind, from, to, frame.proc(), 0, 0, 0])?;
+    out.extend(&[version, kind, from, to, frame.proc(), 0, 0, 0])?;
     put_u64(out, frame.number())?;
     put_u64(out, frame.tick())
 }
 
+/// How many bytes a page has.
+fn page_size(version: u8, bytes: &PageBytes) -> usize
+    ensures { result ≡ page_size version bytes.now }
+{
+    if version == 1 {
+        return PAGE_BYTES;
+    }
+    if bytes.is_blank() { 1 } else { 1 + PAGE_BYTES }
+}
+
 /// How many bytes it has.
 fn size_of(frame: &Frame) -> usize
-    ensures { result ≡ 24 + body_size frame.now.body }
+    ensures { result ≡ 24 + body_size frame.now.version frame.now.body }
 {
+    let version = frame.version();
     let behind = match frame.body() {
         Body::PageIn { .. } => 12,
-        Body::PageOut { .. } => 28 + PAGE_BYTES,
+        Body::PageOut { bytes, .. } => 28 + page_size(version, bytes),
         Body::AttrOut { .. } => 28,
         Body::Lock { .. } => 9,
         Body::Unlock { .. } | Body::Remove { .. } | Body::Made { .. } => 8,
         Body::Make { .. } => 5,
         Body::List { .. } => 11,
-        Body::Page { .. } => 8 + PAGE_BYTES,
+        Body::Page { bytes, .. } => 8 + page_size(version, bytes),
         Body::Stored { .. } | Body::Stale { .. } => 8,
         Body::NoGrant | Body::NoObject | Body::Done | Body::NoSpace => 0,
         Body::Granted { .. } => 25,

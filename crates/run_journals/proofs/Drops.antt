@@ -15,7 +15,7 @@ use Rattle.fault_handler.proofs.PageLists.{found-page, found-uid}
 use Rattle.lock_validate.specs.Causes.{Cause}
 use Rattle.lock_validate.specs.DeskMoves.{Change, DeskMoves}
 use Rattle.node_runs.specs.CallsKeep.{EachOf}
-use Rattle.run_laws.proofs.KnownPages.{each-find, moves-pages}
+use Rattle.lock_validate.proofs.EachPage.{each-find, moves-pages}
 
 module _ (Q : ObjectName → ℕ → Type 0) where
   abbrev Of : Resident → Type 0

@@ -1,6 +1,8 @@
 -- The script of a seed is a draft at each step.
 use Rattle.std.proofs.Common.{◌≡◌, ℕ, zero, suc, ◌≤◌, ◌<◌, ◌+◌, ◌%◌, List, [], ◌∷◌, length, refl, ap, sym, subst, ◌∙◌, add-one, append-nil, append_assoc, arith}
 use Rattle.std.specs.List.{AllByRecursion}
+use Rattle.uid_names.specs.Wires.{wire_room}
+use Rattle.uid_names.proofs.Wires.{wire_room-least}
 use Rattle.dom_history.specs.Ranges.{IsProcName}
 use Rattle.script_reader.specs.After.{with_command}
 use Rattle.script_reader.specs.Commands.{IsOffset}
@@ -24,13 +26,17 @@ nodes-ready (suc n) few =
     subst IsBegun (node_more n ∙ ap nodes_begun (add-one n))
     (node-begun (nodes_begun n) (node_name n) 8 (nodes-ready n (omega (arith, few))) (node_name_is n lt) (omega arith) (omega arith) (node_name_new n lt) (omega (arith, many, lt)))
 
+-- the room of each object can be written
+four-written : 4 ≤ wire_room 1
+four-written = let least = wire_room-least 1 in omega (arith, least)
+
 objects-ready : (i : ℕ) → i ≤ 32 → IsBegun (objects_begun i)
 objects-ready zero few = nodes-ready 8 (omega arith)
 objects-ready (suc i) few =
     let lt : i < 32 = omega (arith, few) in
     let eight : length (objects_begun i).nodes ≡ 8 = nodes_few 8 in
     subst IsBegun (object_more i lt ∙ ap objects_begun (add-one i))
-    (object-begun (objects_begun i) (object_name i) (i % 8 + 1) 4 (objects-ready i (omega (arith, few))) (object_name_is i lt) (omega arith) (omega (arith, eight)) (omega arith, omega arith) (object_new i lt) refl (object_fits i lt))
+    (object-begun (objects_begun i) (object_name i) (i % 8 + 1) 4 (objects-ready i (omega (arith, few))) (object_name_is i lt) (omega arith) (omega (arith, eight)) (omega arith, omega arith) four-written (object_new i lt) refl (object_fits i lt))
 
 -- what a process does on an object
 abbrev IsWorkOn : ℕ → List Command → Type 0

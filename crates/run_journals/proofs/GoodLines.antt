@@ -8,8 +8,9 @@ use Rattle.uid_names.specs.NameTexts.{IsNameText}
 use Rattle.uid_names.specs.Names.{same_proc, same_uid}
 use Rattle.uid_names.specs.Openings.{IsDeclarable}
 use Rattle.uid_names.specs.Rooms.{IsRoom}
+use Rattle.uid_names.specs.Wires.{IsWire, wire_room}
 use Rattle.uid_names.specs.Texts.{written_so}
-use Rattle.uid_names.specs.declared.limits.TheConstants.{MAX_NODES, MAX_PHASES, MAX_ROOM, NODE_PROCESSES, VOLUME_ROOM}
+use Rattle.uid_names.specs.declared.limits.TheConstants.{MAX_NODES, MAX_PHASES, NODE_PROCESSES, VOLUME_ROOM}
 use Rattle.uid_names.specs.declared.opening.Object.{Object as ObjectRecord}
 use Rattle.uid_names.proofs.InOrder.{AllPairs-nil}
 use Rattle.dom_history.specs.Plans.{is_of_frame, is_set}
@@ -23,19 +24,19 @@ use Rattle.dom_text.specs.declared.line.TextFault.TheVariants.{Quote as QuoteFau
 use Rattle.dom_text.specs.declared.token.Token.{Token}
 use Rattle.dom_text.specs.declared.token.Token.TheVariants.{Word, Text}
 use Rattle.script_reader.specs.After.{after, fate_said}
-use Rattle.script_reader.specs.Forms.{node_form, object_form, fault_form, phase_form, access_form, subject_form, subject_words, fate_form, with_link, arguments_form, does_form}
+use Rattle.script_reader.specs.Forms.{wire_form, node_form, object_form, fault_form, phase_form, access_form, subject_form, subject_words, fate_form, with_link, arguments_form, does_form}
 use Rattle.script_reader.specs.Grammar.{AreGood, nothing, without_cr}
-use Rattle.script_reader.specs.Judging.{has_begun, judged, judged_first, judged_form, judged_place, judged_process, judged_saying, judged_text, judged_tokens, judged_verb}
+use Rattle.script_reader.specs.Judging.{has_begun, judged, judged_early, judged_first, judged_form, judged_place, judged_process, judged_saying, judged_text, judged_tokens, judged_verb}
 use Rattle.script_reader.specs.Limits.{is_past_limit, pages_at}
 use Rattle.script_reader.specs.NamesAsked.{has_name, is_no_name}
 use Rattle.script_reader.specs.Commands.{IsCommandRow}
 use Rattle.script_reader.specs.Fates.{IsFateRow}
 use Rattle.script_reader.specs.NodeNames.{is_node_name, node_number}
-use Rattle.script_reader.specs.Numbers.{has_number, is_fate, is_no_number}
+use Rattle.script_reader.specs.Numbers.{has_room, has_number, is_fate, is_no_number}
 use Rattle.script_reader.specs.Repeats.{is_fresh, is_repeated}
 use Rattle.script_reader.specs.SaidCommands.{command_said}
-use Rattle.script_reader.specs.Sayings.{Saying, Node, Object, Fault, Phase, Access, Subject, Does, SaidFate, Lose, Twice, Late}
-use Rattle.script_reader.specs.Scripts.{Content, IsNode, IsObject}
+use Rattle.script_reader.specs.Sayings.{Saying, Wire, Node, Object, Fault, Phase, Access, Subject, Does, SaidFate, Lose, Twice, Late}
+use Rattle.script_reader.specs.Scripts.{Content, wire_of, IsNode, IsObject}
 use Rattle.script_reader.specs.Shapes.{shape_of}
 use Rattle.script_reader.specs.SpelledNumbers.{frames_spelled, index_spelled, late_spelled, process_spelled, within}
 use Rattle.script_reader.specs.UnknownNames.{is_known, is_unknown, proc_of}
@@ -48,26 +49,36 @@ use Rattle.script_reader.specs.declared.script.CommandRow.{CommandRow}
 use Rattle.script_reader.specs.declared.script.NodeRow.{NodeRow}
 use Rattle.script_reader.specs.declared.script.SubjectRow.{SubjectRow}
 use Rattle.script_reader.specs.declared.script.VarRow.{VarRow}
-use Rattle.script_reader.proofs.Arguing.{command_is, command_spoken, form_formed, found_is, node_is, nodes_known, room_found, within_is}
+use Rattle.script_reader.proofs.Arguing.{to_some, to_low, command_is, command_spoken, form_formed, found_is, node_is, nodes_known, room_found, within_is}
 use Rattle.script_reader.proofs.Kept.{IsDraft-access, IsDraft-command, IsDraft-fate, IsDraft-phase, IsDraft-subject, name_text}
 use Rattle.script_reader.proofs.Ranges.{both_true, fate_is, nodes_apart}
 use Rattle.script_reader.proofs.Reading.{in_place}
-use Rattle.run_journals.proofs.Drafts.{IsBegun, node-begun, object-begun}
+use Rattle.run_journals.proofs.Drafts.{IsBegun, wire-begun, node-begun, object-begun}
+
+-- none is there
+none_there : (o : Option ℕ) → is_some o ≡ false → o ≡ None
+none_there None none = refl
+none_there (Some n) none = absurd cc
 
 -- a line that passes the tests says what may be said
 module _ (s : Content) (is : IsBegun s) where
+  wire-said : (version : Option ℕ) → IfSome version IsWire → not (is_some version) ≡ false → is_some s.said_wire ≡ false → IsBegun (after s (Wire version))
+  wire-said version formed numbers new = wire-begun s (unwrap_or version 0) is (found_is IsWire version formed (not-false (is_some version) numbers)) (none_there s.said_wire new)
+
   node-said : (name : List ℕ) (frames : Option ℕ) → IfSome frames AreFrames → not (is_some frames) ≡ false → not (is_name name) ≡ false → is_node_name s.nodes name ≡ false → nat_le MAX_NODES (length s.nodes) ≡ false
       → IsBegun (after s (Node name frames))
   node-said name frames formed numbers names new within =
       let found = found_is AreFrames frames formed (not-false (is_some frames) numbers) in
       node-begun s name (unwrap_or frames 0) is (not-false (is_name name) names) found.0 found.1 new (search (rules, within))
 
-  object-said : (var : List ℕ) (room : Option ℕ) (home : List ℕ) → (s.commands ≡ []) × IfSome room IsRoom → not (is_some room) ≡ false → not (is_name var && is_name home) ≡ false → not (is_node_name s.nodes home) ≡ false
+  object-said : (var : List ℕ) (room : Option ℕ) (home : List ℕ) → (s.commands ≡ []) × IfSome room IsRoom → not (has_room (wire_of s) room) ≡ false → not (is_name var && is_name home) ≡ false → not (is_node_name s.nodes home) ≡ false
       → is_declared s.objects var ≡ false → nat_lt VOLUME_ROOM (pages_at (node_number s.nodes home) s.opening.objects + unwrap_or room 0) ≡ false → IsBegun (after s (Object var room home))
   object-said var room home formed numbers names known new within =
       let at = node_is s.nodes home (not-false (is_node_name s.nodes home) known) in
-      let range = found_is IsRoom room formed.1 (not-false (is_some room) numbers) in
-      object-begun s var (node_number s.nodes home) (unwrap_or room 0) is (both_true (is_name var) (is_name home) names).0 at.0 at.1 range new formed.0 (search (rules, within))
+      let has = not-false (has_room (wire_of s) room) numbers in
+      let range = found_is IsRoom room formed.1 (to_some (wire_room (wire_of s)) room has) in
+      let written = to_low (wire_room (wire_of s)) room has in
+      object-begun s var (node_number s.nodes home) (unwrap_or room 0) is (both_true (is_name var) (is_name home) names).0 at.0 at.1 range written new formed.0 (search (rules, within))
 
   fault-said : (from to : List ℕ) (index : Option ℕ) (fate : SaidFate) → HasForm (Fault from to index fate) → not (is_some index && is_fate fate) ≡ false → not (is_node_name s.nodes from && is_node_name s.nodes to) ≡ false
       → is_set s.plan (node_number s.nodes from) (node_number s.nodes to) (unwrap_or index 0) ≡ false → IsBegun (after s (Fault from to index fate))
@@ -110,7 +121,8 @@ module _ (s : Content) (is : IsBegun s) where
       } in
       record { draft = IsDraft-subject s row is.draft of_nodes new; starts = is.starts }
 
-  after-begun : (said : Saying) → IsFormed s said → is_no_number said ≡ false → is_no_name said ≡ false → is_unknown s said ≡ false → is_repeated s said ≡ false → is_past_limit s said ≡ false → IsBegun (after s said)
+  after-begun : (said : Saying) → IsFormed s said → is_no_number (wire_of s) said ≡ false → is_no_name said ≡ false → is_unknown s said ≡ false → is_repeated s said ≡ false → is_past_limit s said ≡ false → IsBegun (after s said)
+  after-begun (Wire version) formed numbers names known new within = wire-said version formed numbers new
   after-begun (Node name frames) formed numbers names known new within = node-said name frames formed numbers names new within
   after-begun (Object var room home) formed numbers names known new within = object-said var room home formed numbers names known new within
   after-begun (Fault from to index fate) formed numbers names known new within = fault-said from to index fate formed numbers known new
@@ -119,7 +131,7 @@ module _ (s : Content) (is : IsBegun s) where
   after-begun (Subject process person project) formed numbers names known new within = subject-said process person project formed numbers names known new
   after-begun (Does process verb arguments) formed numbers names known new within =
       let proc = proc_of s.nodes process in
-      let given = both_true (is_some process.number) (list_all has_number arguments) numbers in
+      let given = both_true (is_some process.number) (list_all (has_number (wire_of s)) arguments) numbers in
       let number = found_is IsProcessNumber process.number formed.0 given.0 in
       let knows = both_true (is_node_name s.nodes process.node) (list_all (is_known s proc) arguments) known in
       let node = node_is s.nodes process.node knows.0 in
@@ -127,7 +139,7 @@ module _ (s : Content) (is : IsBegun s) where
       record {
         draft =
             IsDraft-command s proc (command_said s.nodes verb arguments) is.draft (record { node = (node.0, omega (arith, node.1, few)); number = number }) node.1
-            (command_is s.nodes verb arguments formed.1 given.1 (not-false (list_all has_name arguments) names) (nodes_known s proc arguments knows.1))
+            (command_is (wire_of s) s.nodes verb arguments formed.1 given.1 (not-false (list_all has_name arguments) names) (nodes_known s proc arguments knows.1))
             (command_spoken s proc verb arguments formed.1.kinds_are knows.1 (not-false (list_all (is_fresh s) arguments) new)) (search (rules, within));
         starts = is.starts;
       }
@@ -143,6 +155,10 @@ tested P false false false false true x good = tt
 tested P false false false false false x good = good refl refl refl refl refl
 
 -- the forms of lines
+wire-formed : (tokens : List Token) → IfSome (wire_form tokens) HasForm
+wire-formed (Word number ∷ []) = within_is 1 2 (number_spelled number)
+wire-formed _ = tt
+
 words-are : (b : Bool) (name : List ℕ) (count : List ℕ) → IfSome (if b then Some (Node name (frames_spelled (Some count))) else None) HasForm
 words-are true name count = within_is 5 256 (number_spelled count)
 words-are false name count = tt
@@ -215,7 +231,7 @@ among text (x ∷ xs) word P none some = by_test (bytes_eq (text x) word) (among
 -- a line leaves what the lines before it left
 module _ (s : Content) (is : IsBegun s) where
   said-begun : (said : Saying) → IsFormed s said → IfOk (judged_saying s said) IsBegun
-  said-begun said formed = tested IsBegun (is_no_number said) (is_no_name said) (is_unknown s said) (is_repeated s said) (is_past_limit s said) (after s said) (after-begun s is said formed)
+  said-begun said formed = tested IsBegun (is_no_number (wire_of s) said) (is_no_name said) (is_unknown s said) (is_repeated s said) (is_past_limit s said) (after s said) (after-begun s is said formed)
 
   form-begun : (form : Option Saying) → IfSome form (IsFormed s) → IfOk (judged_form s form) IsBegun
   form-begun None formed = tt
@@ -231,6 +247,13 @@ module _ (s : Content) (is : IsBegun s) where
       by_test : (b : Bool) → has_begun s ≡ b → IfOk (if b then Err Place else judged_form s form) IsBegun
       by_test true e = tt
       by_test false e = form-begun form (placed e form formed)
+
+  early-begun : (form : Option Saying) → IfSome form HasForm → IfOk (judged_early s form) IsBegun
+  early-begun form formed = by_test (nat_lt 0 (length s.opening.objects))
+    where
+      by_test : (b : Bool) → IfOk (if b then Err Place else judged_place s form) IsBegun
+      by_test true = tt
+      by_test false = place-begun form formed
 
   phase-begun : (tokens : List Token) → IfOk (judged_form s (phase_form tokens)) IsBegun
   phase-begun [] = form-begun (Some Phase) tt
@@ -253,8 +276,11 @@ module _ (s : Content) (is : IsBegun s) where
   first-begun : (word : List ℕ) (tokens : List Token) → IfOk (judged_first s (written_so line_word_text line_words word) word tokens) IsBegun
   first-begun word tokens =
       among line_word_text line_words word (λ first. IfOk (judged_first s first word tokens) IsBegun) (process-begun (process_word word) tokens (process-formed (cut_at 46 word))) (
-        place-begun (node_form tokens) (node-formed tokens),
-        (place-begun (object_form tokens) (object-formed tokens), (place-begun (fault_form tokens) (fault-formed tokens), (phase-begun tokens, (place-begun (access_form tokens) (access-formed tokens), (place-begun (subject_form tokens) (subject-formed tokens), tt))))),
+        early-begun (wire_form tokens) (wire-formed tokens),
+        (
+          place-begun (node_form tokens) (node-formed tokens),
+          (place-begun (object_form tokens) (object-formed tokens), (place-begun (fault_form tokens) (fault-formed tokens), (phase-begun tokens, (place-begun (access_form tokens) (access-formed tokens), (place-begun (subject_form tokens) (subject-formed tokens), tt))))),
+        ),
       )
 
   tokens-begun : (tokens : List Token) → IfOk (judged_tokens s tokens) IsBegun
@@ -286,6 +312,7 @@ good-lines s (line ∷ lines) t good is =
 pub nothing-begun : IsBegun nothing
 nothing-begun = record {
   draft = record {
+    wire = tt;
     few_nodes = omega arith;
     nodes = All-nil IsNode;
     names_apart = AllPairs-nil (λ (a b : NodeRow). a.name ≢ b.name);
@@ -307,7 +334,7 @@ nothing-begun = record {
     spoken = tt;
   };
   starts = record {
-    declarable = All-nil (IsDeclarable 0 MAX_ROOM);
+    declarable = All-nil (IsDeclarable 0 (wire_room 1));
     apart = AllPairs-nil (λ (a b : ObjectRecord). same_uid a.uid b.uid ≡ false);
     counters = λ home. tt;
     volume = λ home. omega arith;

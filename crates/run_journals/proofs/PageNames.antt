@@ -65,7 +65,7 @@ use Rattle.run_laws.proofs.DeskSteps.{heard-turn, gave_up-turn}
 use Rattle.run_laws.proofs.EventMoves.{desk-moves}
 use Rattle.run_laws.proofs.OpenTasks.{answer-task, open_task_of}
 use Rattle.run_laws.specs.StandingLocks.{AreStanding, IsKeeping}
-use Rattle.run_laws.proofs.KnownPages.{moves-pages}
+use Rattle.lock_validate.proofs.EachPage.{moves-pages}
 use Rattle.run_journals.proofs.Drops.{AreSuch, moves-drop}
 
 -- a page of an object that has a name
@@ -268,7 +268,7 @@ module _ (s : Setup) (setup : IsSetup s) (cs : List Choice) (old : World) (e : w
   open event s old c new next use {g, n, step, after}
 
   own : IsNodeOf g n
-  own = let is = next.kept.nodes c.node next.is.node in node-with g (old.nodes c.node) n is refl refl is.side is.home
+  own = let is = next.kept.nodes c.node next.is.node in node-with g (old.nodes c.node) n is refl refl is.side is.home is.within.side
 
   locks : (p : ℕ) → IsProc p → (u : ObjectName) → keeps (entry_at n.desk.entries p u) ≡ true → IsName u
   locks = kept-named s setup old timely (nodes-counted s setup cs old e) next.kept.nodes standing c.node next.is.node

@@ -158,7 +158,7 @@ module _ (s : Setup) (setup : IsSetup s) (standing : (cs : List Choice) (w : Wor
     open event s old c new next use {g, n, step, after}
 
     own : IsNodeOf g n
-    own = let is = next.kept.nodes c.node next.is.node in node-with g (old.nodes c.node) n is refl refl is.side is.home
+    own = let is = next.kept.nodes c.node next.is.node in node-with g (old.nodes c.node) n is refl refl is.side is.home is.within.side
 
     counted : IsCounted (old.nodes c.node)
     counted = nodes-counted s setup cs old before c.node

@@ -299,4 +299,4 @@ did-desk g given procs n is what incoming s frame (marked from phase tick may) =
 -- so each step of a node
 pub step-desk : (g : Given) (n : NodeState) (what : What) (incoming : Incoming) (dropped : List (ObjectName × ℕ)) (s : Stepped) → IsGiven g → IsNodeOf g n → IsIncoming incoming → step_of g n what incoming dropped ≡ Some s → NodeMove g (ticked n incoming) incoming s
 step-desk g n what incoming dropped s given is frame e =
-    did-desk g given (given-procs g given.programs) (ticked n incoming) (node-with g n (ticked n incoming) is refl refl is.side is.home) what incoming s frame (step_of-did g n what incoming dropped s e)
+    did-desk g given (given-procs g given.programs) (ticked n incoming) (node-with g n (ticked n incoming) is refl refl is.side is.home is.within.side) what incoming s frame (step_of-did g n what incoming dropped s e)

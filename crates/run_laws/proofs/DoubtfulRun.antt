@@ -11,6 +11,7 @@ use Rattle.uid_names.specs.Beginnings.{CanHomeBegin}
 use Rattle.uid_names.specs.declared.opening.Object.{Object}
 use Rattle.uid_names.specs.declared.mode.ObjKind.TheVariants.{File}
 use Rattle.uid_names.proofs.Somes.{map-some}
+use Rattle.uid_names.proofs.Wires.{wire_room-least}
 use Rattle.dom_history.specs.Follows.{Heard}
 use Rattle.dom_history.specs.Plans.{is_set, IsPlan}
 use Rattle.dom_history.specs.Ranges.{IsWant}
@@ -74,6 +75,7 @@ pub setup-is : IsSetup doubtful.setup
 setup-is = record {
   start = start;
   begins = record { homes = λ home. home-begins (2 == home) };
+  wire = record { version = (omega arith, omega arith); rooms = let least = wire_room-least 1 in omega (arith, least) };
   frames = All-cons IsFrames 64 (64 ∷ []) frames (All-cons IsFrames 64 [] frames (All-nil IsFrames));
   all_frames = refl;
   phases_low = omega arith;

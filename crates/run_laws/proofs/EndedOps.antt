@@ -377,4 +377,4 @@ module _ (g : Given) (n : NodeState) (incoming : Incoming) (s : Stepped) (is : I
 -- so at each step of a node
 pub step-ended : (g : Given) (n : NodeState) (what : What) (incoming : Incoming) (dropped : List (ObjectName × ℕ)) (s : Stepped) → IsGiven g → IsNodeOf g n → IsIncoming incoming → step_of g n what incoming dropped ≡ Some s → IsEnded g (ticked n incoming) incoming s.note
 step-ended g n what incoming dropped s given is frame e =
-    node-ended g (ticked n incoming) incoming s (node-with g n (ticked n incoming) is refl refl is.side is.home) (step-desk g n what incoming dropped s given is frame e)
+    node-ended g (ticked n incoming) incoming s (node-with g n (ticked n incoming) is refl refl is.side is.home is.within.side) (step-desk g n what incoming dropped s given is frame e)

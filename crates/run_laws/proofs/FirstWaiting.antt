@@ -23,6 +23,7 @@ use Rattle.node_runs.proofs.Calls.{calls-are}
 use Rattle.node_runs.proofs.Receiving.{EachOf-more, numbered-each}
 use Rattle.node_runs.proofs.SettingUp.{setup-procs}
 use Rattle.node_runs.proofs.EachOf.{EachOf-behind}
+use Rattle.node_runs.proofs.Running.{run-keeps}
 use Rattle.run_laws.proofs.Following.{EachOf-append}
 use Rattle.world_runs.specs.ByPlace.{by_place}
 use Rattle.world_runs.specs.Sendings.{Sending, sendings, frames_in, frames_on}
@@ -125,6 +126,14 @@ module _ (s : Setup) (setup : IsSetup s) (plan : List FateRow) (cs : List ℕ) (
       (numbered-each (IsOnLink merged.world.calls from to) index (merged.world.frames from to) (calls.frames from to))
       (ap (λ (xs : List Message). numbered index xs) (sym (merged.like.frames from to)) ∙ found) in (is.sender, is.receiver)
 
+  -- each frame is of the version of the run
+  of-wire : (from to index : ℕ) (m : Message) → numbered index (w.frames from to) ≡ Some m → m.version ≡ s.wire
+  of-wire from to index m found =
+      let kept = run-keeps s setup (map choice_of (by_place w.done)) merged.world merged.run in
+      if-some (λ (k : Message). k.version ≡ s.wire) (numbered index (merged.world.frames from to)) m
+      (numbered-each (λ (k : Message). k.version ≡ s.wire) index (merged.world.frames from to) (kept.wire from to))
+      (ap (λ (xs : List Message). numbered index xs) (sym (merged.like.frames from to)) ∙ found)
+
   module _ (n : ℕ) (alive : is_ended (given s n) (w.nodes n) ≡ false) where
     pub enable : (what : What) (incoming : Incoming) → incoming_of w n what ≡ Some incoming → may_happen (given s n) (w.nodes n) what incoming ≡ true → is_enabled s w n what ≡ true
     enable what incoming comes may =
@@ -136,8 +145,10 @@ module _ (s : Setup) (setup : IsSetup s) (plan : List FateRow) (cs : List ℕ) (
         let high = is.1 in
         let found = numbered-there index (w.frames from n) is.0 (omega (arith, long, high)) in
         let on = on-link from n index found.0 found.1 in
+        let m = found.0 in
         enable (Take from index) (Incoming.Frame found.0) (ap taken found.1)
-        (and_from (found.0.from == from) (found.0.to == n) (eq-eqb found.0.from from on.0) (eq-eqb found.0.to n on.1))
+        (and_from ((m.from == from) && (m.to == n)) (m.version == s.wire) (and_from (m.from == from) (m.to == n) (eq-eqb m.from from on.0) (eq-eqb m.to n on.1))
+        (eq-eqb m.version s.wire (of-wire from n index m found.1)))
 
     mark-enabled : (from k : ℕ) (rest : List Entry) → waiting plan from n w.done ≡ Entry.Mark k ∷ rest → is_enabled s w n (Mark from k) ≡ true
     mark-enabled from k rest first =

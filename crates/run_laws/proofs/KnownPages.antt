@@ -1,27 +1,23 @@
 -- In every run each resident page is one of its object's.
-use Rattle.std.proofs.Common.{◌≡◌, ℕ, ◌+◌, ◌*◌, ◌≤◌, ◌<◌, Bool, true, false, List, [], ◌∷◌, length, Option, Some, None, IfSome, inl, inr, sym, ap, subst, ◌∙◌, arith}
-use Rattle.std.specs.Prelude.{◌/◌, not, filter, find, if◌then◌else◌}
+use Rattle.std.proofs.Common.{◌≡◌, ℕ, ◌+◌, ◌*◌, ◌≤◌, ◌<◌, false, List, length, Option, Some, None, IfSome, inl, inr, sym, ap, subst, ◌∙◌, arith}
+use Rattle.std.specs.Prelude.{◌/◌}
 use Rattle.std.proofs.lemmas.Bool.{cases_eq}
 use Rattle.uid_names.specs.Names.{ObjectName}
 use Rattle.uid_names.specs.declared.limits.TheConstants.{PAGE_BYTES}
 use Rattle.object_store.specs.HomeStates.{HomeState}
-use Rattle.page_cache.specs.Caches.{Resident, is_of, is_page, page_at}
-use Rattle.page_cache.specs.Changes.{without_page, with_front, used, changed_if}
+use Rattle.page_cache.specs.Caches.{Resident}
 use Rattle.fault_handler.specs.declared.lengths.Known.{Known}
 use Rattle.fault_handler.specs.declared.tasks.Work.{Work}
 use Rattle.fault_handler.specs.declared.tasks.Work.TheVariants.{Load, Store}
 use Rattle.fault_handler.specs.declared.tasks.Task.{Task}
-use Rattle.fault_handler.specs.declared.transits.Transit.{Transit}
-use Rattle.fault_handler.specs.ShownPages.{changed_page, written, as_sent, settled}
-use Rattle.fault_handler.specs.Changes.{settled_by}
 use Rattle.fault_handler.specs.Lengths.{known_of}
 use Rattle.fault_handler.specs.Tasks.{page_of, size_of, IsTask}
 use Rattle.fault_handler.specs.Desks.{DeskState, task_of, moving_of}
-use Rattle.fault_handler.specs.Outcomes.{Turn}
 use Rattle.fault_handler.specs.PageReplies.{PageAnswer}
 use Rattle.fault_handler.specs.Invariant.{IsProc}
 use Rattle.lock_validate.specs.Causes.{Cause, MayCome}
-use Rattle.lock_validate.specs.DeskMoves.{Change, DeskMoves}
+use Rattle.lock_validate.proofs.PageSaid.{open_task_of, answer-task}
+use Rattle.lock_validate.proofs.EachPage.{moves-pages}
 use Rattle.node_runs.specs.Setups.{Setup, IsSetup, given}
 use Rattle.node_runs.specs.NodeStates.{NodeState}
 use Rattle.node_runs.specs.NodesKeep.{IsTimely}
@@ -34,7 +30,7 @@ use Rattle.node_runs.proofs.SettingUp.{setup-procs}
 use Rattle.run_laws.proofs.HearingRuns.{IsKeptNext, every-kept-run, event, event-home}
 use Rattle.run_laws.specs.DeskSteps.{apart as desk_apart, moves, NodeMove, still, moved}
 use Rattle.run_laws.specs.OpenTasks.{IsWithin, IsTaskWithin}
-use Rattle.run_laws.proofs.OpenTasks.{open_task_of, answer-task, runs-within}
+use Rattle.run_laws.proofs.OpenTasks.{runs-within}
 use Rattle.run_laws.proofs.EventMoves.{desk-moves}
 use Rattle.run_laws.specs.ToldRooms.{IsRoomOf}
 use Rattle.run_laws.specs.KnownRooms.{IsKnownRight, IsPageOf, ArePagesRight}
@@ -58,65 +54,6 @@ task-page home task (Some k) range within right = by task.work within range.some
     by : (work : Work) → IsWithin (Some k) task.offset work → 1 ≤ size_of work → IsPageOf home task.uid (page_of task)
     by (Load count) within some = let high = right.within in (k.room, is, page-below task.offset count k.room some (omega (arith, within, high)))
     by (Store bytes) within some = (k.room, is, page-below task.offset (length bytes) k.room some within)
-
--- what holds of the name of each resident page
-module _ (Q : ObjectName → ℕ → Type 0) where
-  abbrev Of : Resident → Type 0
-  Of r = Q r.uid r.page
-
-  each-filter : (keep : Resident → Bool) (pages : List Resident) → EachOf Of pages → EachOf Of (filter keep pages)
-  each-filter keep [] each = tt
-  each-filter keep (r ∷ pages) each = by (keep r) (each-filter keep pages each.1)
-    where
-      by : (b : Bool) → EachOf Of (filter keep pages) → EachOf Of (if b then r ∷ filter keep pages else filter keep pages)
-      by true rest = (each.0, rest)
-      by false rest = rest
-
-  pub each-find : (test : Resident → Bool) (pages : List Resident) → EachOf Of pages → IfSome (find test pages) Of
-  each-find test [] each = tt
-  each-find test (r ∷ pages) each = by (test r) (each-find test pages each.1)
-    where
-      by : (b : Bool) → IfSome (find test pages) Of → IfSome (if b then Some r else find test pages) Of
-      by true rest = each.0
-      by false rest = rest
-
-  each-front : (o : Option Resident) (pages : List Resident) → IfSome o Of → EachOf Of pages → EachOf Of (with_front o pages)
-  each-front None pages is each = each
-  each-front (Some r) pages is each = (is, each)
-
-  each-used : (pages : List Resident) (u : ObjectName) (k : ℕ) → EachOf Of pages → EachOf Of (used pages u k)
-  each-used pages u k each = each-front (page_at pages u k) (without_page pages u k) (each-find (is_page u k) pages each) (each-filter (λ r. not (is_page u k r)) pages each)
-
-  each-changed : (change : Resident → Resident) → ((r : Resident) → Of r → Of (change r)) → (u : ObjectName) (k : ℕ) (pages : List Resident) → EachOf Of pages → EachOf Of (changed_page u k change pages)
-  each-changed change names u k [] each = tt
-  each-changed change names u k (r ∷ pages) each = (by (is_page u k r), each-changed change names u k pages each.1)
-    where
-      by : (b : Bool) → Of (changed_if b change r)
-      by true = names r each.0
-      by false = each.0
-
-  each-settled : (o : Option Transit) (taken : Bool) (pages : List Resident) → EachOf Of pages → EachOf Of (settled_by o taken pages)
-  each-settled None taken pages each = each
-  each-settled (Some t) taken pages each = each-changed (settled taken) (λ r is. is) t.uid t.page pages each
-
-  module _ (c : Cause) (turn : Turn) (p : ℕ) (comes : (d : DeskState) (task : Task) (stamp : ℕ) (bytes : List ℕ) → c ≡ Cause.PageCame (PageAnswer.Came task stamp bytes) → IsTask task → Q task.uid (page_of task)) where
-    change-pages : (d e : DeskState) (dropped : List (ObjectName × ℕ)) → Change c turn p d e dropped → EachOf Of d.cache.pages → EachOf Of e.cache.pages
-    change-pages d e dropped (Change.uses task count r does work there ends) each = each-used d.cache.pages task.uid (page_of task) each
-    change-pages d e dropped (Change.stores task bytes r does work there ends) each = each-changed (written _ bytes) (λ r is. is) task.uid (page_of task) (used d.cache.pages task.uid (page_of task)) (each-used d.cache.pages task.uid (page_of task) each)
-    change-pages d e dropped (Change.drops task u k does missing full may asks) each = each-filter (λ r. not (is_page u k r)) d.cache.pages each
-    change-pages d e dropped (Change.evicts task r does missing full clean there dirty calm asks) each = each-changed as_sent (λ r is. is) r.uid r.page d.cache.pages each
-    change-pages d e dropped (Change.arrives task stamp bytes reply given fetches seen whole ends) each = (comes d task stamp bytes given fetches.allowed.range, each)
-    change-pages d e dropped (Change.settles_room task r taken given room) each = each-changed (settled taken) (λ r is. is) r.uid r.page d.cache.pages each
-    change-pages d e dropped (Change.sends_again task r stamp given room asks) each = each-changed as_sent (λ r is. is) r.uid r.page d.cache.pages each
-    change-pages d e dropped (Change.sends delete u k r releasing calm found there dirty asks) each = each-changed as_sent (λ r is. is) u k d.cache.pages each
-    change-pages d e dropped (Change.page_settles u k r taken given closed sends writes keeping) each = each-settled (moving_of d p) taken d.cache.pages each
-    change-pages d e dropped (Change.drops_all u a given object may none) each = each-filter (λ r. not (is_of u r)) d.cache.pages each
-    change-pages d e dropped change each = each
-
-    pub moves-pages : (d e : DeskState) (dropped : List (ObjectName × ℕ)) → DeskMoves c turn p d e dropped → EachOf Of d.cache.pages → EachOf Of e.cache.pages
-    moves-pages d e dropped DeskMoves.none each = each
-    moves-pages d e dropped (DeskMoves.next {e = f} before change) each = change-pages f e [] change (moves-pages d f dropped before each)
-    moves-pages d e dropped (DeskMoves.dropping {e = f} before change) each = change-pages f e dropped change (moves-pages d f [] before each)
 
 module _ (s : Setup) (setup : IsSetup s) (cs : List Choice) (old : World) (e : world_after s cs ≡ Some old) (timely : IsTimely old) (c : Choice) (new : World) (next : IsKeptNext s old c new) (right : ArePagesRight s old) where
   open event s old c new next use {n, after}

@@ -283,7 +283,7 @@ module _ (g : Given) (n : NodeState) (incoming : Incoming) (s : Stepped) (is : I
 -- each step keeps it
 pub step-carries : (g : Given) (n : NodeState) (what : What) (incoming : Incoming) (dropped : List (ObjectName × ℕ)) (s : Stepped) → IsGiven g → IsNodeOf g n → IsIncoming incoming → AreCarried n → step_of g n what incoming dropped ≡ Some s → AreCarried s.node
 step-carries g n what incoming dropped s given is frame carried e =
-    let at : IsNodeOf g (ticked n incoming) = node-with g n (ticked n incoming) is refl refl is.side is.home in
+    let at : IsNodeOf g (ticked n incoming) = node-with g n (ticked n incoming) is refl refl is.side is.home is.within.side in
     node-carries g (ticked n incoming) incoming s at (step_of-keeps g n what incoming dropped s given is frame e).node carried (step-desk g n what incoming dropped s given is frame e)
 
 pub first-carries : (g : Given) → AreCarried (first_node g)

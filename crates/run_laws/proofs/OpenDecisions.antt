@@ -31,7 +31,8 @@ use Rattle.run_laws.specs.OpenTasks.{IsTaskWithin}
 use Rattle.run_laws.proofs.OpenTasks.{runs-within}
 use Rattle.run_laws.specs.KnownRooms.{IsKnownRight, IsPageOf}
 use Rattle.run_laws.proofs.KnownRooms.{known-are}
-use Rattle.run_laws.proofs.KnownPages.{task-page, each-find, pages-are}
+use Rattle.lock_validate.proofs.EachPage.{each-find}
+use Rattle.run_laws.proofs.KnownPages.{task-page, pages-are}
 use Rattle.lock_manager.specs.declared.grants.Grant.{Grant}
 use Rattle.lock_manager.specs.Grants.{grant_of, held_in}
 use Rattle.call_once.specs.Calls.{last_of}

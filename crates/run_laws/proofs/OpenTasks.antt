@@ -7,19 +7,17 @@ use Rattle.uid_names.specs.Names.{ObjectName}
 use Rattle.uid_names.specs.declared.limits.TheConstants.{PAGE_BYTES}
 use Rattle.dom_history.specs.declared.event.What.{What}
 use Rattle.dom_history.specs.Objects.{is_node}
-use Rattle.page_cache.specs.Caches.{Resident, page_at}
 use Rattle.ring_messages.specs.Bodies.{Ask, Answer}
 use Rattle.fault_handler.specs.declared.lengths.Known.{Known}
 use Rattle.fault_handler.specs.declared.tasks.Work.{Work}
 use Rattle.fault_handler.specs.declared.tasks.Work.TheVariants.{Load, Store}
 use Rattle.fault_handler.specs.declared.tasks.Task.{Task}
-use Rattle.fault_handler.specs.declared.transits.Transit.{Transit}
 use Rattle.fault_handler.specs.Entries.{keeps}
 use Rattle.fault_handler.specs.Lengths.{known_of, length_of, room_of}
 use Rattle.fault_handler.specs.Desks.{DeskState, entry_at, open_call_of, task_of, moving_of, any_keeps}
 use Rattle.fault_handler.specs.Outcomes.{Turn, Moved}
 use Rattle.fault_handler.specs.Accesses.{DeskOp}
-use Rattle.fault_handler.specs.PageReplies.{PageAnswer, answer_inward, answer_outward, answer_by, answer_with, page_answer}
+use Rattle.fault_handler.specs.PageReplies.{PageAnswer, page_answer}
 use Rattle.fault_handler.specs.LockCalls.{LockCall, open_call}
 use Rattle.fault_handler.specs.Invariant.{IsProc, is_access, IsDesk}
 use Rattle.fault_handler.specs.Conditions.{IsIdle}
@@ -32,6 +30,7 @@ use Rattle.lock_validate.specs.Turns.{Says}
 use Rattle.lock_validate.specs.DeskMoves.{Change, DeskMoves}
 use Rattle.lock_validate.proofs.Beside.{moves-beside}
 use Rattle.lock_validate.proofs.DeskStays.{moves-desk}
+pub use Rattle.lock_validate.proofs.PageSaid.{open_task_of, answer-task}
 use Rattle.node_runs.specs.Setups.{Setup, IsSetup, Given, IsGiven, given}
 use Rattle.node_runs.specs.NodeStates.{Await, BegunOp, OpenOp, NodeState, first_node, proc_of}
 use Rattle.node_runs.specs.Incomings.{Incoming}
@@ -126,31 +125,6 @@ lock-access (LockCall.AttrOut u n delete) = refl
 lock-access (LockCall.Unlock u) = refl
 lock-access (LockCall.Remove u) = refl
 
--- the load or store that an answer is to is the open one
-abbrev pub open_task_of : PageAnswer → Task
-open_task_of (PageAnswer.Came task stamp bytes) = task
-open_task_of (PageAnswer.Taken task r stamp) = task
-open_task_of (PageAnswer.NotTaken task r stamp) = task
-
-pub answer-task : (pages : List Resident) (o : Option Task) (t : Option Transit) (x : Answer) (a : PageAnswer) → answer_with pages o t x ≡ Some a → o ≡ Some (open_task_of a)
-answer-task pages None t x a e = absurd (cc)
-answer-task pages (Some task) None x a e = absurd (cc)
-answer-task pages (Some task) (Some t) x a e = by t.inward e
-  where
-    outward : (r : Option Resident) (x : Answer) → answer_outward task r x ≡ Some a → Some task ≡ Some (open_task_of a)
-    outward None x e = absurd (cc)
-    outward (Some r) (Answer.Stored stamp) e = ap (λ b. Some (open_task_of b)) (same_Some (PageAnswer.Taken task r stamp) a e)
-    outward (Some r) (Answer.Stale stamp) e = ap (λ b. Some (open_task_of b)) (same_Some (PageAnswer.NotTaken task r stamp) a e)
-    outward (Some r) x e = absurd (cc)
-
-    inward : (x : Answer) → answer_inward task x ≡ Some a → Some task ≡ Some (open_task_of a)
-    inward (Answer.Page stamp bytes) e = ap (λ b. Some (open_task_of b)) (same_Some (PageAnswer.Came task stamp bytes) a e)
-    inward x e = absurd (cc)
-
-    by : (b : Bool) → answer_by pages task t b x ≡ Some a → Some task ≡ Some (open_task_of a)
-    by true e = inward x e
-    by false e = outward (page_at pages t.uid t.page) x e
-
 module _ (d e : DeskState) (p : ℕ) (proc : IsProc p) (desk : IsDesk e) (was : IfSome (task_of d p) (IsTaskWithin d.known)) where
   came-within : (a : PageAnswer) (x : Answer) → page_answer d p x ≡ Some a → IsTaskWithin d.known (open_task_of a)
   came-within a x says = subst (λ o. IfSome o (IsTaskWithin d.known)) (answer-task d.cache.pages (task_of d p) (moving_of d p) x a says) was
@@ -233,7 +207,7 @@ module _ (g : Given) (n : NodeState) (incoming : Incoming) (s : Stepped) (is : I
 -- each step keeps it
 pub step-within : (g : Given) (n : NodeState) (what : What) (incoming : Incoming) (dropped : List (ObjectName × ℕ)) (s : Stepped) → IsGiven g → IsNodeOf g n → IsIncoming incoming → AreTasksWithin n.desk → step_of g n what incoming dropped ≡ Some s → AreTasksWithin s.node.desk
 step-within g n what incoming dropped s given is frame within e =
-    node-within g (ticked n incoming) incoming s (node-with g n (ticked n incoming) is refl refl is.side is.home) (step_of-keeps g n what incoming dropped s given is frame e).node within (step-desk g n what incoming dropped s given is frame e)
+    node-within g (ticked n incoming) incoming s (node-with g n (ticked n incoming) is refl refl is.side is.home is.within.side) (step_of-keeps g n what incoming dropped s given is frame e).node within (step-desk g n what incoming dropped s given is frame e)
 
 first-within : (g : Given) → AreTasksWithin (first_node g).desk
 first-within g = by_proc (λ p. IfSome (task_of (first_node g).desk p) (IsTaskWithin (first_node g).desk.known)) tt tt tt tt

@@ -207,7 +207,7 @@ module _ (s : Setup) (setup : IsSetup s) (old : World) (c : Choice) (new : World
   move = desk-moves s setup old c new next
 
   node-now : IsNodeOf g n
-  node-now = let is = next.kept.nodes c.node next.is.node in node-with g (old.nodes c.node) n is refl refl is.side is.home
+  node-now = let is = next.kept.nodes c.node next.is.node in node-with g (old.nodes c.node) n is refl refl is.side is.home is.within.side
 
   split : (r : ProcName) → own r (noted_deeds after.trace) ≡ own r (note_deeds step.note) ++ own r (noted_deeds old.trace)
   split r = filter-append (λ (d : Deed). same_proc d.proc r) (note_deeds step.note) (noted_deeds old.trace)

@@ -276,7 +276,7 @@ module _ (s : Setup) (setup : IsSetup s) (cs : List Choice) (old : World) (e : w
   move = step-desk g (old.nodes c.node) c.what next.is.incoming c.dropped step (setup-gives s setup c.node next.is.node) (next.kept.nodes c.node next.is.node) frame next.is.steps
 
   node-now : IsNodeOf g n
-  node-now = let is = next.kept.nodes c.node next.is.node in node-with g (old.nodes c.node) n is refl refl is.side is.home
+  node-now = let is = next.kept.nodes c.node next.is.node in node-with g (old.nodes c.node) n is refl refl is.side is.home is.within.side
 
   abbrev past : List StoreEffect
   past = noted_past old.trace

@@ -198,7 +198,7 @@ module _ (g : Given) (n : NodeState) (incoming : Incoming) (s : Stepped) (is : I
 -- each step keeps it
 pub step-placed : (g : Given) (n : NodeState) (what : What) (incoming : Incoming) (dropped : List (ObjectName × ℕ)) (s : Stepped) → IsGiven g → IsNodeOf g n → IsIncoming incoming → AreTasksPlaced n → step_of g n what incoming dropped ≡ Some s → AreTasksPlaced s.node
 step-placed g n what incoming dropped s given is frame placed e =
-    node-placed g (ticked n incoming) incoming s (node-with g n (ticked n incoming) is refl refl is.side is.home) (step_of-keeps g n what incoming dropped s given is frame e).node placed (step-desk g n what incoming dropped s given is frame e)
+    node-placed g (ticked n incoming) incoming s (node-with g n (ticked n incoming) is refl refl is.side is.home is.within.side) (step_of-keeps g n what incoming dropped s given is frame e).node placed (step-desk g n what incoming dropped s given is frame e)
 
 first-placed : (g : Given) → AreTasksPlaced (first_node g)
 first-placed g = by_proc (λ p. IsPlacedAt (first_node g).desk p (proc_of (first_node g) p).doing (task_of (first_node g).desk p)) tt tt tt tt

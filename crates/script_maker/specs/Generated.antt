@@ -1,10 +1,10 @@
 -- The script of a seed: eight nodes of four processes, 32 objects, and 25 phases. In each phase each process works on one
 -- object, and no two on the same. Processes, objects and phases are counted from 0 here.
-use Rattle.std.specs.Prelude.{ℕ, zero, suc, ◌+◌, ◌-◌, ◌*◌, ◌/◌, ◌%◌, false, List, [], ◌∷◌, ◌++◌, map, flat_map, codes, decimal}
+use Rattle.std.specs.Prelude.{ℕ, zero, suc, ◌+◌, ◌-◌, ◌*◌, ◌/◌, ◌%◌, None, false, List, [], ◌∷◌, ◌++◌, map, flat_map, codes, decimal}
 use Rattle.std.specs.List.{range_with_len}
 use Rattle.uid_names.specs.Names.{ProcName, ObjectName}
 use Rattle.uid_names.specs.Openings.{Start}
-use Rattle.uid_names.specs.declared.limits.TheConstants.{MAX_ROOM}
+use Rattle.uid_names.specs.Wires.{wire_room}
 use Rattle.uid_names.specs.declared.mode.Mode.TheVariants.{Write}
 use Rattle.uid_names.specs.declared.mode.ObjKind.TheVariants.{File}
 use Rattle.uid_names.specs.declared.opening.Object.{Object}
@@ -34,7 +34,7 @@ abbrev pub generated_object : ℕ → Object
 generated_object i = record { uid = object_uid i; kind = File; room = 4 }
 
 abbrev pub generated_opening : Start
-generated_opening = record { nodes = 8; greatest = MAX_ROOM; objects = map generated_object (range_with_len 0 32) }
+generated_opening = record { nodes = 8; greatest = wire_room 1; objects = map generated_object (range_with_len 0 32) }
 
 -- the four processes of a node follow one another
 abbrev pub process_at : ℕ → ProcName
@@ -114,6 +114,7 @@ generated_commands seed phases = flat_map (rows_in seed) (range_with_len 0 phase
 -- the script of a seed
 abbrev pub generated : ℕ → Content
 generated seed = record {
+  said_wire = None;
   nodes = map generated_node (range_with_len 1 8);
   opening = generated_opening;
   objects = map generated_var (range_with_len 0 32);

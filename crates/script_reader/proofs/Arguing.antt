@@ -1,5 +1,5 @@
 -- Arguments of commands: what the test of their form leaves, and what they give a command.
-use Rattle.std.proofs.Common.{◌≡◌, ◌≤◌, ◌<◌, ◌+◌, ◌-◌, ◌*◌, lit≤, ℕ, zero, suc, Bool, true, false, List, [], ◌∷◌, ◌++◌, length, length-append, map, get_or, drop, drop-cons, add-one, Option, Some, None, refl, ap, sym, subst, ◌∙◌, append_assoc, append-nil, arith, rules}
+use Rattle.std.proofs.Common.{◌≡◌, ◌≤◌, ◌<◌, ◌+◌, ◌-◌, ◌*◌, ℕ, zero, suc, Bool, true, false, List, [], ◌∷◌, ◌++◌, length, length-append, map, get_or, drop, drop-cons, add-one, Option, Some, None, refl, ap, sym, subst, ◌∙◌, append_assoc, append-nil, arith, rules}
 use Rattle.std.specs.Prelude.{◌&&◌, ◌↔◌, bytes_eq, nat_le, nat_lt, is_some, unwrap_or, if◌then◌else◌, IfSome, IsTrue, All}
 use Rattle.std.specs.List.{AllByRecursion, list_all, position_or_len, slice_get}
 use Rattle.std.proofs.lemmas.List.Folds.{list_all-map}
@@ -12,7 +12,8 @@ use Rattle.std.proofs.Math.Seq.{drop-nil, get_or-append_seam}
 use Rattle.std.proofs.lemmas.Bool.{not-true, and_parts}
 use Rattle.uid_names.specs.Names.{ProcName}
 use Rattle.uid_names.specs.Rooms.{IsRoom}
-use Rattle.uid_names.specs.declared.limits.TheConstants.{MAX_ROOM, PAGE_BYTES, WRITTEN_ROOM}
+use Rattle.uid_names.specs.Wires.{wire_room}
+use Rattle.uid_names.specs.declared.limits.TheConstants.{MAX_LENGTH, MAX_ROOM, PAGE_BYTES}
 use Rattle.uid_names.specs.declared.mode.Mode.{Mode as LockMode}
 use Rattle.dom_text.specs.Numbers.{hex8_of, number_spelled}
 use Rattle.dom_text.specs.Lent.{owned, owned_token}
@@ -24,7 +25,7 @@ use Rattle.script_reader.specs.Commands.{IsAddress, IsArgument, IsCommand, IsCou
 use Rattle.script_reader.specs.NodeNames.{is_node_name, node_number}
 use Rattle.script_reader.specs.Forms.{absent, argument_form, arguments_form, in_front, mode_argument, text_argument, word_argument}
 use Rattle.script_reader.specs.NamesAsked.{has_name}
-use Rattle.script_reader.specs.Numbers.{has_number}
+use Rattle.script_reader.specs.Numbers.{has_to, has_number}
 use Rattle.script_reader.specs.SpelledNumbers.{room_spelled, offset_spelled, count_spelled, address_spelled, within}
 use Rattle.script_reader.specs.Repeats.{is_fresh}
 use Rattle.script_reader.specs.SaidCommands.{argument_at, bytes_of, command_said, home_of, mode_of, node_of, number_of, pages_of, path_of}
@@ -52,15 +53,11 @@ within_is low high (Some n) = by_test (nat_le low n && nat_le n high) refl where
   by_test true e = let both = and_parts (nat_le low n) (nat_le n high) e in (search (rules, both.0), search (rules, both.1))
   by_test false e = tt
 
--- a room that can be written is one that an object can have, and so is an offset
-written : WRITTEN_ROOM ≤ MAX_ROOM
-written = lit≤ tt
-
 pub room_found : (word : List ℕ) → IfSome (room_spelled word) IsRoom
-room_found word = IfSome_then (room_spelled word) (within_is 1 WRITTEN_ROOM (number_spelled word)) (λ n h. (h.0, omega (arith, h.1, written)))
+room_found word = within_is 1 MAX_ROOM (number_spelled word)
 
 offset_found : (word : List ℕ) → IfSome (offset_spelled word) IsOffset
-offset_found word = IfSome_then (offset_spelled word) (within_is 0 (WRITTEN_ROOM * PAGE_BYTES - 1) (number_spelled word)) (λ n h. omega (arith, h.1, written))
+offset_found word = IfSome_then (offset_spelled word) (within_is 0 (MAX_LENGTH - 1) (number_spelled word)) (λ n h. omega (arith, h.1))
 
 count_found : (word : List ℕ) → IfSome (count_spelled word) IsCount
 count_found word = within_is 1 PAGE_BYTES (number_spelled word)
@@ -287,15 +284,24 @@ pub found_is : (P : ℕ → Type 0) (found : Option ℕ) → IfSome found P → 
 found_is P None h some = absurd cc
 found_is P (Some n) h some = h
 
+-- a number that is there, and not above this one
+pub to_some : (high : ℕ) (found : Option ℕ) → has_to high found ≡ true → is_some found ≡ true
+to_some high None has = absurd cc
+to_some high (Some n) has = refl
+
+pub to_low : (high : ℕ) (found : Option ℕ) → has_to high found ≡ true → unwrap_or found 0 ≤ high
+to_low high None has = absurd cc
+to_low high (Some n) has = search (rules, has)
+
 -- a node that is named is one
 pub node_is : (nodes : List NodeRow) (name : List ℕ) → is_node_name nodes name ≡ true → (1 ≤ node_number nodes name) × (node_number nodes name ≤ length nodes)
 node_is nodes name known =
     subst (λ (b : Bool). IsHome (length nodes) (if b then Some (node_number nodes name) else None)) known (home_is nodes (Some name))
 
 -- a room that may be left out
-pages_are : (found : Option (Option ℕ)) → IsFound (OptionalRoom found) → has_number (OptionalRoom found) ≡ true → IfSome (pages_said found) IsRoom
-pages_are None h number = tt
-pages_are (Some found) h number = found_is IsRoom found h number
+pages_are : (wire : ℕ) (found : Option (Option ℕ)) → IsFound (OptionalRoom found) → has_number wire (OptionalRoom found) ≡ true → IfSome (pages_said found) IsRoom
+pages_are wire None h number = tt
+pages_are wire (Some found) h number = found_is IsRoom found h (to_some (wire_room wire) found number)
 
 -- a path that may be left out
 optional_path_is : (path : Option (List ℕ)) → has_name (OptionalPath path) ≡ true → IfSome path IsPath
@@ -308,33 +314,33 @@ names_node nodes (HomeNode name) = is_node_name nodes name
 names_node nodes _ = true
 
 -- an argument whose number and name are good is in its range
-argument_is : (nodes : List NodeRow) (a : Said) → IsFound a → has_number a ≡ true → has_name a ≡ true → names_node nodes a ≡ true → IsArgument (length nodes) (given nodes a)
-argument_is nodes (Var name) h number named known = name_text name named
-argument_is nodes (NewVar name) h number named known = name_text name named
-argument_is nodes (Room found) h number named known = found_is IsRoom found h number
-argument_is nodes (Offset found) h number named known = found_is IsOffset found h number
-argument_is nodes (Count found) h number named known = found_is IsCount found h number
-argument_is nodes (Address found) h number named known = found_is IsAddress found h number
-argument_is nodes (Text text) h number named known = let both = and_parts (nat_le 1 (length text)) (nat_le (length text) PAGE_BYTES) number in (search (rules, both.0), search (rules, both.1))
-argument_is nodes (Message text) h number named known = let both = and_parts (nat_le 1 (length text)) (nat_le (length text) 120) number in (search (rules, both.0), search (rules, both.1))
-argument_is nodes (Mode mode) h number named known = tt
-argument_is nodes (Home name) h number named known = home_is nodes name
-argument_is nodes (HomeNode name) h number named known = node_is nodes name known
-argument_is nodes (OptionalRoom found) h number named known = pages_are found h number
-argument_is nodes (Path path) h number named known = named
-argument_is nodes (OptionalPath path) h number named known = optional_path_is path named
+argument_is : (wire : ℕ) (nodes : List NodeRow) (a : Said) → IsFound a → has_number wire a ≡ true → has_name a ≡ true → names_node nodes a ≡ true → IsArgument (length nodes) (given nodes a)
+argument_is wire nodes (Var name) h number named known = name_text name named
+argument_is wire nodes (NewVar name) h number named known = name_text name named
+argument_is wire nodes (Room found) h number named known = found_is IsRoom found h (to_some (wire_room wire) found number)
+argument_is wire nodes (Offset found) h number named known = found_is IsOffset found h (to_some (wire_room wire * PAGE_BYTES - 1) found number)
+argument_is wire nodes (Count found) h number named known = found_is IsCount found h number
+argument_is wire nodes (Address found) h number named known = found_is IsAddress found h number
+argument_is wire nodes (Text text) h number named known = let both = and_parts (nat_le 1 (length text)) (nat_le (length text) PAGE_BYTES) number in (search (rules, both.0), search (rules, both.1))
+argument_is wire nodes (Message text) h number named known = let both = and_parts (nat_le 1 (length text)) (nat_le (length text) 120) number in (search (rules, both.0), search (rules, both.1))
+argument_is wire nodes (Mode mode) h number named known = tt
+argument_is wire nodes (Home name) h number named known = home_is nodes name
+argument_is wire nodes (HomeNode name) h number named known = node_is nodes name known
+argument_is wire nodes (OptionalRoom found) h number named known = pages_are wire found h number
+argument_is wire nodes (Path path) h number named known = named
+argument_is wire nodes (OptionalPath path) h number named known = optional_path_is path named
 
-arguments_are : (nodes : List NodeRow) (arguments : List Said) → AllByRecursion IsFound arguments → list_all has_number arguments ≡ true → list_all has_name arguments ≡ true → list_all (names_node nodes) arguments ≡ true → AllByRecursion (IsArgument (length nodes)) (map (given nodes) arguments)
-arguments_are nodes [] h numbers names nodes_known = tt
-arguments_are nodes (a ∷ rest) h numbers names nodes_known =
-    let number = and_parts (has_number a) (list_all has_number rest) numbers in
+arguments_are : (wire : ℕ) (nodes : List NodeRow) (arguments : List Said) → AllByRecursion IsFound arguments → list_all (has_number wire) arguments ≡ true → list_all has_name arguments ≡ true → list_all (names_node nodes) arguments ≡ true → AllByRecursion (IsArgument (length nodes)) (map (given nodes) arguments)
+arguments_are wire nodes [] h numbers names nodes_known = tt
+arguments_are wire nodes (a ∷ rest) h numbers names nodes_known =
+    let number = and_parts (has_number wire a) (list_all (has_number wire) rest) numbers in
     let name = and_parts (has_name a) (list_all has_name rest) names in
     let known = and_parts (names_node nodes a) (list_all (names_node nodes) rest) nodes_known in
-    (argument_is nodes a h.0 number.0 name.0 known.0, arguments_are nodes rest h.1 number.1 name.1 known.1)
+    (argument_is wire nodes a h.0 number.0 name.0 known.0, arguments_are wire nodes rest h.1 number.1 name.1 known.1)
 
-pub command_is : (nodes : List NodeRow) (v : Verb) (arguments : List Said) → AreFormed (shape_of v) arguments → list_all has_number arguments ≡ true → list_all has_name arguments ≡ true → list_all (names_node nodes) arguments ≡ true → IsCommand (length nodes) (command_said nodes v arguments)
-command_is nodes v arguments h numbers names known =
-    subst (AllByRecursion (IsArgument (length nodes))) (sym (arguments-given nodes v arguments h.kinds_are)) (arguments_are nodes arguments h.found numbers names known)
+pub command_is : (wire : ℕ) (nodes : List NodeRow) (v : Verb) (arguments : List Said) → AreFormed (shape_of v) arguments → list_all (has_number wire) arguments ≡ true → list_all has_name arguments ≡ true → list_all (names_node nodes) arguments ≡ true → IsCommand (length nodes) (command_said nodes v arguments)
+command_is wire nodes v arguments h numbers names known =
+    subst (AllByRecursion (IsArgument (length nodes))) (sym (arguments-given nodes v arguments h.kinds_are)) (arguments_are wire nodes arguments h.found numbers names known)
 
 -- a process that knows what arguments speak of knows their nodes
 node_known : (s : Content) (proc : ProcName) (a : Said) → is_known s proc a ≡ true → names_node s.nodes a ≡ true

@@ -13,7 +13,7 @@ use Rattle.uid_names.specs.Names.{ProcName, ObjectName, place_of_process, same_p
 use Rattle.uid_names.proofs.Orders.{same_proc_is, same_proc-itself, proc_by_parts}
 use Rattle.uid_names.specs.Openings.{IsDeclarable}
 use Rattle.uid_names.specs.declared.opening.Object.{Object}
-use Rattle.uid_names.specs.declared.limits.TheConstants.{ENTRY_ROOM, MAX_NODES, MAX_ROOM, VOLUME_ROOM}
+use Rattle.uid_names.specs.declared.limits.TheConstants.{ENTRY_ROOM, MAX_NODES, VOLUME_ROOM}
 use Rattle.uid_names.specs.declared.mode.ObjKind.TheVariants.{File}
 use Rattle.uid_names.specs.Beginnings.{at_home, AreNumbered}
 use Rattle.script_reader.specs.Walk.Drafts.{HoldsTallies}
@@ -113,10 +113,10 @@ other_uid u m home h = by_home (u.home == home) refl where
   by_home false e = and-false (u.counter == m)
 
 -- an object more
-pub AreStarts-push : (nodes : ℕ) (starts : List Object) (home room : ℕ) → AreStarts nodes starts → home ≤ nodes → 1 ≤ room → room ≤ MAX_ROOM → pages_at home starts + room ≤ VOLUME_ROOM → AreStarts nodes (starts ++ record { uid = next_uid starts home; kind = File; room = room } ∷ [])
-AreStarts-push nodes starts home room h at low high fits =
+pub AreStarts-push : (nodes greatest : ℕ) (starts : List Object) (home room : ℕ) → AreStarts nodes greatest starts → home ≤ nodes → 1 ≤ room → room ≤ greatest → pages_at home starts + room ≤ VOLUME_ROOM → AreStarts nodes greatest (starts ++ record { uid = next_uid starts home; kind = File; room = room } ∷ [])
+AreStarts-push nodes greatest starts home room h at low high fits =
     let object : Object = record { uid = next_uid starts home; kind = File; room = room } in record {
-      declarable = All-push (IsDeclarable nodes MAX_ROOM) starts object h.declarable (record { counter = omega arith; home = at; room_low = low; room_high = high });
+      declarable = All-push (IsDeclarable nodes greatest) starts object h.declarable (record { counter = omega arith; home = at; room_low = low; room_high = high });
       apart = all_pairs_push (λ a b. same_uid a.uid b.uid ≡ false) starts object h.apart (λ k d lt. other_uid (get_or starts k d).uid (length (at_home home starts) + 2) home (below home 2 starts (h.counters home) k d lt));
       counters = λ other. rw (home-push other starts object) (numbered other (home == other) refl);
       volume = λ other. rw (pages-push other starts object) (paged other (home == other) refl);
@@ -131,10 +131,10 @@ AreStarts-push nodes starts home room h at low high fits =
       paged other true e = subst (λ x. pages_at x starts + room ≤ VOLUME_ROOM) (eqb-true home other e) fits
       paged other false e = h.volume other
 
--- a node more
-pub AreStarts-wider : (m n : ℕ) (starts : List Object) → m ≤ n → AreStarts m starts → AreStarts n starts
-AreStarts-wider m n starts le h = record {
-  declarable = All-weaker (IsDeclarable m MAX_ROOM) (IsDeclarable n MAX_ROOM) (λ o is. record { counter = is.counter; home = omega (arith, is.home, le); room_low = is.room_low; room_high = is.room_high }) starts h.declarable;
+-- more nodes, or a greater room
+pub AreStarts-wider : (m n low high : ℕ) (starts : List Object) → m ≤ n → low ≤ high → AreStarts m low starts → AreStarts n high starts
+AreStarts-wider m n low high starts le rooms h = record {
+  declarable = All-weaker (IsDeclarable m low) (IsDeclarable n high) (λ o is. record { counter = is.counter; home = omega (arith, is.home, le); room_low = is.room_low; room_high = omega (arith, is.room_high, rooms) }) starts h.declarable;
   apart = h.apart;
   counters = h.counters;
   volume = h.volume;
@@ -190,11 +190,11 @@ one_more_small x xs low few =
     omega (arith, sum, low, few)
 
 -- what a home's objects number is bounded by what they take
-pub few_objects : (n : ℕ) (starts : List Object) (home : ℕ) → All (IsDeclarable n MAX_ROOM) starts → length (at_home home starts) ≤ sum_by (λ o. o.room) (at_home home starts)
-few_objects n [] home h = omega arith
-few_objects n (x ∷ starts) home h =
-    let first = All-head (IsDeclarable n MAX_ROOM) x starts h in
-    let rest = few_objects n starts home (All-tail (IsDeclarable n MAX_ROOM) x starts h) in
+pub few_objects : (n greatest : ℕ) (starts : List Object) (home : ℕ) → All (IsDeclarable n greatest) starts → length (at_home home starts) ≤ sum_by (λ o. o.room) (at_home home starts)
+few_objects n greatest [] home h = omega arith
+few_objects n greatest (x ∷ starts) home h =
+    let first = All-head (IsDeclarable n greatest) x starts h in
+    let rest = few_objects n greatest starts home (All-tail (IsDeclarable n greatest) x starts h) in
     elim (x.uid.home == home) as (λ t. length (if t then x ∷ at_home home starts else at_home home starts) ≤ sum_by (λ o. o.room) (if t then x ∷ at_home home starts else at_home home starts)) [
       | true ↦ one_more_small x (at_home home starts) first.room_low rest
       | false ↦ rest

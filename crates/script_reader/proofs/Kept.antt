@@ -1,6 +1,6 @@
 -- Each kind of line leaves a draft.
-use Rattle.std.proofs.Common.{◌≡◌, ◌≢◌, ◌≤◌, ◌<◌, ◌+◌, ℕ, zero, suc, Bool, true, false, List, [], ◌∷◌, ◌++◌, length, get_or, Some, None, refl, ap, sym, subst, ◌∙◌, append-nil, append_assoc, arith, rules}
-use Rattle.std.specs.Prelude.{nat_le, nat_lt, is_some, if◌then◌else◌}
+use Rattle.std.proofs.Common.{◌≡◌, ◌≢◌, ◌≤◌, ◌<◌, ◌+◌, ℕ, zero, suc, Bool, true, false, List, [], ◌∷◌, ◌++◌, length, get_or, Option, Some, None, refl, ap, sym, subst, ◌∙◌, append-nil, append_assoc, arith, rules}
+use Rattle.std.specs.Prelude.{nat_le, nat_lt, is_some, unwrap_or, IfSome, if◌then◌else◌}
 use Rattle.std.specs.Prelude.{bytes_eq}
 use Rattle.std.specs.List.{AllByRecursion, list_all, list_any, position_or_len}
 use Rattle.std.proofs.lemmas.Bool.{false≢true}
@@ -9,19 +9,20 @@ use Rattle.std.proofs.lemmas.List.Elements.{All-push, All-weaker}
 use Rattle.std.proofs.lemmas.List.Quantifiers.{all_pairs_push}
 use Rattle.std.proofs.lemmas.List.Sums.{AllPass-from_list_all}
 use Rattle.uid_names.specs.Names.{ProcName, IsName, same_proc}
+use Rattle.uid_names.specs.Wires.{IsWire, wire_room}
 use Rattle.uid_names.specs.declared.limits.TheConstants.{MAX_NODES, MAX_PHASES}
 use Rattle.uid_names.specs.NameTexts.{IsNameText, is_name_byte}
 use Rattle.uid_names.proofs.ListLemmas.{length-push}
 use Rattle.dom_history.specs.Plans.{IsPlan}
 use Rattle.dom_history.specs.declared.plan.FateRow.{FateRow}
-use Rattle.script_reader.specs.Scripts.{Content, IsDraft, IsNode, IsObject}
+use Rattle.script_reader.specs.Scripts.{Content, wire_of, IsDraft, IsNode, IsObject}
 use Rattle.script_reader.specs.Fates.{IsFateRow}
 use Rattle.dom_history.specs.Ranges.{IsProcName}
 use Rattle.script_reader.specs.Arguments.{Given, Var, NewVar, Room, Offset, Count, Address, Text, Message, Mode, Home, HomeNode, OptionalRoom, Path, OptionalPath}
 use Rattle.script_reader.specs.Commands.{IsArgument, IsCommandRow, IsCommand, arguments_of}
 use Rattle.script_reader.specs.Variables.{IsSpoken, AreSpoken, is_declared}
 use Rattle.script_reader.specs.NodeNames.{is_node_name}
-use Rattle.script_reader.specs.After.{declared_at, next_uid, with_access, with_command, with_declared, with_fate, with_node, with_subject}
+use Rattle.script_reader.specs.After.{declared_at, next_uid, with_access, with_command, with_declared, with_fate, with_node, with_wire, with_subject}
 use Rattle.script_reader.specs.Subjects.{IsSubjectRow, has_subject}
 use Rattle.script_reader.specs.Words.{is_name}
 use Rattle.script_reader.specs.declared.command.Command.{Command}
@@ -99,6 +100,7 @@ pub IsDraft-node : (s : Content) (name : List ℕ) (frames : ℕ) → IsDraft s 
 IsDraft-node s name frames h named few many new room =
     let more = length-push s.nodes (record { name = name; frames = frames }) in
     let wide : length s.nodes ≤ length (s.nodes ++ record { name = name; frames = frames } ∷ []) = omega (arith, more) in record {
+      wire = h.wire;
       few_nodes = omega (arith, more);
       nodes = All-push IsNode s.nodes (record { name = name; frames = frames }) h.nodes (record { name = name_text name named; few = few; many = many });
       names_apart = all_pairs_push (λ a b. a.name ≢ b.name) s.nodes (record { name = name; frames = frames }) h.names_apart (new_name s.nodes name new);
@@ -120,9 +122,47 @@ IsDraft-node s name frames h named few many new room =
       spoken = h.spoken;
     }
 
+-- the version of a draft is one
+said-wire : (o : Option ℕ) → IfSome o IsWire → IsWire (unwrap_or o 1)
+said-wire None is = (omega arith, omega arith)
+said-wire (Some wire) is = is
+
+pub IsWire-of : (s : Content) → IsDraft s → IsWire (wire_of s)
+IsWire-of s is = said-wire s.said_wire is.wire
+
+-- and can write the greatest room
+pub written-of : (s : Content) → IsDraft s → s.opening.greatest ≤ wire_room (wire_of s)
+written-of s is = let greatest = is.greatest in omega (arith, greatest)
+
+-- a version, where none was said
+pub IsDraft-wire : (s : Content) (wire : ℕ) → IsDraft s → IsWire wire → IsDraft (with_wire s wire)
+IsDraft-wire s wire h is = record {
+  wire = is;
+  few_nodes = h.few_nodes;
+  nodes = h.nodes;
+  names_apart = h.names_apart;
+  opening_nodes = h.opening_nodes;
+  greatest = refl;
+  files = h.files;
+  vars = h.vars;
+  vars_apart = h.vars_apart;
+  vars_of = h.vars_of;
+  plan = h.plan;
+  fates = h.fates;
+  subjects = h.subjects;
+  subjects_apart = h.subjects_apart;
+  phase_low = h.phase_low;
+  phase_high = h.phase_high;
+  few_commands = h.few_commands;
+  commands = h.commands;
+  in_order = h.in_order;
+  spoken = h.spoken;
+}
+
 -- a phase more
 pub IsDraft-phase : (s : Content) → IsDraft s → s.phases < MAX_PHASES → IsDraft (record s { phases = s.phases + 1 })
 IsDraft-phase s h room = record {
+  wire = h.wire;
   few_nodes = h.few_nodes;
   nodes = h.nodes;
   names_apart = h.names_apart;
@@ -148,6 +188,7 @@ IsDraft-phase s h room = record {
 pub IsDraft-object : (s : Content) (var : List ℕ) (home room : ℕ) → IsDraft s → is_name var ≡ true → IsName (next_uid s.opening.objects home) → home ≤ length s.nodes → is_declared s.objects var ≡ false → s.commands ≡ [] → IsDraft (with_declared s var (declared_at s home room))
 IsDraft-object s var home room h named is at new none =
     let object = declared_at s home room in record {
+      wire = h.wire;
       few_nodes = h.few_nodes;
       nodes = h.nodes;
       names_apart = h.names_apart;
@@ -172,6 +213,7 @@ IsDraft-object s var home room h named is at new none =
 -- a fate more
 pub IsDraft-fate : (s : Content) (row : FateRow) → IsDraft s → IsPlan (s.plan ++ row ∷ []) → IsFateRow (length s.nodes) row → IsDraft (with_fate s row.from row.to row.index row.fate)
 IsDraft-fate s row h plan is = record {
+  wire = h.wire;
   few_nodes = h.few_nodes;
   nodes = h.nodes;
   names_apart = h.names_apart;
@@ -196,6 +238,7 @@ IsDraft-fate s row h plan is = record {
 -- access lists in force
 pub IsDraft-access : (s : Content) → IsDraft s → IsDraft (with_access s)
 IsDraft-access s h = record {
+  wire = h.wire;
   few_nodes = h.few_nodes;
   nodes = h.nodes;
   names_apart = h.names_apart;
@@ -220,6 +263,7 @@ IsDraft-access s h = record {
 -- the subject of a process more
 pub IsDraft-subject : (s : Content) (row : SubjectRow) → IsDraft s → IsSubjectRow (length s.nodes) row → has_subject s.subjects row.proc ≡ false → IsDraft (with_subject s row.proc row.person row.project)
 IsDraft-subject s row h is new = record {
+  wire = h.wire;
   few_nodes = h.few_nodes;
   nodes = h.nodes;
   names_apart = h.names_apart;
@@ -250,6 +294,7 @@ pub IsDraft-command : (s : Content) (proc : ProcName) (command : Command) → Is
 IsDraft-command s proc command h is node range spoken room =
     let row : CommandRow = record { proc = proc; phase = s.phases; command = command } in
     let more = length-push s.commands row in record {
+      wire = h.wire;
       few_nodes = h.few_nodes;
       nodes = h.nodes;
       names_apart = h.names_apart;

@@ -10,7 +10,7 @@ use Rattle.dom_text.specs.Cuts.{Lacks}
 use Rattle.script_reader.specs.Grammar.{AreGood, IsFirstBad, before_lines, raw_lines, without_cr}
 use Rattle.script_reader.specs.Walk.Formed.{HasForm, IsFormed}
 use Rattle.script_reader.specs.Judging.{has_begun, judged, judged_process, judged_tokens}
-use Rattle.script_reader.specs.Sayings.{Saying, Node, Object, Fault, Phase, Access, Subject, Does}
+use Rattle.script_reader.specs.Sayings.{Saying, Wire, Node, Object, Fault, Phase, Access, Subject, Does}
 use Rattle.script_reader.specs.Scripts.{Content}
 use Rattle.script_reader.specs.Walk.Seen.{BeginsWithNoWord, seen, seen_line}
 use Rattle.script_reader.specs.Words.{ProcessWord, line_word_of, line_word_text, line_words, verb_of, verb_text, verbs}
@@ -19,7 +19,7 @@ use Rattle.script_reader.specs.declared.cause.Cause.TheVariants.{Word}
 use Rattle.script_reader.specs.declared.line.Line.{Line}
 use Rattle.script_reader.specs.declared.script.CommandRow.{CommandRow}
 use Rattle.script_reader.specs.declared.words.LineWord.{LineWord}
-use Rattle.script_reader.specs.declared.words.LineWord.TheVariants.{Node as NodeWord, Object as ObjectWord, Fault as FaultWord, Phase as PhaseWord, Access as AccessWord, Subject as SubjectWord}
+use Rattle.script_reader.specs.declared.words.LineWord.TheVariants.{Wire as WireWord, Node as NodeWord, Object as ObjectWord, Fault as FaultWord, Phase as PhaseWord, Access as AccessWord, Subject as SubjectWord}
 use Rattle.script_reader.specs.declared.words.Verb.{Verb}
 use Rattle.script_reader.specs.declared.words.Verb.TheVariants.{New as NewVerb, Lock as LockVerb, Unlock as UnlockVerb, Delete as DeleteVerb, Load as LoadVerb, Store as StoreVerb, Length as LengthVerb, Map as MapVerb, Unmap as UnmapVerb, Loadat as LoadatVerb, Storeat as StoreatVerb, Bind as BindVerb, Crf as CrfVerb, Crd as CrdVerb, Crl as CrlVerb, Dlf as DlfVerb, Catf as CatfVerb, Lnf as LnfVerb, Apf as ApfVerb, Cpf as CpfVerb, Crm as CrmVerb, Putm as PutmVerb, Takem as TakemVerb, Ld as LdVerb, Wd as WdVerb, Llkob as LlkobVerb}
 use Rattle.uid_names.proofs.TextTables.{looked_up}
@@ -79,6 +79,7 @@ no_word s (TextToken text ∷ rest) h some = refl
 
 -- a word of the tables is found, and no other
 line_word-again : (w : LineWord) → line_word_of (line_word_text w) ≡ Some w
+line_word-again WireWord = refl
 line_word-again NodeWord = refl
 line_word-again ObjectWord = refl
 line_word-again FaultWord = refl
@@ -140,6 +141,7 @@ no_commands phases (c ∷ commands) h = absurd (false≢true (grind arith))
 
 -- before phases and commands all is in its place
 pub in_place : (s : Content) → has_begun s ≡ false → (said : Saying) → HasForm said → IsFormed s said
+in_place s h (Wire version) form = form
 in_place s h (Node name frames) form = form
 in_place s h (Object var room home) form = (no_commands s.phases s.commands h, form)
 in_place s h (Fault from to index fate) form = form

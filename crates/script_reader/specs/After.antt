@@ -1,19 +1,24 @@
 -- What a good line says: the content behind it.
-use Rattle.std.specs.Prelude.{ℕ, ◌+◌, true, unwrap_or, List, [], ◌∷◌, ◌++◌, length}
+use Rattle.std.specs.Prelude.{ℕ, ◌+◌, true, unwrap_or, Some, List, [], ◌∷◌, ◌++◌, length}
 use Rattle.uid_names.specs.Names.{ProcName, ObjectName}
 use Rattle.uid_names.specs.Openings.{with_object}
+use Rattle.uid_names.specs.Wires.{wire_room}
 use Rattle.uid_names.specs.declared.mode.ObjKind.TheVariants.{File}
 use Rattle.uid_names.specs.declared.opening.Object.{Object as ObjectRecord}
 use Rattle.uid_names.specs.Beginnings.{at_home}
 use Rattle.dom_history.specs.declared.plan.Fate.{Fate}
 use Rattle.dom_history.specs.declared.plan.Fate.TheVariants.{Lose as LoseFate, Twice as TwiceFate, Late as LateFate}
 use Rattle.script_reader.specs.Scripts.{Content}
-use Rattle.script_reader.specs.Sayings.{Saying, Node, Object, Fault, Phase, Access, Subject, Does, SaidFate, Lose, Twice, Late}
+use Rattle.script_reader.specs.Sayings.{Saying, Wire, Node, Object, Fault, Phase, Access, Subject, Does, SaidFate, Lose, Twice, Late}
 use Rattle.script_reader.specs.declared.command.Command.{Command}
 use Rattle.script_reader.specs.declared.script.NodeRow.{NodeRow}
 use Rattle.script_reader.specs.NodeNames.{node_number}
 use Rattle.script_reader.specs.UnknownNames.{proc_of}
 use Rattle.script_reader.specs.SaidCommands.{command_said}
+
+-- a version, before any object
+abbrev pub with_wire : Content → ℕ → Content
+with_wire s wire = record s { said_wire = Some wire; opening = record s.opening { greatest = wire_room wire } }
 
 abbrev pub with_nodes : Content → List NodeRow → Content
 with_nodes s nodes = record s { nodes = nodes; opening = record s.opening { nodes = length nodes } }
@@ -59,6 +64,7 @@ with_subject s proc person project = record s { subjects = s.subjects ++ record 
 
 -- what is said once this line is
 abbrev pub after : Content → Saying → Content
+after s (Wire version) = with_wire s (unwrap_or version 0)
 after s (Node name frames) = with_node s name (unwrap_or frames 0)
 after s (Object var room home) = with_declared s var (declared_at s (node_number s.nodes home) (unwrap_or room 0))
 after s (Fault from to index fate) = with_fate s (node_number s.nodes from) (node_number s.nodes to) (unwrap_or index 0) (fate_said fate)

@@ -7,12 +7,17 @@ use Rattle.dom_text.specs.declared.token.Token.{Token}
 use Rattle.dom_text.specs.declared.token.Token.TheVariants.{Word, Text as TextToken}
 use Rattle.script_reader.specs.Words.{ProcessWord, mode_of_word}
 use Rattle.script_reader.specs.Arguments.{Said, Var, NewVar, Room, Offset, Count, Address, Text, Message, Mode, Home, HomeNode, OptionalRoom, Path, OptionalPath}
-use Rattle.script_reader.specs.Sayings.{Saying, Node, Object, Fault, Phase, Access, Subject, Does, SaidFate, Lose, Twice, Late}
-use Rattle.script_reader.specs.SpelledNumbers.{frames_spelled, index_spelled, late_spelled, process_spelled, room_spelled, offset_spelled, count_spelled, address_spelled}
+use Rattle.script_reader.specs.Sayings.{Saying, Wire, Node, Object, Fault, Phase, Access, Subject, Does, SaidFate, Lose, Twice, Late}
+use Rattle.script_reader.specs.SpelledNumbers.{wire_spelled, frames_spelled, index_spelled, late_spelled, process_spelled, room_spelled, offset_spelled, count_spelled, address_spelled}
 use Rattle.script_reader.specs.Shapes.{shape_of}
 use Rattle.script_reader.specs.declared.words.Verb.{Verb}
 use Rattle.script_reader.specs.declared.words.Kind.{Kind}
 use Rattle.script_reader.specs.declared.words.Kind.TheVariants as kind
+
+-- behind `wire`
+abbrev pub wire_form : List Token → Option Saying
+wire_form (Word number ∷ []) = Some (Wire (wire_spelled number))
+wire_form _ = None
 
 -- behind `node`
 abbrev pub node_form : List Token → Option Saying

@@ -1,6 +1,7 @@
 -- Which bytes are a script, and which line is the first bad one.
-use Rattle.std.specs.Prelude.{ℕ, ◌≡◌, ◌+◌, ◌<◌, ◌≤◌, ◌==◌, ◌⊎◌, false, if◌then◌else◌, MatchResult, List, [], ◌∷◌, length}
-use Rattle.uid_names.specs.declared.limits.TheConstants.{MAX_ROOM, SCRIPT_BYTES}
+use Rattle.std.specs.Prelude.{ℕ, ◌≡◌, ◌+◌, ◌<◌, ◌≤◌, ◌==◌, ◌⊎◌, false, if◌then◌else◌, MatchResult, None, List, [], ◌∷◌, length}
+use Rattle.uid_names.specs.declared.limits.TheConstants.{SCRIPT_BYTES}
+use Rattle.uid_names.specs.Wires.{wire_room}
 use Rattle.script_reader.specs.Scripts.{Content}
 use Rattle.script_reader.specs.Judging.{judged}
 use Rattle.script_reader.specs.declared.cause.Cause.{Cause}
@@ -24,7 +25,7 @@ without_cr (b ∷ c ∷ line) = b ∷ without_cr (c ∷ line)
 
 -- what is said before the first line
 abbrev pub nothing : Content
-nothing = record { nodes = []; opening = record { nodes = 0; greatest = MAX_ROOM; objects = [] }; objects = []; plan = []; access = false; subjects = []; phases = 1; commands = [] }
+nothing = record { said_wire = None; nodes = []; opening = record { nodes = 0; greatest = wire_room 1; objects = [] }; objects = []; plan = []; access = false; subjects = []; phases = 1; commands = [] }
 
 -- the lines are good, one behind the other, and lead from one content to another
 abbrev pub AreGood : Content → List (List ℕ) → Content → Type 0

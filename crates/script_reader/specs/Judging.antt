@@ -6,14 +6,14 @@ use Rattle.dom_text.specs.declared.token.Token.{Token}
 use Rattle.dom_text.specs.declared.token.Token.TheVariants.{Word as WordToken, Text as TextToken}
 use Rattle.dom_text.specs.declared.line.TextFault.{TextFault}
 use Rattle.dom_text.specs.declared.line.TextFault.TheVariants.{Quote as QuoteFault}
-use Rattle.script_reader.specs.Scripts.{Content}
+use Rattle.script_reader.specs.Scripts.{Content, wire_of}
 use Rattle.script_reader.specs.Words.{ProcessWord, line_word_of, process_word, verb_of}
 use Rattle.script_reader.specs.Sayings.{Saying}
-use Rattle.script_reader.specs.Forms.{node_form, object_form, fault_form, phase_form, access_form, subject_form, command_form}
+use Rattle.script_reader.specs.Forms.{wire_form, node_form, object_form, fault_form, phase_form, access_form, subject_form, command_form}
 use Rattle.script_reader.specs.declared.cause.Cause.{Cause}
 use Rattle.script_reader.specs.declared.cause.Cause.TheVariants.{TooLong, Byte, Quote, Word, Place, Form, Number, Name, Unknown, Repeat, Limit}
 use Rattle.script_reader.specs.declared.words.LineWord.{LineWord}
-use Rattle.script_reader.specs.declared.words.LineWord.TheVariants.{Node as NodeWord, Object as ObjectWord, Fault as FaultWord, Phase as PhaseWord, Access as AccessWord, Subject as SubjectWord}
+use Rattle.script_reader.specs.declared.words.LineWord.TheVariants.{Wire as WireWord, Node as NodeWord, Object as ObjectWord, Fault as FaultWord, Phase as PhaseWord, Access as AccessWord, Subject as SubjectWord}
 use Rattle.script_reader.specs.declared.words.Verb.{Verb}
 use Rattle.script_reader.specs.Numbers.{is_no_number}
 use Rattle.script_reader.specs.NamesAsked.{is_no_name}
@@ -25,7 +25,7 @@ use Rattle.script_reader.specs.After.{after}
 -- the causes of a line that has its form, in the order in which they are tested
 abbrev pub judged_saying : Content → Saying → Result Content Cause
 judged_saying s said =
-    if is_no_number said then Err Number
+    if is_no_number (wire_of s) said then Err Number
     else if is_no_name said then Err Name
     else if is_unknown s said then Err Unknown
     else if is_repeated s said then Err Repeat
@@ -44,6 +44,10 @@ has_begun s = nat_lt 1 s.phases || nat_lt 0 (length s.commands)
 abbrev pub judged_place : Content → Option Saying → Result Content Cause
 judged_place s said = if has_begun s then Err Place else judged_form s said
 
+-- that of a version, behind which no object stands either
+abbrev pub judged_early : Content → Option Saying → Result Content Cause
+judged_early s said = if nat_lt 0 (length s.opening.objects) then Err Place else judged_place s said
+
 -- `word`: the first token, and the second of a command
 abbrev pub judged_verb : Content → ProcessWord → Option Verb → List Token → Result Content Cause
 judged_verb s process None tokens = Err Word
@@ -54,6 +58,7 @@ judged_process s (Some process) (WordToken verb ∷ tokens) = judged_verb s proc
 judged_process s _ _ = Err Word
 
 abbrev pub judged_first : Content → Option LineWord → List ℕ → List Token → Result Content Cause
+judged_first s (Some WireWord) word tokens = judged_early s (wire_form tokens)
 judged_first s (Some NodeWord) word tokens = judged_place s (node_form tokens)
 judged_first s (Some ObjectWord) word tokens = judged_place s (object_form tokens)
 judged_first s (Some FaultWord) word tokens = judged_place s (fault_form tokens)

@@ -4,7 +4,7 @@ use Rattle.std.specs.List.{list_all}
 use Rattle.dir_records.specs.Paths.{route_of}
 use Rattle.script_reader.specs.Words.{is_name}
 use Rattle.script_reader.specs.Arguments.{Said, Var, NewVar, Home, HomeNode, Path, OptionalPath}
-use Rattle.script_reader.specs.Sayings.{Saying, Node, Object, Fault, Phase, Access, Subject, Does}
+use Rattle.script_reader.specs.Sayings.{Saying, Wire, Node, Object, Fault, Phase, Access, Subject, Does}
 
 -- the name or the path of an argument is one, where it has such
 abbrev pub has_name : Said → Bool
@@ -18,6 +18,7 @@ has_name _ = true
 
 -- a line has a word that is no name or no path where one is asked
 abbrev pub is_no_name : Saying → Bool
+is_no_name (Wire version) = false
 is_no_name (Node name frames) = not (is_name name)
 is_no_name (Object var room home) = not (is_name var && is_name home)
 is_no_name (Fault from to index fate) = not (is_name from && is_name to)

@@ -12,6 +12,7 @@ pub data SaidFate : Type 0 where
 
 -- a line; the arguments of a command are those of its shape
 pub data Saying : Type 0 where
+  Wire : (version : Option ℕ) → Saying
   Node : (name : List ℕ) (frames : Option ℕ) → Saying
   Object : (var : List ℕ) (room : Option ℕ) (home : List ℕ) → Saying
   Fault : (from to : List ℕ) (index : Option ℕ) (fate : SaidFate) → Saying

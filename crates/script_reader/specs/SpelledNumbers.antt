@@ -1,6 +1,6 @@
 -- The numbers that words spell, each in its range.
-use Rattle.std.specs.Prelude.{ℕ, ◌-◌, ◌*◌, nat_le, ◌&&◌, if◌then◌else◌, Option, Some, None, List}
-use Rattle.uid_names.specs.declared.limits.TheConstants.{NODE_PROCESSES, PAGE_BYTES, WRITTEN_ROOM}
+use Rattle.std.specs.Prelude.{ℕ, ◌-◌, nat_le, ◌&&◌, if◌then◌else◌, Option, Some, None, List}
+use Rattle.uid_names.specs.declared.limits.TheConstants.{MAX_LENGTH, MAX_ROOM, NODE_PROCESSES, PAGE_BYTES}
 use Rattle.dom_text.specs.Numbers.{hex8_of, number_spelled}
 
 -- a number, where it is in this range
@@ -25,13 +25,17 @@ index_spelled word = within 1 1000000 (number_spelled word)
 abbrev pub late_spelled : List ℕ → Option ℕ
 late_spelled word = within 1 1000 (number_spelled word)
 
--- a room that can be written
+-- a version
+abbrev pub wire_spelled : List ℕ → Option ℕ
+wire_spelled word = within 1 2 (number_spelled word)
+
+-- a room that some version can write
 abbrev pub room_spelled : List ℕ → Option ℕ
-room_spelled word = within 1 WRITTEN_ROOM (number_spelled word)
+room_spelled word = within 1 MAX_ROOM (number_spelled word)
 
 -- an offset in an object of such a room
 abbrev pub offset_spelled : List ℕ → Option ℕ
-offset_spelled word = within 0 (WRITTEN_ROOM * PAGE_BYTES - 1) (number_spelled word)
+offset_spelled word = within 0 (MAX_LENGTH - 1) (number_spelled word)
 
 -- a count of bytes of a page
 abbrev pub count_spelled : List ℕ → Option ℕ

@@ -6,7 +6,7 @@ use Rattle.script_reader.specs.Scripts.{Content}
 use Rattle.script_reader.specs.Variables.{knows}
 use Rattle.script_reader.specs.Words.{ProcessWord}
 use Rattle.script_reader.specs.Arguments.{Said, Var, Home, HomeNode}
-use Rattle.script_reader.specs.Sayings.{Saying, Node, Object, Fault, Phase, Access, Subject, Does}
+use Rattle.script_reader.specs.Sayings.{Saying, Wire, Node, Object, Fault, Phase, Access, Subject, Does}
 use Rattle.script_reader.specs.declared.script.NodeRow.{NodeRow}
 use Rattle.script_reader.specs.NodeNames.{is_node_name, node_number}
 
@@ -23,6 +23,7 @@ is_known s proc _ = true
 
 -- a line speaks of what is not known
 abbrev pub is_unknown : Content → Saying → Bool
+is_unknown s (Wire version) = false
 is_unknown s (Node name frames) = false
 is_unknown s (Object var room home) = not (is_node_name s.nodes home)
 is_unknown s (Fault from to index fate) = not (is_node_name s.nodes from && is_node_name s.nodes to)

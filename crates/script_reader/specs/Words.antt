@@ -10,11 +10,12 @@ pub use Rattle.dom_text.specs.NameWords.{is_name}
 use Rattle.script_reader.specs.SpelledNumbers.{process_spelled}
 use Rattle.script_reader.specs.Verbs.{verb_row}
 use Rattle.script_reader.specs.declared.words.LineWord.{LineWord}
-use Rattle.script_reader.specs.declared.words.LineWord.TheVariants.{Node, Object, Fault, Phase, Access, Subject}
+use Rattle.script_reader.specs.declared.words.LineWord.TheVariants.{Wire, Node, Object, Fault, Phase, Access, Subject}
 use Rattle.script_reader.specs.declared.words.Verb.{Verb}
 use Rattle.script_reader.specs.declared.words.Verb.TheVariants.{New, Lock, Unlock, Delete, Load, Store, Length, Map, Unmap, Loadat, Storeat, Bind, Crf, Crd, Crl, Dlf, Catf, Lnf, Apf, Cpf, Crm, Putm, Takem, Ld, Wd, Llkob}
 
 abbrev pub line_word_text : LineWord → List ℕ
+line_word_text Wire = codes "wire"
 line_word_text Node = codes "node"
 line_word_text Object = codes "object"
 line_word_text Fault = codes "fault"
@@ -23,7 +24,7 @@ line_word_text Access = codes "access"
 line_word_text Subject = codes "subject"
 
 abbrev pub line_words : List LineWord
-line_words = Node ∷ Object ∷ Fault ∷ Phase ∷ Access ∷ Subject ∷ []
+line_words = Wire ∷ Node ∷ Object ∷ Fault ∷ Phase ∷ Access ∷ Subject ∷ []
 
 -- the line word that a word is
 abbrev pub line_word_of : List ℕ → Option LineWord

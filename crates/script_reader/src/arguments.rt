@@ -5,7 +5,7 @@ ghost use Rattle.std.specs.List.{list_all};
 ghost use Rattle.dom_text.specs.Lent.{owned};
 ghost use Rattle.script_reader.specs.Forms.{absent as absent_of, argument_form, arguments_form, text_argument as text_argument_of, word_argument as word_argument_of};
 ghost use Rattle.script_reader.specs.NamesAsked.{has_name as has_name_of};
-ghost use Rattle.script_reader.specs.Numbers.{has_number as has_number_of};
+ghost use Rattle.script_reader.specs.Numbers.{has_number as has_number_of, has_to as has_to_of, has_room as has_room_of, has_offset as has_offset_of};
 ghost use Rattle.script_reader.specs.SaidCommands.{argument_at as argument_at_place, bytes_of, mode_of as mode_of_argument, number_of, pages_of, path_of};
 ghost use Rattle.script_reader.specs.Walk.Formed.{AreFormed};
 ghost use Rattle.script_reader.specs.Walk.Seen.{seen_argument, seen_arguments, seen_found, seen_token};
@@ -17,7 +17,7 @@ use arrayvec::ArrayVec;
 use dir_records::is_path;
 use dom_text::{TokenRef, is_name};
 use std::alloc::Global;
-use uid_names::{ByteList, Mode, NoMemory, PAGE_BYTES};
+use uid_names::{ByteList, Mode, NoMemory, PAGE_BYTES, wire_room};
 
 /// The most bytes of a text that a mailbox takes.
 const MESSAGE_BYTES: usize = 120;
@@ -53,18 +53,17 @@ impl Default for Argument<'_> {
 }
 
 impl Argument<'_> {
-    /// Whether its number, or the length of its text, is in its range, where it has such.
-    pub(crate) fn has_number(self) -> bool
-        ensures { result ≡ has_number_of (seen_argument self.entry) }
+    /// Whether its number, or the length of its text, is in its range in a script of this version, where it has such.
+    pub(crate) fn has_number(self, wire: u8) -> bool
+        ensures { result ≡ has_number_of wire (seen_argument self.entry) }
     {
         match self {
-            Argument::Room(found)
-            | Argument::Offset(found)
-            | Argument::Count(found)
-            | Argument::Address(found) => found.is_some(),
+            Argument::Room(found) => has_room(wire, found),
+            Argument::Offset(found) => has_offset(wire, found),
+            Argument::Count(found) | Argument::Address(found) => found.is_some(),
             Argument::Text(text) => !text.is_empty() && text.len() <= PAGE_BYTES,
             Argument::Message(text) => !text.is_empty() && text.len() <= MESSAGE_BYTES,
-            Argument::OptionalRoom(Some(found)) => found.is_some(),
+            Argument::OptionalRoom(Some(found)) => has_room(wire, found),
             _ => true,
         }
     }
@@ -139,6 +138,30 @@ impl Argument<'_> {
             _ => Ok(None),
         }
     }
+}
+
+/// Whether there is a number, and none above this one.
+fn has_to(high: u32, found: Option<u32>) -> bool
+    ensures { result ≡ has_to_of high found }
+{
+    match found {
+        Some(number) => number <= high,
+        None => false,
+    }
+}
+
+/// Whether there is a room that this version can write.
+pub(crate) fn has_room(wire: u8, found: Option<u32>) -> bool
+    ensures { result ≡ has_room_of wire found }
+{
+    has_to(wire_room(wire), found)
+}
+
+/// Whether there is an offset in a room that this version can write.
+fn has_offset(wire: u8, found: Option<u32>) -> bool
+    ensures { result ≡ has_offset_of wire found }
+{
+    has_to(wire_room(wire) * PAGE_BYTES as u32 - 1, found)
 }
 
 /// The argument at a place; behind the last one a home that is left out.
@@ -238,11 +261,11 @@ pub(crate) fn read_arguments<'a>(
     Some(found)
 }
 
-/// Whether all numbers, addresses and lengths of texts are in their ranges.
-pub(crate) fn have_numbers(arguments: &[Argument<'_>]) -> bool
-    ensures { result ≡ list_all has_number_of (seen_arguments arguments.now) }
+/// Whether all numbers, addresses and lengths of texts are in their ranges in a script of this version.
+pub(crate) fn have_numbers(arguments: &[Argument<'_>], wire: u8) -> bool
+    ensures { result ≡ list_all (has_number_of wire) (seen_arguments arguments.now) }
 {
-    arguments.iter().all(|argument| argument.has_number())
+    arguments.iter().all(|argument| argument.has_number(wire))
 }
 
 /// Whether all names are names, and all paths are paths.

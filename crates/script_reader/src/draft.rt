@@ -1,7 +1,9 @@
 //! What the lines of a script have declared and asked for so far.
-ghost use Rattle.std.specs.Prelude.{◌≡◌, ◌≢◌, ◌≤◌, ◌<◌, ◌+◌, ◌-◌, ◌==◌, not, [], true, false, is_some, unwrap_or, length, IfOk, OnOk, OnErr, IfSome, None, Some};
+ghost use Rattle.std.specs.Prelude.{◌≡◌, ◌≢◌, ◌≤◌, ◌<◌, ◌+◌, ◌-◌, ◌==◌, not, [], true, false, nat_lt, is_some, unwrap_or, length, IfOk, OnOk, OnErr, IfSome, None, Some};
 ghost use Rattle.std.specs.List.{list_all};
 ghost use Rattle.uid_names.specs.Rooms.{IsRoom};
+ghost use Rattle.uid_names.specs.Wires.{wire_room};
+ghost use Rattle.uid_names.specs.declared.limits.TheConstants.{MAX_ROOM};
 ghost use Rattle.uid_names.specs.declared.mode.ObjKind.TheVariants.{File};
 ghost use Rattle.dom_history.specs.Plans.{is_set};
 ghost use Rattle.script_reader.specs.Walk.Notes.{NotesCommand};
@@ -9,7 +11,7 @@ ghost use Rattle.script_reader.specs.Walk.Starts.{AreStarts};
 ghost use Rattle.script_reader.specs.Grammar.{nothing};
 ghost use Rattle.dom_text.specs.Answers.{Gives};
 ghost use Rattle.script_reader.specs.Walk.Results.{line_answer};
-ghost use Rattle.script_reader.specs.Scripts.{Content};
+ghost use Rattle.script_reader.specs.Scripts.{Content, wire_of};
 ghost use Rattle.script_reader.specs.Commands.{IsCommand};
 ghost use Rattle.script_reader.specs.Fates.{IsGivenFate};
 ghost use Rattle.script_reader.specs.Variables.{IsSpoken, is_declared, knows};
@@ -20,7 +22,7 @@ ghost use Rattle.script_reader.specs.UnknownNames.{is_known, is_unknown};
 ghost use Rattle.script_reader.specs.Repeats.{is_fresh, is_repeated};
 ghost use Rattle.script_reader.specs.Limits.{is_past_limit, pages_at};
 ghost use Rattle.script_reader.specs.SaidCommands.{command_said};
-ghost use Rattle.script_reader.specs.After.{after, declared_at, fate_said, with_access, with_command, with_declared, with_fate, with_node, with_subject};
+ghost use Rattle.script_reader.specs.After.{after, declared_at, fate_said, with_access, with_command, with_declared, with_fate, with_node, with_wire, with_subject};
 ghost use Rattle.script_reader.specs.Subjects.{has_subject};
 ghost use Rattle.script_reader.specs.Walk.Formed.{IsFormed, IsProcessNumber};
 ghost use Rattle.script_reader.specs.Walk.Found.{AreNodesOf, IsNodeOf};
@@ -40,8 +42,8 @@ use dom_history::{Fate, FaultPlan};
 use std::alloc::Global;
 use std::marker::Model;
 use uid_names::{
-    ByteList, ENTRY_ROOM, MAX_NODES, MAX_PHASES, MAX_ROOM, NoMemory, NodeId, ObjKind, Object,
-    Opening, ProcId, Uid, VOLUME_ROOM,
+    ByteList, ENTRY_ROOM, MAX_NODES, MAX_PHASES, NoMemory, NodeId, ObjKind, Object, Opening,
+    ProcId, Uid, VOLUME_ROOM, wire_room,
 };
 
 /// How many homes there may be.
@@ -57,6 +59,7 @@ const FIRST_COUNTER: u64 = 2;
 /// `counts` and `pages` say of each home how many objects are declared there, and how many pages they
 /// take with the entry directory, so that no test goes over all rows.
 pub struct Draft {
+    said_wire: Option<u8>,
     nodes: Vec<NodeRow>,
     starts: Vec<Object>,
     objects: Vec<VarRow>,
@@ -75,6 +78,7 @@ pub struct Draft {
 impl Drop for Draft {
     fn drop(self) {
         let Draft {
+            said_wire: _,
             nodes: _,
             starts: _,
             objects: _,
@@ -117,6 +121,7 @@ impl Draft {
     {
         let named = NamedVars::new(alloc)?;
         Ok(Draft {
+            said_wire: None,
             nodes: Vec::new(alloc),
             starts: Vec::new(alloc),
             objects: Vec::new(alloc),
@@ -132,6 +137,29 @@ impl Draft {
         })
     }
 
+    /// The version of the script: 1 where none was said.
+    fn wire(&self) -> u8
+        ensures { result ≡ wire_of self.now }
+    {
+        self.said_wire.unwrap_or(1)
+    }
+
+    /// The greatest room that its version can write, in pages.
+    fn greatest(&self) -> u32
+        ensures value { result ≡ wire_room (wire_of self.now) }
+        ensures least { 1 ≤ result }
+        ensures most { result ≤ MAX_ROOM }
+    {
+        wire_room(self.wire())
+    }
+
+    /// Whether an object was declared.
+    pub(crate) fn has_object(&self) -> bool
+        ensures { result ≡ nat_lt 0 (length self.now.opening.objects) }
+    {
+        !self.starts.is_empty()
+    }
+
     /// Whether a phase or a command was said.
     pub(crate) fn has_begun(&self) -> bool
         ensures { result ≡ has_begun self.now }
@@ -144,7 +172,7 @@ impl Draft {
         requires { IsFormed self.old (seen line) }
         ensures { Gives (line_answer self.new result) (judged_saying self.old (seen line.entry)) }
     {
-        if line.is_no_number() {
+        if line.is_no_number(self.wire()) {
             return Err(LineFault::Bad(Cause::Number));
         }
         if line.is_no_name(alloc)? {
@@ -172,7 +200,7 @@ impl Draft {
             Line::Node { name, .. } => (self.node_named(name), None),
             Line::Object { home, .. } => (self.node_named(home), None),
             Line::Fault { from, to, .. } => (self.node_named(from), self.node_named(to)),
-            Line::Phase | Line::Access => (None, None),
+            Line::Wire { .. } | Line::Phase | Line::Access => (None, None),
             Line::Subject { node, .. } => (self.node_named(node), None),
             Line::Does { node, .. } => (self.node_named(node), None),
         };
@@ -183,11 +211,11 @@ impl Draft {
     fn is_unknown(&self, line: Line<'_>, nodes: &LineNodes) -> bool
         requires formed { IsFormed self.now (seen line) }
         requires found { AreNodesOf self.now.nodes (seen line) nodes.now }
-        requires numbers { is_no_number (seen line) ≡ false }
+        requires numbers { is_no_number (wire_of self.now) (seen line) ≡ false }
         ensures { result ≡ is_unknown self.now (seen line.entry) }
     {
         match line {
-            Line::Node { .. } | Line::Phase | Line::Access => false,
+            Line::Wire { .. } | Line::Node { .. } | Line::Phase | Line::Access => false,
             Line::Object { .. } => nodes.first.is_none(),
             Line::Subject { .. } => nodes.first.is_none(),
             Line::Fault { .. } => nodes.first.is_none() || nodes.second.is_none(),
@@ -241,12 +269,13 @@ impl Draft {
     /// Whether the line declares what was declared, or makes an object for the variable of a declared one.
     fn is_repeated(&self, line: Line<'_>, nodes: &LineNodes) -> bool
         requires formed { IsFormed self.now (seen line) }
-        requires numbers { is_no_number (seen line) ≡ false }
+        requires numbers { is_no_number (wire_of self.now) (seen line) ≡ false }
         requires found { AreNodesOf self.now.nodes (seen line) nodes.now }
         requires known { is_unknown self.now (seen line) ≡ false }
         ensures { result ≡ is_repeated self.now (seen line.entry) }
     {
         match line {
+            Line::Wire { .. } => self.said_wire.is_some(),
             Line::Node { .. } => nodes.first.is_some(),
             Line::Object { var, .. } => self.is_declared(var),
             Line::Fault { index, .. } => {
@@ -300,7 +329,7 @@ impl Draft {
                 let home = home_index(known(nodes.first));
                 self.pages[home] + room.unwrap_or(0) > VOLUME_ROOM
             }
-            Line::Fault { .. } | Line::Access | Line::Subject { .. } => false,
+            Line::Wire { .. } | Line::Fault { .. } | Line::Access | Line::Subject { .. } => false,
             Line::Phase => self.phases >= MAX_PHASES,
             Line::Does { .. } => self.commands.len() >= MAX_COMMANDS,
         }
@@ -310,7 +339,7 @@ impl Draft {
     fn add(&mut self, alloc: Global, line: Line<'_>, nodes: &LineNodes) -> Result<(), NoMemory>
         requires formed { IsFormed self.old (seen line) }
         requires found { AreNodesOf self.old.nodes (seen line) nodes.now }
-        requires numbers { is_no_number (seen line) ≡ false }
+        requires numbers { is_no_number (wire_of self.old) (seen line) ≡ false }
         requires names { is_no_name (seen line) ≡ false }
         requires known { is_unknown self.old (seen line) ≡ false }
         requires new { is_repeated self.old (seen line) ≡ false }
@@ -318,6 +347,10 @@ impl Draft {
         ensures { OnOk result (self.new ≡ after self.old (seen line.entry)) }
     {
         match line {
+            Line::Wire { version } => {
+                self.add_wire(version.unwrap_or(0) as u8);
+                Ok(())
+            }
             Line::Node { name, frames } => self.add_node(alloc, name, frames.unwrap_or(0) as u16),
             Line::Object { var, room, .. } => {
                 let home = known(nodes.first);
@@ -355,6 +388,16 @@ impl Draft {
                 self.add_command(alloc, proc, command)
             }
         }
+    }
+
+    /// Says the version.
+    fn add_wire(&mut self, wire: u8)
+        requires new { self.old.said_wire ≡ None }
+        requires low { 1 ≤ wire }
+        requires high { wire ≤ 2 }
+        ensures { self.new ≡ with_wire self.old wire }
+    {
+        self.said_wire = Some(wire);
     }
 
     /// Begins a phase.
@@ -438,6 +481,7 @@ impl Draft {
     ) -> Result<(), NoMemory>
         requires name { is_name var.now ≡ true }
         requires room { IsRoom room }
+        requires low { room ≤ wire_room (wire_of self.old) }
         requires home { home ≤ length self.old.nodes }
         requires new { is_declared self.old.objects var.now ≡ false }
         requires first { self.old.commands ≡ [] }
@@ -520,9 +564,16 @@ impl Draft {
         requires { 1 ≤ length self.nodes }
         ensures { IfOk result (λ script. script ≡ self) }
     {
-        let opening = opening_of(alloc, self.nodes.len() as u8, self.starts.as_slice())?;
+        let greatest = self.greatest();
+        let opening = opening_of(
+            alloc,
+            self.nodes.len() as u8,
+            greatest,
+            self.starts.as_slice(),
+        )?;
         let places = Places::of_commands(alloc, self.commands.as_slice())?;
         let Draft {
+            said_wire,
             nodes,
             starts: _,
             objects,
@@ -537,7 +588,8 @@ impl Draft {
             pages: _,
         } = self;
         Ok(Script::new(
-            nodes, opening, objects, plan, access, subjects, phases, commands, declared, places,
+            said_wire, nodes, opening, objects, plan, access, subjects, phases, commands, declared,
+            places,
         ))
     }
 
@@ -560,14 +612,21 @@ fn known(found: Option<NodeId>) -> NodeId
     }
 }
 
-/// The opening of so many nodes with these objects.
-fn opening_of(alloc: Global, nodes: u8, starts: &[Object]) -> Result<Opening, NoMemory>
+/// The opening of so many nodes, with this greatest room and these objects.
+fn opening_of(
+    alloc: Global,
+    nodes: u8,
+    greatest: u32,
+    starts: &[Object],
+) -> Result<Opening, NoMemory>
     requires low { 1 ≤ nodes }
     requires high { nodes ≤ MAX_NODES }
-    requires starts { AreStarts nodes starts.now }
-    ensures { IfOk result (λ opening. opening ≡ record { nodes = nodes; greatest = MAX_ROOM; objects = starts.now }) }
+    requires least { 1 ≤ greatest }
+    requires most { greatest ≤ MAX_ROOM }
+    requires starts { AreStarts nodes greatest starts.now }
+    ensures { IfOk result (λ opening. opening ≡ record { nodes = nodes; greatest = greatest; objects = starts.now }) }
 {
-    let mut opening = Opening::new(alloc, nodes, MAX_ROOM);
+    let mut opening = Opening::new(alloc, nodes, greatest);
     for object in starts {
         opening.add(object.uid, object.kind, object.room)?;
     }

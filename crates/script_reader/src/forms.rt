@@ -3,12 +3,12 @@
 ghost use Rattle.std.specs.Prelude.{◌≡◌, MatchOption, IfSome, Some, None, ◌∷◌, []};
 ghost use Rattle.dom_text.specs.Lent.{owned};
 ghost use Rattle.dom_text.specs.declared.token.Token.TheVariants.{Word};
-ghost use Rattle.script_reader.specs.Forms.{node_form as node_form_of, object_form as object_form_of, fault_form as fault_form_of, fate_form as fate_form_of, subject_form as subject_form_of};
+ghost use Rattle.script_reader.specs.Forms.{wire_form as wire_form_of, node_form as node_form_of, object_form as object_form_of, fault_form as fault_form_of, fate_form as fate_form_of, subject_form as subject_form_of};
 ghost use Rattle.script_reader.specs.Walk.Formed.{HasForm, IsFateFound};
 ghost use Rattle.script_reader.specs.Walk.Seen.{seen, seen_fate, BeginsWithNoWord, IsNotOneWord};
 
 use crate::line::{Line, LineFate};
-use crate::numbers::{frames, index, late, process, room};
+use crate::numbers::{frames, index, late, process, room, wire};
 use dom_text::{TokenRef, cut_last};
 
 /// The word that stands first, and the tokens behind it.
@@ -22,6 +22,15 @@ pub(crate) fn first_word<'a, 'l>(
         TokenRef::Word(word) => Some((*word, rest)),
         TokenRef::Text(_) => None,
     }
+}
+
+/// A line of these tokens behind `wire`.
+pub(crate) fn wire_form<'a>(tokens: &'a [TokenRef<'_>]) -> Option<Line<'a>>
+    ensures form { MatchOption result (wire_form_of (owned tokens.now) ≡ None) (λ line. wire_form_of (owned tokens.now) ≡ Some (seen line)) }
+    ensures formed { IfSome result (λ line. HasForm (seen line)) }
+{
+    let version = wire(only_word(tokens)?);
+    Some(Line::Wire { version })
 }
 
 /// A line of these tokens behind `node`.

@@ -4,7 +4,7 @@ ghost use Rattle.script_reader.specs.Numbers.{is_fate as is_fate_said, is_no_num
 ghost use Rattle.script_reader.specs.NamesAsked.{is_no_name as is_no_name_in};
 ghost use Rattle.script_reader.specs.Walk.Seen.{seen, seen_fate};
 
-use crate::arguments::{Argument, have_names, have_numbers};
+use crate::arguments::{Argument, has_room, have_names, have_numbers};
 use crate::words::Verb;
 use dom_text::is_name;
 use std::alloc::Global;
@@ -21,6 +21,9 @@ pub(crate) enum LineFate {
 /// A line: its names, and a number of the right range where a word spells one.
 #[derive(Clone, Copy)]
 pub(crate) enum Line<'a> {
+    Wire {
+        version: Option<u32>,
+    },
     Node {
         name: &'a [u8],
         frames: Option<u32>,
@@ -65,13 +68,14 @@ impl LineFate {
 }
 
 impl Line<'_> {
-    /// Whether a number, an address or the length of a text is out of its range.
-    pub(crate) fn is_no_number(self) -> bool
-        ensures { result ≡ is_no_number_in (seen self.entry) }
+    /// Whether a number, an address or the length of a text is out of its range, in a script of this version.
+    pub(crate) fn is_no_number(self, wire: u8) -> bool
+        ensures { result ≡ is_no_number_in wire (seen self.entry) }
     {
         match self {
+            Line::Wire { version } => version.is_none(),
             Line::Node { frames, .. } => frames.is_none(),
-            Line::Object { room, .. } => room.is_none(),
+            Line::Object { room, .. } => !has_room(wire, room),
             Line::Fault { index, fate, .. } => !(index.is_some() && fate.has_number()),
             Line::Phase | Line::Access => false,
             Line::Subject { number, .. } => number.is_none(),
@@ -79,7 +83,7 @@ impl Line<'_> {
                 number,
                 arguments,
                 ..
-            } => !(number.is_some() && have_numbers(arguments)),
+            } => !(number.is_some() && have_numbers(arguments, wire)),
         }
     }
 
@@ -91,7 +95,7 @@ impl Line<'_> {
             Line::Node { name, .. } => !is_name(name),
             Line::Object { var, home, .. } => !(is_name(var) && is_name(home)),
             Line::Fault { from, to, .. } => !(is_name(from) && is_name(to)),
-            Line::Phase | Line::Access => false,
+            Line::Wire { .. } | Line::Phase | Line::Access => false,
             Line::Subject {
                 node,
                 person,

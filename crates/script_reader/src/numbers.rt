@@ -1,13 +1,14 @@
 //! The numbers that words spell, each in its range. No function takes memory.
 ghost use Rattle.std.specs.Prelude.{◌≡◌, ◌≤◌, IfSome};
 ghost use Rattle.uid_names.specs.Rooms.{IsRoom};
+ghost use Rattle.uid_names.specs.Wires.{IsWire};
 ghost use Rattle.dom_text.specs.Numbers.{number_spelled};
-ghost use Rattle.script_reader.specs.SpelledNumbers.{within, frames_spelled, process_spelled, index_spelled, late_spelled, room_spelled, offset_spelled, count_spelled, address_spelled};
+ghost use Rattle.script_reader.specs.SpelledNumbers.{within, wire_spelled, frames_spelled, process_spelled, index_spelled, late_spelled, room_spelled, offset_spelled, count_spelled, address_spelled};
 ghost use Rattle.script_reader.specs.Walk.Formed.{AreFrames, IsProcessNumber, IsIndex, IsLate};
 ghost use Rattle.script_reader.specs.Walk.Seen.{seen_option};
 
 use dom_text::{decimal, hex8};
-use uid_names::{NODE_PROCESSES, PAGE_BYTES, WRITTEN_ROOM};
+use uid_names::{MAX_LENGTH, MAX_ROOM, NODE_PROCESSES, PAGE_BYTES};
 
 /// The fewest and the most page frames of a node, and those of one whose line says no number.
 const MIN_FRAMES: u32 = 5;
@@ -28,8 +29,11 @@ const MAX_LATE: u32 = 1000;
 /// The greatest address of a command.
 const MAX_ADDRESS: u32 = 0x00ff_ffff;
 
-/// The greatest offset of a command, in bytes: the last byte of the greatest room that can be written.
-const MAX_OFFSET: u32 = WRITTEN_ROOM * PAGE_BYTES as u32 - 1;
+/// The last version.
+const LAST_WIRE: u32 = 2;
+
+/// The greatest offset of a command, in bytes: the last byte of the greatest room.
+const MAX_OFFSET: u32 = MAX_LENGTH - 1;
 
 /// The most bytes that a command loads or stores.
 const MAX_COUNT: u32 = PAGE_BYTES as u32;
@@ -50,6 +54,14 @@ fn number_within(word: &[u8], low: u32, high: u32) -> Option<u32>
         }
         Err(_) => None,
     }
+}
+
+/// The version that a word spells.
+pub(crate) fn wire(word: &[u8]) -> Option<u32>
+    ensures value { result ≡ wire_spelled word.now }
+    ensures range { IfSome result IsWire }
+{
+    number_within(word, 1, LAST_WIRE)
 }
 
 /// The page frames that a node's line says, or the usual ones where it says none.
@@ -92,7 +104,7 @@ pub(crate) fn room(word: &[u8]) -> Option<u32>
     ensures value { result ≡ room_spelled word.now }
     ensures range { IfSome result IsRoom }
 {
-    number_within(word, 1, WRITTEN_ROOM)
+    number_within(word, 1, MAX_ROOM)
 }
 
 /// The offset that a word spells, in bytes.

@@ -2,7 +2,7 @@
 ghost use Rattle.std.specs.Prelude.{◌≡◌, ◌<◌, ◌≤◌, ◌∷◌, length, IfOk, IfErr};
 ghost use Rattle.std.specs.Option.{ForSome};
 ghost use Rattle.script_reader.specs.Grammar.{AreGood, IsScript, nothing, raw_lines, without_cr as without_cr_of};
-ghost use Rattle.script_reader.specs.Judging.{judged, judged_form, judged_place, judged_process, judged_tokens};
+ghost use Rattle.script_reader.specs.Judging.{judged, judged_early, judged_form, judged_place, judged_process, judged_tokens};
 ghost use Rattle.dom_text.specs.Answers.{Gives};
 ghost use Rattle.dom_text.specs.Lent.{owned};
 ghost use Rattle.script_reader.specs.Walk.Formed.{HasForm, IsProcessNumber};
@@ -15,7 +15,7 @@ ghost use Rattle.script_reader.specs.Words.{process_word as process_word_of};
 use crate::arguments::read_arguments;
 use crate::cause::{Cause, LineFault, ScriptFault};
 use crate::draft::Draft;
-use crate::forms::{fault_form, first_word, node_form, object_form, subject_form};
+use crate::forms::{fault_form, first_word, node_form, object_form, subject_form, wire_form};
 use crate::line::Line;
 use crate::script::Script;
 use crate::words::{LineWord, Verb, process_word, read_line_word, read_verb};
@@ -129,6 +129,7 @@ fn read_tokens(draft: &mut Draft, alloc: Global, tokens: &[TokenRef<'_>]) -> Res
         return Err(LineFault::Bad(Cause::Word));
     };
     match read_line_word(word) {
+        Some(LineWord::Wire) => read_wire(draft, alloc, wire_form(rest)),
         Some(LineWord::Node) => read_declaration(draft, alloc, node_form(rest)),
         Some(LineWord::Object) => read_declaration(draft, alloc, object_form(rest)),
         Some(LineWord::Fault) => read_declaration(draft, alloc, fault_form(rest)),
@@ -137,6 +138,17 @@ fn read_tokens(draft: &mut Draft, alloc: Global, tokens: &[TokenRef<'_>]) -> Res
         Some(LineWord::Subject) => read_declaration(draft, alloc, subject_form(rest)),
         None => read_command(draft, alloc, word, rest),
     }
+}
+
+/// Reads a version, which stands before all objects, phases and commands.
+fn read_wire(draft: &mut Draft, alloc: Global, line: Option<Line<'_>>) -> Result<(), LineFault>
+    requires { ForSome line (λ l. HasForm (seen l)) }
+    ensures { Gives (line_answer draft.new result) (judged_early draft.old (seen_line line.entry)) }
+{
+    if draft.has_object() {
+        return Err(LineFault::Bad(Cause::Place));
+    }
+    read_declaration(draft, alloc, line)
 }
 
 /// Reads a line that stands before all phases and commands.

@@ -38,6 +38,7 @@ pub struct SubjectRow {
 /// A script: what each of its lines declares or asks for. It keeps all that the grammar asks of a script, and
 /// beside it where a variable's object and a process's commands are found, so that nobody goes over all rows.
 pub struct Script {
+    said_wire: Option<u8>,
     nodes: Vec<NodeRow>,
     opening: Opening,
     objects: Vec<VarRow>,
@@ -54,6 +55,7 @@ pub struct Script {
 impl Drop for Script {
     fn drop(self) {
         let Script {
+            said_wire: _,
             nodes: _,
             opening: _,
             objects: _,
@@ -82,7 +84,7 @@ impl Model for Script {
 
 impl Script {
     ghost use Rattle.std.specs.Prelude.{◌≡◌, ◌<◌, All, length};
-    ghost use Rattle.script_reader.specs.Scripts.{Content, IsContent};
+    ghost use Rattle.script_reader.specs.Scripts.{Content, IsContent, wire_of};
     ghost use Rattle.script_reader.specs.Variables.{declared_object};
     ghost use Rattle.script_reader.specs.Places.{places_of};
     ghost use Rattle.script_reader.specs.Walk.Index.{HoldsDeclared};
@@ -91,6 +93,7 @@ impl Script {
 
     /// The script of these parts.
     pub(crate) fn new(
+        said_wire: Option<u8>,
         nodes: Vec<NodeRow>,
         opening: Opening,
         objects: Vec<VarRow>,
@@ -104,10 +107,11 @@ impl Script {
     ) -> Script
         requires declared { HoldsDeclared declared objects.items }
         requires places { HoldsPlaces places commands.items }
-        requires content { IsContent (content_made nodes.items opening objects.items plan access subjects.items phases commands.items) }
-        ensures { result ≡ content_made nodes.items opening objects.items plan access subjects.items phases commands.items }
+        requires content { IsContent (content_made said_wire nodes.items opening objects.items plan access subjects.items phases commands.items) }
+        ensures { result ≡ content_made said_wire nodes.items opening objects.items plan access subjects.items phases commands.items }
     {
         Script {
+            said_wire,
             nodes,
             opening,
             objects,
@@ -119,6 +123,14 @@ impl Script {
             declared,
             places,
         }
+    }
+
+    /// The version of its frames, 1 or 2: 1 where no line says one.
+    pub fn wire(&self) -> u8
+        ensures value { result ≡ wire_of self.now }
+        ensures content { IsContent self.now }
+    {
+        self.said_wire.unwrap_or(1)
     }
 
     /// The nodes in order of their numbers, 1 to 8 of them.

@@ -14,6 +14,7 @@ use dom_text::{cut, is_name};
 /// A word that begins a line, beside those that name a process.
 #[derive(Clone, Copy)]
 pub(crate) enum LineWord {
+    Wire,
     Node,
     Object,
     Fault,
@@ -159,7 +160,9 @@ impl Verb {
 pub(crate) fn read_line_word(word: &[u8]) -> Option<LineWord>
     ensures word { MatchOption result ((w : LineWord) → word.now ≢ line_word_text w) (λ w. word.now ≡ line_word_text w) }
 {
-    if word == b"node".as_slice() {
+    if word == b"wire".as_slice() {
+        Some(LineWord::Wire)
+    } else if word == b"node".as_slice() {
         Some(LineWord::Node)
     } else if word == b"object".as_slice() {
         Some(LineWord::Object)

@@ -12,7 +12,7 @@ use Rattle.dom_history.specs.declared.op.Want.TheVariants.{Phase}
 use Rattle.dom_history.specs.Follows.{Heard}
 use Rattle.dom_history.specs.Programs.{asked_by}
 use Rattle.script_reader.specs.declared.script.NodeRow.{NodeRow}
-use Rattle.script_reader.specs.Scripts.{Content, IsContent}
+use Rattle.script_reader.specs.Scripts.{Content, wire_of, IsContent}
 use Rattle.aegis_shell.specs.Asking.{ask}
 use Rattle.aegis_shell.specs.Shells.{Shelled, shell_of, shell_wants, shell_after}
 use Rattle.node_runs.specs.Doings.{node_numbers}
@@ -113,11 +113,12 @@ module _ (s : Content) (content : IsContent s) (n : ℕ) (low : 1 ≤ n) (high :
 
   -- a node is given what its script says
   pub given_by : ((p : ProcName) (heard : Heard) → asked_by shell_wants shell_after (shell_of s p) heard ≡ ask s p heard)
-      → (setup : NodeSetup) → setup.node ≡ n → setup.frames ≡ slice_index_or (map (λ (r : NodeRow). r.frames) s.nodes) (n - 1) 0 → setup.phases ≡ s.phases
+      → (setup : NodeSetup) → setup.node ≡ n → setup.wire ≡ wire_of s → setup.frames ≡ slice_index_or (map (λ (r : NodeRow). r.frames) s.nodes) (n - 1) 0 → setup.phases ≡ s.phases
       → IsGivenBy shell_wants shell_after setup s.opening (shells_among s n (processes_of s.commands)) (given (setup_of s) n)
-  given_by law setup node frames phases = record {
+  given_by law setup node wire frames phases = record {
     number = sym node;
     opening = refl;
+    wire = sym wire;
     frames = sym frames;
     phases = sym phases;
     programs = λ p. ap (list_any (λ q. q == p)) programs_at ∙ numbers_found s (filter (λ p. p.node == n) (processes_of s.commands)) p;

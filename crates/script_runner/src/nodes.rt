@@ -48,6 +48,7 @@ fn node_of<'a>(
     let setup = NodeSetup {
         node,
         nodes: script.opening().nodes(),
+        wire: script.wire(),
         frames: script.nodes()[node.number() as usize - 1].frames,
         phases: script.phases(),
     };

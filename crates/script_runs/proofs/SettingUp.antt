@@ -9,6 +9,7 @@ use Rattle.uid_names.specs.Names.{ProcName, IsProcNumber, same_proc, proc_lt}
 use Rattle.uid_names.specs.Openings.{IsStart}
 use Rattle.dom_history.specs.Follows.{Heard}
 use Rattle.dom_history.specs.Ranges.{IsWant, IsNodeNumber, AreNamedReplies}
+use Rattle.script_reader.proofs.Kept.{IsWire-of, written-of}
 use Rattle.script_reader.specs.declared.script.NodeRow.{NodeRow}
 use Rattle.script_reader.specs.declared.script.CommandRow.{CommandRow}
 use Rattle.script_reader.specs.Commands.{IsCommandRow}
@@ -99,6 +100,7 @@ pub setup_is : AskInRange → (s : Content) → IsContent s → IsStart s.openin
 setup_is law s content start = record {
   start = start;
   begins = content.begins;
+  wire = record { version = IsWire-of s content.draft; rooms = written-of s content.draft };
   frames = All-map IsFrames (λ (n : NodeRow). n.frames) s.nodes (All-weaker IsNode (λ n. IsFrames n.frames) (λ n node. record { few = node.few; many = node.many }) s.nodes content.draft.nodes);
   all_frames = length-map s.nodes (λ n. n.frames) ∙ sym content.draft.opening_nodes;
   phases_low = content.draft.phase_low;

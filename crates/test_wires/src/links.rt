@@ -15,20 +15,28 @@ fn copies_in_order(rt: HostRuntime) -> Result<(), Fail> {
     link.send(
         alloc,
         Fate::Twice(0),
-        Frame::new(one, two, 1, 7, 3, Body::Done),
+        Frame::new(1, one, two, 1, 7, 3, Body::Done),
     )?;
     link.send(
         alloc,
         Fate::Late(0),
-        Frame::new(one, two, 1, 7, 4, Body::Done),
+        Frame::new(1, one, two, 1, 7, 4, Body::Done),
     )?;
     link.send(
         alloc,
         Fate::Late(1),
-        Frame::new(one, two, 1, 7, 5, Body::Done),
+        Frame::new(1, one, two, 1, 7, 5, Body::Done),
     )?;
-    link.send(alloc, Fate::Pass, Frame::new(one, two, 1, 7, 6, Body::Done))?;
-    link.send(alloc, Fate::Lose, Frame::new(one, two, 1, 7, 7, Body::Done))?;
+    link.send(
+        alloc,
+        Fate::Pass,
+        Frame::new(1, one, two, 1, 7, 6, Body::Done),
+    )?;
+    link.send(
+        alloc,
+        Fate::Lose,
+        Frame::new(1, one, two, 1, 7, 7, Body::Done),
+    )?;
     let mut order = 0u64;
     for _ in 0..9 {
         if let Some(entry) = link.pop() {

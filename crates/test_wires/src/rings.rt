@@ -81,7 +81,7 @@ fn frame(index: u64, body: Body) -> Result<Frame, Fail>
     requires body { IsBody 2 body }
     ensures { IfOk result (λ m. (m.from ≡ 1) × (m.to ≡ 2) × (m.tick ≡ index)) }
 {
-    Ok(Frame::new(node(1)?, node(2)?, 1, index, index, body))
+    Ok(Frame::new(2, node(1)?, node(2)?, 1, index, index, body))
 }
 
 /// A digit for what came: of a frame its number, of word of one 3 more, of a mark 6 more than its phase.

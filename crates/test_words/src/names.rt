@@ -152,7 +152,7 @@ fn rooms_take_whole_segments(rt: HostRuntime) -> Result<(), Fail> {
     assert!(rt; segments(1) == 1);
     assert!(rt; segments(32) == 1);
     assert!(rt; segments(33) == 2);
-    assert!(rt; segments(MAX_ROOM) == 32);
+    assert!(rt; segments(MAX_ROOM) == 128);
     let entry = Object::entry_directory(node(3)?);
     assert!(rt; entry.uid.number() == 0x10_0003);
     assert!(rt; entry.room == ENTRY_ROOM);

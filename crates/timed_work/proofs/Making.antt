@@ -7,7 +7,7 @@ use Rattle.std.proofs.lemmas.Option.{slice_get_within}
 use Rattle.uid_names.specs.Openings.{Start}
 use Rattle.dom_history.specs.declared.op.Want.TheVariants.{Phase}
 use Rattle.script_reader.specs.declared.script.NodeRow.{NodeRow}
-use Rattle.script_reader.specs.Scripts.{Content}
+use Rattle.script_reader.specs.Scripts.{Content, wire_of}
 use Rattle.node_runs.specs.Setups.{Given}
 use Rattle.node_runs.specs.NodeStates.{first_node}
 use Rattle.node_core.specs.declared.setup.NodeSetup.{NodeSetup}
@@ -42,22 +42,22 @@ pub team_fresh : (team : List (ℕ × Round)) (p : ℕ) → IsTeam team → IfSo
 team_fresh team p is =
     found_in (λ r. round_wants r ≡ Phase) team p (All-weaker (λ e. IsReady e.1) (λ e. round_wants e.1 ≡ Phase) (λ e h. ap (want_in e.1.wants e.1.count) h.fresh) team is.ready)
 
-abbrev setup_from : ℕ → ℕ → ℕ → ℕ → NodeSetup
-setup_from n nodes frames phases = record { node = n; nodes = nodes; frames = frames; phases = phases }
+abbrev setup_from : ℕ → ℕ → ℕ → ℕ → ℕ → NodeSetup
+setup_from n nodes wire frames phases = record { node = n; nodes = nodes; wire = wire; frames = frames; phases = phases }
 
 -- a node that was made of what a script declares, and of these programs
-pub node_made : {E : Type 0} (s : Content) (n nodes frames phases : ℕ) (opening : Start) (team : List (ℕ × Round)) (r : Result (Noted Round) E)
-    → nodes ≡ s.opening.nodes → frames ≡ slice_index_or (map (λ (row : NodeRow). row.frames) s.nodes) (n - 1) 0 → phases ≡ s.phases → opening ≡ s.opening → IsTeam team
-    → IfOk r (λ x. (g : Given) → IsGivenBy round_wants round_after (record { node = n; nodes = nodes; frames = frames; phases = phases }) opening team g → Stands round_wants round_after (program_in team) g x (first_node g))
+pub node_made : {E : Type 0} (s : Content) (n nodes wire frames phases : ℕ) (opening : Start) (team : List (ℕ × Round)) (r : Result (Noted Round) E)
+    → nodes ≡ s.opening.nodes → wire ≡ wire_of s → frames ≡ slice_index_or (map (λ (row : NodeRow). row.frames) s.nodes) (n - 1) 0 → phases ≡ s.phases → opening ≡ s.opening → IsTeam team
+    → IfOk r (λ x. (g : Given) → IsGivenBy round_wants round_after (setup_from n nodes wire frames phases) opening team g → Stands round_wants round_after (program_in team) g x (first_node g))
     → IfOk r (λ x. x.log ≡ record { node = n; events = [] }) → IfOk r (λ x. (t : List (ℕ × Round)) × IsTeam t × IsMade s n t x)
-node_made s n nodes frames phases opening team (Err e) a b c o is stands log = tt
-node_made s n nodes frames phases opening team (Ok x) a b c o is stands log =
-    let same : node_setup s n ≡ setup_from n nodes frames phases =
-    sym (ap (λ k. setup_from n k frames phases) a ∙ (ap (λ k. setup_from n s.opening.nodes k phases) b ∙ ap (setup_from n s.opening.nodes (slice_index_or (map (λ (row : NodeRow). row.frames) s.nodes) (n - 1) 0)) c)) in (
+node_made s n nodes wire frames phases opening team (Err e) a v b c o is stands log = tt
+node_made s n nodes wire frames phases opening team (Ok x) a v b c o is stands log =
+    let same : node_setup s n ≡ setup_from n nodes wire frames phases =
+    sym (ap (λ k. setup_from n k wire frames phases) a ∙ (ap (λ k. setup_from n s.opening.nodes k frames phases) v ∙ (ap (λ k. setup_from n s.opening.nodes (wire_of s) k phases) b ∙ ap (setup_from n s.opening.nodes (wire_of s) (slice_index_or (map (λ (row : NodeRow). row.frames) s.nodes) (n - 1) 0)) c))) in (
       team,
       is,
       record {
-        stands = λ g by. stands g (subst (λ (start : Start). IsGivenBy round_wants round_after (setup_from n nodes frames phases) start team g) (sym o)
+        stands = λ g by. stands g (subst (λ (start : Start). IsGivenBy round_wants round_after (setup_from n nodes wire frames phases) start team g) (sym o)
             (subst (λ (setup : NodeSetup). IsGivenBy round_wants round_after setup s.opening team g) same by));
         log = log;
       },

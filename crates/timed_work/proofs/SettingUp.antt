@@ -10,6 +10,7 @@ use Rattle.dom_history.specs.declared.op.Want.TheVariants.{Done}
 use Rattle.dom_history.specs.Follows.{Heard}
 use Rattle.dom_history.specs.Programs.{program_after, asked_by}
 use Rattle.dom_history.specs.Ranges.{IsWant}
+use Rattle.script_reader.proofs.Kept.{IsWire-of, written-of}
 use Rattle.script_reader.specs.declared.script.NodeRow.{NodeRow}
 use Rattle.script_reader.specs.Scripts.{Content, IsContent, IsNode}
 use Rattle.node_runs.specs.NodeStates.{first_node}
@@ -76,6 +77,7 @@ module _ (s : Content) (content : IsContent s) (start : IsStart s.opening) (team
   setup_is = record {
     start = start;
     begins = content.begins;
+    wire = record { version = IsWire-of s content.draft; rooms = written-of s content.draft };
     frames = All-map IsFrames (λ (n : NodeRow). n.frames) s.nodes (All-weaker IsNode (λ n. IsFrames n.frames) (λ n node. record { few = node.few; many = node.many }) s.nodes content.draft.nodes);
     all_frames = length-map s.nodes (λ n. n.frames) ∙ sym content.draft.opening_nodes;
     phases_low = content.draft.phase_low;
@@ -92,6 +94,7 @@ module _ (s : Content) (content : IsContent s) (start : IsStart s.opening) (team
       record {
         number = refl;
         opening = refl;
+        wire = refl;
         frames = refl;
         phases = refl;
         programs = λ p.

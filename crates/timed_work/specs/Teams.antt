@@ -4,7 +4,7 @@ use Rattle.dom_history.specs.declared.op.Want.{Want}
 use Rattle.dom_history.specs.declared.op.Want.TheVariants.{Phase}
 use Rattle.dom_history.specs.Follows.{Heard}
 use Rattle.dom_history.specs.Programs.{asked_by}
-use Rattle.script_reader.specs.Scripts.{Content}
+use Rattle.script_reader.specs.Scripts.{Content, wire_of}
 use Rattle.node_runs.specs.Setups.{Given, Setup, ArePrograms}
 use Rattle.node_runs.specs.NodeStates.{first_node}
 use Rattle.node_core.specs.declared.setup.NodeSetup.{NodeSetup}
@@ -25,11 +25,12 @@ abbrev pub asks_of : Option Round → Heard → Want
 asks_of None heard = Phase
 asks_of (Some r) heard = asked_by round_wants round_after r heard
 
--- the nodes, objects and phases that a script declares, and these programs
+-- the nodes, version, objects and phases that a script declares, and these programs
 abbrev pub setup_with : Content → List (List (ℕ × Round)) → Setup
 setup_with s teams =
     record {
       opening = s.opening;
+      wire = wire_of s;
       frames = map (λ n. n.frames) s.nodes;
       phases = s.phases;
       programs = map numbers_in teams;
@@ -37,7 +38,7 @@ setup_with s teams =
     }
 
 abbrev pub node_setup : Content → ℕ → NodeSetup
-node_setup s n = record { node = n; nodes = s.opening.nodes; frames = slice_index_or (map (λ r. r.frames) s.nodes) (n - 1) 0; phases = s.phases }
+node_setup s n = record { node = n; nodes = s.opening.nodes; wire = wire_of s; frames = slice_index_or (map (λ r. r.frames) s.nodes) (n - 1) 0; phases = s.phases }
 
 -- a node of a script, made with these programs
 pub record IsMade (s : Content) (n : ℕ) (team : List (ℕ × Round)) (x : Noted Round) : Type 0 where

@@ -1,5 +1,5 @@
 //! Requests that a home serves: locks and unlocks in turn, and page-outs of one page.
-ghost use Rattle.std.specs.Prelude.{◌≤◌, IsTrue, IfOk};
+ghost use Rattle.std.specs.Prelude.{◌≡◌, ◌≤◌, IsTrue, IfOk};
 ghost use Rattle.ring_messages.specs.Bodies.{is_request};
 ghost use Rattle.ring_messages.specs.Ranges.{IsBody};
 
@@ -20,6 +20,9 @@ enum Asked {
     PageOut,
 }
 
+/// The version of its frames, which can carry each body.
+const WIRE: u8 = 2;
+
 /// A home at node 2 with one object, the tick of its last event, and the last grant and stamp that it told.
 #[derive(Drop)]
 struct Side {
@@ -29,6 +32,7 @@ struct Side {
     grant: u64,
     stamp: u64,
     ghost in_step: { server.tick ≤ tick },
+    ghost version: { server.wire ≡ 2 },
     ghost granted: { 1 ≤ grant },
     ghost stamped: { 1 ≤ stamp },
 }
@@ -39,7 +43,8 @@ impl Side {
         let mut opening = Opening::new(alloc, 2, 1024);
         opening.add(uid, ObjKind::File, 1)?;
         let home = Home::new(alloc, uid.home(), BlockPages::new(alloc), &opening)?;
-        let server = PageServer::new(alloc, home)?;
+        let _node = home.node();
+        let server = PageServer::new(alloc, home, WIRE)?;
         Ok(Side {
             server,
             uid,
@@ -78,7 +83,7 @@ impl Side {
         }
         self.tick += 1;
         let (number, tick, body) = (caller.number(), self.tick, self.request(alloc, asked)?);
-        let frame = Frame::new(caller.node(), to, number, tick, tick, body);
+        let frame = Frame::new(WIRE, caller.node(), to, number, tick, tick, body);
         let Some(reply) = self.server.serve(alloc, &frame, tick)? else {
             return Ok(0);
         };

@@ -26,6 +26,7 @@ mod ring;
 mod rounds;
 mod runs;
 mod scripts;
+mod sent;
 mod sink;
 mod teams;
 mod wires;
@@ -43,10 +44,11 @@ use work::{Order, Work};
 
 /// The names of all measures, one space apart.
 pub const NAMES: &str =
-    "lock-frames-written lock-frames-read page-outs-written page-outs-read link-frames link-pages bytes-frames bytes-pages \
+    "lock-frames-written lock-frames-read page-outs-written page-outs-read pages-written pages-read blank-pages-written blank-pages-read \
+    link-frames link-pages link-blank-pages bytes-frames bytes-pages bytes-blank-pages \
     journals-written journals-read home-locks home-page-outs desk-loads desk-stores desk-evictions cache-touches-64 cache-touches-256 \
     cache-evictions-64 cache-evictions-256 scripts-read shells-made store-operations \
-    node-accesses node-locks xorshift-steps \
+    node-accesses node-locks sent-bytes-1 sent-bytes-2 xorshift-steps \
     world-mixed world-resident world-locks world-evictions run-mixed run-resident run-locks run-evictions \
     check-mixed check-resident check-locks check-evictions \
     names copies-256 copies-8 file-read \
@@ -133,6 +135,8 @@ enum Part {
     ShellsMade,
     StoreOperations,
     Node(Deeds),
+    SentInFirst,
+    SentInSecond,
     Steps,
 }
 
@@ -143,10 +147,16 @@ fn frames_named(name: &str) -> Option<Part> {
         "lock-frames-read" => Part::FramesRead(Sample::Lock),
         "page-outs-written" => Part::FramesWritten(Sample::PageOut),
         "page-outs-read" => Part::FramesRead(Sample::PageOut),
+        "pages-written" => Part::FramesWritten(Sample::Page),
+        "pages-read" => Part::FramesRead(Sample::Page),
+        "blank-pages-written" => Part::FramesWritten(Sample::Blank),
+        "blank-pages-read" => Part::FramesRead(Sample::Blank),
         "link-frames" => Part::LinkFrames(Sample::Lock),
         "link-pages" => Part::LinkFrames(Sample::PageOut),
+        "link-blank-pages" => Part::LinkFrames(Sample::Blank),
         "bytes-frames" => Part::BytesPassed(Sample::Lock),
         "bytes-pages" => Part::BytesPassed(Sample::PageOut),
+        "bytes-blank-pages" => Part::BytesPassed(Sample::Blank),
         _ => return None,
     })
 }
@@ -177,6 +187,8 @@ fn part_named(name: &str) -> Option<Part> {
         "store-operations" => Part::StoreOperations,
         "node-accesses" => Part::Node(Deeds::Accesses),
         "node-locks" => Part::Node(Deeds::Locks),
+        "sent-bytes-1" => Part::SentInFirst,
+        "sent-bytes-2" => Part::SentInSecond,
         "xorshift-steps" => Part::Steps,
         _ => return None,
     })
@@ -208,6 +220,8 @@ fn take_part(rt: &HostRuntime, part: Part, count: u32) -> Result<(u64, u64)> {
         Part::ShellsMade => scripts::make_shells(rt, count),
         Part::StoreOperations => scripts::operate(rt, count),
         Part::Node(deeds) => node::happen(rt, deeds, count),
+        Part::SentInFirst => sent::send(rt, 1, count),
+        Part::SentInSecond => sent::send(rt, 2, count),
         Part::Steps => steps(rt, count),
     }
 }

@@ -55,6 +55,7 @@ impl Side {
         let setup = NodeSetup {
             node: number,
             nodes: 1,
+            wire: 1,
             frames: 64,
             phases: 1,
         };

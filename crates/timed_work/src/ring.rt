@@ -1,4 +1,4 @@
-//! Frames of a lock and of a page-out, and journals of a thousand lines, written and read.
+//! Frames of a lock, a page-out and a page, and journals of a thousand lines, written and read.
 ghost use Rattle.std.specs.Prelude.{IfSome};
 ghost use Rattle.dom_history.specs.Events.{IsKindNumber};
 
@@ -14,25 +14,34 @@ use uid_names::{ByteList, FrameKind, NoMemory, NodeId, Place};
 pub enum Sample {
     Lock,
     PageOut,
+    /// A page that a home answers, in version 2.
+    Page,
+    /// The same, all whose bytes are zeros.
+    Blank,
 }
 
 /// The bytes of a frame from node 1 to node 2.
 fn put_frame(bytes: &mut ByteList, sample: Sample) -> Result<(), NoMemory> {
-    let (kind, rest): (u8, &[u8]) = match sample {
-        Sample::Lock => (4, &[2]),
-        Sample::PageOut => (
-            2,
-            &[0, 0, 0, 1, 0, 0, 0, 0, 0, 0, 0, 1, 0, 0, 0, 0, 0, 0, 0, 1],
-        ),
+    let (version, kind, first): (u8, u8, &[u8]) = match sample {
+        Sample::Lock => (1, 4, &[0, 0, 0, 0, 0, 0x20, 0, 2]),
+        Sample::PageOut => (1, 2, &[0, 0, 0, 0, 0, 0x20, 0, 2]),
+        Sample::Page | Sample::Blank => (2, 0x81, &[0, 0, 0, 0, 0, 0, 0, 1]),
     };
-    bytes.extend(&[1, kind, 1, 2, 1, 0, 0, 0])?;
+    bytes.extend(&[version, kind, 1, 2, 1, 0, 0, 0])?;
     bytes.extend(&[0, 0, 0, 0, 0, 0, 1, 9, 0, 0, 0, 0, 0, 0, 1, 9])?;
-    bytes.extend(&[0, 0, 0, 0, 0, 0x20, 0, 2])?;
-    bytes.extend(rest)?;
-    if kind == 2 {
-        bytes.extend(&[7; 1024])?;
+    bytes.extend(first)?;
+    match sample {
+        Sample::Lock => bytes.push(2),
+        Sample::PageOut => {
+            bytes.extend(&[0, 0, 0, 1, 0, 0, 0, 0, 0, 0, 0, 1, 0, 0, 0, 0, 0, 0, 0, 1])?;
+            bytes.extend(&[7; 1024])
+        }
+        Sample::Page => {
+            bytes.push(1)?;
+            bytes.extend(&[7; 1024])
+        }
+        Sample::Blank => bytes.push(0),
     }
-    Ok(())
 }
 
 fn frame(alloc: Global, sample: Sample) -> Result<ByteList, NoMemory> {

@@ -29,14 +29,14 @@ fn page_of(uid: Uid, page: u32) -> Spot
     Spot::Of(uid, page % 1000 * 1024)
 }
 
-fn lock(uid: Uid) -> Op
+pub(crate) fn lock(uid: Uid) -> Op
     ensures { IsOp result }
 {
     let (mode, _number) = (Mode::Write, uid.number());
     Op::Lock { uid, mode }
 }
 
-fn unlock(uid: Uid) -> Op
+pub(crate) fn unlock(uid: Uid) -> Op
     ensures { IsOp result }
 {
     let _number = uid.number();
@@ -50,7 +50,7 @@ fn length(uid: Uid) -> Op
     Op::Length { uid }
 }
 
-fn store(alloc: Global, uid: Uid, page: u32) -> Result<Op, NoMemory>
+pub(crate) fn store(alloc: Global, uid: Uid, page: u32) -> Result<Op, NoMemory>
     ensures { IfOk result IsOp }
 {
     let bytes = ByteList::from_slice(alloc, b"12345678")?;
@@ -58,7 +58,7 @@ fn store(alloc: Global, uid: Uid, page: u32) -> Result<Op, NoMemory>
     Ok(Op::Store { spot, bytes })
 }
 
-fn load(uid: Uid, page: u32) -> Op
+pub(crate) fn load(uid: Uid, page: u32) -> Op
     ensures { IsOp result }
 {
     let (spot, count) = (page_of(uid, page), 8);

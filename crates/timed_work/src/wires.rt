@@ -31,7 +31,17 @@ fn body(alloc: Global, sample: Sample) -> Result<Body, NoMemory>
                 bytes,
             })
         }
+        Sample::Page => page(alloc, &[7; 1024]),
+        Sample::Blank => page(alloc, &[0; 1024]),
     }
+}
+
+/// A page that a home answers.
+fn page(alloc: Global, bytes: &[u8; 1024]) -> Result<Body, NoMemory>
+    ensures { IfOk result (IsBody 2) }
+{
+    let bytes = PageBytes::new(alloc, bytes)?;
+    Ok(Body::Page { stamp: 1, bytes })
 }
 
 /// A frame from node 1 to node 2.
@@ -40,7 +50,7 @@ fn frame(alloc: Global, sample: Sample) -> Result<Frame, NoMemory>
     ensures tick { IfOk result (λ m. m.tick < 2 ^ 40) }
 {
     let (from, to) = (process(1, 1).node(), process(2, 1).node());
-    Ok(Frame::new(from, to, 1, 9, 9, body(alloc, sample)?))
+    Ok(Frame::new(2, from, to, 1, 9, 9, body(alloc, sample)?))
 }
 
 /// 1 for the bytes of a frame.

@@ -73,6 +73,7 @@ fn node_of(
     let setup = NodeSetup {
         node,
         nodes: script.opening().nodes(),
+        wire: script.wire(),
         frames: script.nodes()[node.number() as usize - 1].frames,
         phases: script.phases(),
     };

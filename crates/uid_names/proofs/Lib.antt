@@ -10,5 +10,6 @@ pub mod Tables
 pub mod ListLemmas
 pub mod TextTables
 pub mod Codes
+pub mod Wires
 pub mod WrittenTables
 pub mod Failures

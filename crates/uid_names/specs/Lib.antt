@@ -10,4 +10,6 @@ pub mod Beginnings
 pub mod Segments
 pub mod Steps
 pub mod Rooms
+pub mod Wires
 pub mod Tables
+pub mod Each

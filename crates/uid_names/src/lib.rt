@@ -13,15 +13,16 @@ pub mod no_memory;
 pub mod opening;
 pub mod segment;
 pub mod table;
+pub mod wire;
 
 pub use byte_list::ByteList;
 pub use frame_kind::FrameKind;
 pub use ids::{BadUid, NodeId, Place, ProcId, Uid, UidSource};
 pub use item_list::ItemList;
 pub use limits::{
-    ENTRY_ROOM, LISTED_ROWS, MAX_LENGTH, MAX_NODES, MAX_PHASES, MAX_ROOM, NODE_PROCESSES,
-    PAGE_BYTES, PROCESS_LOCKS, PROCESS_MAPPINGS, PROCESSES, SCRIPT_BYTES, VOLUME_ROOM,
-    WRITTEN_ROOM,
+    ENTRY_ROOM, FIRST_ROOM, LISTED_ROWS, MAX_LENGTH, MAX_NODES, MAX_PHASES, MAX_ROOM,
+    NODE_PROCESSES, PAGE_BYTES, PROCESS_LOCKS, PROCESS_MAPPINGS, PROCESSES, SCRIPT_BYTES,
+    VOLUME_ROOM,
 };
 pub use lock_row::{LockRow, LockRows};
 pub use mode::{Mode, ObjKind, clash};
@@ -29,3 +30,4 @@ pub use no_memory::NoMemory;
 pub use opening::{Object, Opening};
 pub use segment::{SEGMENT_PAGES, SEGMENT_SIZE, SEGMENTS, segments};
 pub use table::{UidRow, UidTable};
+pub use wire::wire_room;

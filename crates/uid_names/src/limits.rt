@@ -4,13 +4,13 @@
 pub const PAGE_BYTES: usize = 1024;
 
 /// The greatest room of an object, in pages.
-pub const MAX_ROOM: u32 = 1024;
+pub const MAX_ROOM: u32 = 4096;
 
 /// The greatest length of an object, in bytes: all pages of the greatest room.
 pub const MAX_LENGTH: u32 = MAX_ROOM * PAGE_BYTES as u32;
 
-/// The greatest room that scripts and frames can write, in pages. It bounds these two formats alone.
-pub const WRITTEN_ROOM: u32 = 1024;
+/// The greatest room that scripts and frames of version 1 can write, in pages. Those of version 2 can write each room.
+pub const FIRST_ROOM: u32 = 1024;
 
 /// The room of a node's entry directory, in pages.
 pub const ENTRY_ROOM: u32 = 8;

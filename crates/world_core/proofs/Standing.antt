@@ -37,6 +37,7 @@ module _ {P : Type 0} (wants : P → Want) (becomes : P → Option Reply → P) 
         number = sym stands.number;
         nodes = sym stands.nodes;
         greatest = sym stands.greatest;
+        wire = sym stands.wire;
         phases = sym stands.phases;
         programs = same-programs;
         asks = λ p has. refl;

@@ -269,7 +269,7 @@ module _ (s : Setup) (setup : IsSetup s) (old : World) (c : Choice) (new : World
 
   kind : Kind g at_tick turn.is.step c.what turn.is.incoming
   kind =
-      did-kind g (setup-gives s setup n0 turn.is.node) at_tick (node-with g (old.nodes n0) at_tick own-node refl refl own-node.side own-node.home)
+      did-kind g (setup-gives s setup n0 turn.is.node) at_tick (node-with g (old.nodes n0) at_tick own-node refl refl own-node.side own-node.home own-node.within.side)
       (given-procs g (setup-gives s setup n0 turn.is.node).programs) c.what turn.is.incoming turn.is.step (next-received s old c new turn) (next-did s old c new turn.is)
 
   sends-more : SendsMore old new
@@ -485,7 +485,7 @@ module _ (s : Setup) (setup : IsSetup s) where
       let g = given s c.node in
       let own = turn.kept.nodes c.node turn.is.node in
       let note = did-note g (setup-gives s setup c.node turn.is.node) (ticked (old.nodes c.node) turn.is.incoming)
-      (node-with g (old.nodes c.node) (ticked (old.nodes c.node) turn.is.incoming) own refl refl own.side own.home)
+      (node-with g (old.nodes c.node) (ticked (old.nodes c.node) turn.is.incoming) own refl refl own.side own.home own.within.side)
       (given-procs g (setup-gives s setup c.node turn.is.node).programs) c.what turn.is.incoming turn.is.step (next-received s old c new turn) (next-did s old c new turn.is) in
       record { notes = subst (λ (w : World). AllByRecursion (λ x. IsFaultlessNote x.note) w.trace) (sym turn.is.world) (note, before.notes) }
 

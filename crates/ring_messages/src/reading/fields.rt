@@ -2,15 +2,15 @@
 //! behind it.
 ghost use Rattle.std.specs.Prelude.{◌≡◌, ◌≤◌};
 ghost use Rattle.uid_names.specs.Modes.{mode_of_code, object_of_code};
+ghost use Rattle.uid_names.specs.declared.limits.TheConstants.{MAX_ROOM};
 ghost use Rattle.ring_messages.specs.ReaderSteps.{Gives, end_at};
-ghost use Rattle.ring_messages.specs.ReaderFields.{byte_at, be32_at, be64_at, bytes_at, page_at, length_at, room_at, count_at, uid_of, own_of, proc_of, flag_of};
+ghost use Rattle.ring_messages.specs.ReaderFields.{byte_at, be32_at, be64_at, bytes_at, full_at, page_of_form as page_by_form, formed_at, whole_at, page_at, length_at, room_at, count_at, uid_of, own_of, proc_of, flag_of};
 
 use crate::frame::FrameFault;
-use crate::limits::WRITTEN_LENGTH;
 use crate::page_bytes::PageBytes;
 use byteorder::{BigEndian, ByteOrder};
 use std::alloc::Global;
-use uid_names::{Mode, NodeId, ObjKind, PAGE_BYTES, ProcId, Uid, WRITTEN_ROOM};
+use uid_names::{Mode, NodeId, ObjKind, PAGE_BYTES, ProcId, Uid};
 
 /// Nothing is left.
 #[tactic(auto, unfolding(crate::specs::ReaderSteps::end_at))]
@@ -56,7 +56,7 @@ pub(super) fn number64(bytes: &[u8]) -> Result<(u64, &[u8]), FrameFault>
 
 /// The bytes of a page.
 #[tactic(auto, unfolding(crate::specs::ReaderFields::bytes_at))]
-pub(super) fn page_bytes(alloc: Global, bytes: &[u8]) -> Result<(PageBytes, &[u8]), FrameFault>
+fn page_bytes(alloc: Global, bytes: &[u8]) -> Result<(PageBytes, &[u8]), FrameFault>
     ensures { Gives (λ x. (x.0, x.1.now)) result (bytes_at bytes.now) }
 {
     if bytes.len() < PAGE_BYTES {
@@ -69,39 +69,87 @@ pub(super) fn page_bytes(alloc: Global, bytes: &[u8]) -> Result<(PageBytes, &[u8
     Ok((page, rest))
 }
 
-/// The number of a page in its object.
+/// A page other than that of zeros.
+#[tactic(auto, unfolding(crate::specs::ReaderFields::full_at))]
+fn full_page(alloc: Global, bytes: &[u8]) -> Result<(PageBytes, &[u8]), FrameFault>
+    ensures { Gives (λ x. (x.0, x.1.now)) result (full_at bytes.now) }
+{
+    let (page, rest) = page_bytes(alloc, bytes)?;
+    if page.is_blank() {
+        return Err(FrameFault::BadFrame);
+    }
+    Ok((page, rest))
+}
+
+/// A page, by its form and the bytes behind that.
+#[tactic(auto, unfolding(crate::specs::ReaderFields::page_of_form, crate::specs::Spelling::blank_page))]
+fn page_of_form(alloc: Global, form: u8, bytes: &[u8]) -> Result<(PageBytes, &[u8]), FrameFault>
+    ensures { Gives (λ x. (x.0, x.1.now)) result (page_by_form form bytes.now) }
+{
+    match form {
+        0 => Ok((PageBytes::new(alloc, &[0; PAGE_BYTES])?, bytes)),
+        1 => full_page(alloc, bytes),
+        _ => Err(FrameFault::BadFrame),
+    }
+}
+
+#[tactic(auto, unfolding(crate::specs::ReaderFields::formed_at))]
+fn formed_page(alloc: Global, bytes: &[u8]) -> Result<(PageBytes, &[u8]), FrameFault>
+    ensures { Gives (λ x. (x.0, x.1.now)) result (formed_at bytes.now) }
+{
+    let (form, rest) = byte(bytes)?;
+    page_of_form(alloc, form, rest)
+}
+
+/// The bytes of a page, as a version writes them.
+pub(super) fn whole_page(
+    alloc: Global,
+    version: u8,
+    bytes: &[u8],
+) -> Result<(PageBytes, &[u8]), FrameFault>
+    ensures { Gives (λ x. (x.0, x.1.now)) result (whole_at version bytes.now) }
+{
+    if version == 1 {
+        page_bytes(alloc, bytes)
+    } else {
+        formed_page(alloc, bytes)
+    }
+}
+
+/// The number of a page in its object, below this room.
 #[tactic(auto, unfolding(crate::specs::ReaderFields::page_at))]
-pub(super) fn page(bytes: &[u8]) -> Result<(u32, &[u8]), FrameFault>
-    ensures { Gives (λ x. (x.0, x.1.now)) result (page_at bytes.now) }
+pub(super) fn page(room: u32, bytes: &[u8]) -> Result<(u32, &[u8]), FrameFault>
+    ensures { Gives (λ x. (x.0, x.1.now)) result (page_at room bytes.now) }
 {
     let (page, rest) = number32(bytes)?;
-    if page < WRITTEN_ROOM {
+    if page < room {
         Ok((page, rest))
     } else {
         Err(FrameFault::BadFrame)
     }
 }
 
-/// A length in bytes.
+/// A length in bytes, within this room.
 #[tactic(auto, unfolding(crate::specs::ReaderFields::length_at))]
-pub(super) fn length(bytes: &[u8]) -> Result<(u32, &[u8]), FrameFault>
-    ensures { Gives (λ x. (x.0, x.1.now)) result (length_at bytes.now) }
+pub(super) fn length(room: u32, bytes: &[u8]) -> Result<(u32, &[u8]), FrameFault>
+    requires { room ≤ MAX_ROOM }
+    ensures { Gives (λ x. (x.0, x.1.now)) result (length_at room bytes.now) }
 {
     let (length, rest) = number32(bytes)?;
-    if length <= WRITTEN_LENGTH {
+    if length <= PAGE_BYTES as u32 * room {
         Ok((length, rest))
     } else {
         Err(FrameFault::BadFrame)
     }
 }
 
-/// A room in pages.
+/// A room in pages, up to this one.
 #[tactic(auto, unfolding(crate::specs::ReaderFields::room_at))]
-pub(super) fn room(bytes: &[u8]) -> Result<(u32, &[u8]), FrameFault>
-    ensures { Gives (λ x. (x.0, x.1.now)) result (room_at bytes.now) }
+pub(super) fn room(most: u32, bytes: &[u8]) -> Result<(u32, &[u8]), FrameFault>
+    ensures { Gives (λ x. (x.0, x.1.now)) result (room_at most bytes.now) }
 {
     let (room, rest) = number32(bytes)?;
-    if 1 <= room && room <= WRITTEN_ROOM {
+    if 1 <= room && room <= most {
         Ok((room, rest))
     } else {
         Err(FrameFault::BadFrame)

@@ -7,21 +7,21 @@ ghost use Rattle.uid_names.specs.declared.frame_kind.FrameKind.TheVariants as ki
 ghost use Rattle.ring_messages.specs.declared.body.Body.TheVariants as bodies;
 
 use super::fields::{
-    byte, count, end, flag, length, mode, number64, object, own, page, page_bytes, proc, room, uid,
+    byte, count, end, flag, length, mode, number64, object, own, page, proc, room, uid, whole_page,
 };
 use crate::frame::FrameFault;
 use crate::page_bytes::PageBytes;
 use std::alloc::Global;
-use uid_names::{Mode, NodeId, ObjKind, ProcId, Uid};
+use uid_names::{Mode, NodeId, ObjKind, ProcId, Uid, wire_room};
 
 /// The object, and the page.
 #[tactic(auto, unfolding(crate::specs::ReaderBodies::body_at))]
-pub(super) fn page_in(to: NodeId, bytes: &[u8]) -> Result<(Uid, u32), FrameFault>
-    ensures { Gives (λ x. bodies.PageIn x.0 x.1) result (body_at kinds.PageIn to bytes.now) }
+pub(super) fn page_in(version: u8, to: NodeId, bytes: &[u8]) -> Result<(Uid, u32), FrameFault>
+    ensures { Gives (λ x. bodies.PageIn x.0 x.1) result (body_at version kinds.PageIn to bytes.now) }
 {
     let (number, rest) = number64(bytes)?;
     let uid = own(to, number)?;
-    let (page, rest) = page(rest)?;
+    let (page, rest) = page(wire_room(version), rest)?;
     end(rest)?;
     Ok((uid, page))
 }
@@ -30,29 +30,34 @@ pub(super) fn page_in(to: NodeId, bytes: &[u8]) -> Result<(Uid, u32), FrameFault
 #[tactic(auto, unfolding(crate::specs::ReaderBodies::body_at))]
 pub(super) fn page_out(
     alloc: Global,
+    version: u8,
     to: NodeId,
     bytes: &[u8],
 ) -> Result<(Uid, u32, u64, u64, PageBytes), FrameFault>
-    ensures { Gives (λ x. bodies.PageOut x.0 x.1 x.2 x.3 x.4) result (body_at kinds.PageOut to bytes.now) }
+    ensures { Gives (λ x. bodies.PageOut x.0 x.1 x.2 x.3 x.4) result (body_at version kinds.PageOut to bytes.now) }
 {
     let (number, rest) = number64(bytes)?;
     let uid = own(to, number)?;
-    let (page, rest) = page(rest)?;
+    let (page, rest) = page(wire_room(version), rest)?;
     let (grant, rest) = count(rest)?;
     let (base, rest) = count(rest)?;
-    let (bytes, rest) = page_bytes(alloc, rest)?;
+    let (bytes, rest) = whole_page(alloc, version, rest)?;
     end(rest)?;
     Ok((uid, page, grant, base, bytes))
 }
 
 /// The object, the length, the grant, and the base.
 #[tactic(auto, unfolding(crate::specs::ReaderBodies::body_at))]
-pub(super) fn attr_out(to: NodeId, bytes: &[u8]) -> Result<(Uid, u32, u64, u64), FrameFault>
-    ensures { Gives (λ x. bodies.AttrOut x.0 x.1 x.2 x.3) result (body_at kinds.AttrOut to bytes.now) }
+pub(super) fn attr_out(
+    version: u8,
+    to: NodeId,
+    bytes: &[u8],
+) -> Result<(Uid, u32, u64, u64), FrameFault>
+    ensures { Gives (λ x. bodies.AttrOut x.0 x.1 x.2 x.3) result (body_at version kinds.AttrOut to bytes.now) }
 {
     let (number, rest) = number64(bytes)?;
     let uid = own(to, number)?;
-    let (length, rest) = length(rest)?;
+    let (length, rest) = length(wire_room(version), rest)?;
     let (grant, rest) = count(rest)?;
     let (base, rest) = count(rest)?;
     end(rest)?;
@@ -62,7 +67,7 @@ pub(super) fn attr_out(to: NodeId, bytes: &[u8]) -> Result<(Uid, u32, u64, u64),
 /// The object, and the mode.
 #[tactic(auto, unfolding(crate::specs::ReaderBodies::body_at))]
 pub(super) fn lock(to: NodeId, bytes: &[u8]) -> Result<(Uid, Mode), FrameFault>
-    ensures { Gives (λ x. bodies.Lock x.0 x.1) result (body_at kinds.Lock to bytes.now) }
+    ensures { (version : ℕ) → Gives (λ x. bodies.Lock x.0 x.1) result (body_at version kinds.Lock to bytes.now) }
 {
     let (number, rest) = number64(bytes)?;
     let uid = own(to, number)?;
@@ -75,8 +80,8 @@ pub(super) fn lock(to: NodeId, bytes: &[u8]) -> Result<(Uid, Mode), FrameFault>
 /// The object of an unlock or a removal.
 #[tactic(auto, unfolding(crate::specs::ReaderBodies::body_at))]
 pub(super) fn object_alone(to: NodeId, bytes: &[u8]) -> Result<Uid, FrameFault>
-    ensures unlock { Gives (λ u. bodies.Unlock u) result (body_at kinds.Unlock to bytes.now) }
-    ensures remove { Gives (λ u. bodies.Remove u) result (body_at kinds.Remove to bytes.now) }
+    ensures unlock { (version : ℕ) → Gives (λ u. bodies.Unlock u) result (body_at version kinds.Unlock to bytes.now) }
+    ensures remove { (version : ℕ) → Gives (λ u. bodies.Remove u) result (body_at version kinds.Remove to bytes.now) }
 {
     let (number, rest) = number64(bytes)?;
     let uid = own(to, number)?;
@@ -86,12 +91,12 @@ pub(super) fn object_alone(to: NodeId, bytes: &[u8]) -> Result<Uid, FrameFault>
 
 /// The kind, and the room.
 #[tactic(auto, unfolding(crate::specs::ReaderBodies::body_at))]
-pub(super) fn make(bytes: &[u8]) -> Result<(ObjKind, u32), FrameFault>
-    ensures { (to : ℕ) → Gives (λ x. bodies.Make x.0 x.1) result (body_at kinds.Make to bytes.now) }
+pub(super) fn make(version: u8, bytes: &[u8]) -> Result<(ObjKind, u32), FrameFault>
+    ensures { (to : ℕ) → Gives (λ x. bodies.Make x.0 x.1) result (body_at version kinds.Make to bytes.now) }
 {
     let (code, rest) = byte(bytes)?;
     let kind = object(code)?;
-    let (room, rest) = room(rest)?;
+    let (room, rest) = room(wire_room(version), rest)?;
     end(rest)?;
     Ok((kind, room))
 }
@@ -120,7 +125,7 @@ fn after(
 /// The row behind which the rows begin, if there is one.
 #[tactic(auto, unfolding(crate::specs::ReaderBodies::body_at))]
 pub(super) fn list(bytes: &[u8]) -> Result<Option<(Uid, ProcId)>, FrameFault>
-    ensures { (to : ℕ) → Gives (λ after. bodies.List after) result (body_at kinds.List to bytes.now) }
+    ensures { (version to : ℕ) → Gives (λ after. bodies.List after) result (body_at version kinds.List to bytes.now) }
 {
     let (code, rest) = byte(bytes)?;
     let is_there = flag(code)?;

@@ -63,7 +63,7 @@ fn rise(rows: &[LockRow]) -> bool
 /// The rows, and whether more follow.
 #[tactic(auto, unfolding(crate::specs::ReaderBodies::body_at, crate::specs::ReaderBodies::listed_at))]
 pub(super) fn listed(alloc: Global, bytes: &[u8]) -> Result<(LockRows, bool), FrameFault>
-    ensures { (to : ℕ) → Gives (λ x. bodies.Listed x.0 x.1) result (body_at kinds.Listed to bytes.now) }
+    ensures { (version to : ℕ) → Gives (λ x. bodies.Listed x.0 x.1) result (body_at version kinds.Listed to bytes.now) }
 {
     let (count, rest) = byte(bytes)?;
     let (code, rest) = byte(rest)?;

@@ -1,7 +1,7 @@
 -- The script of a seed as far as it has come.
-use Rattle.std.specs.Prelude.{ℕ, ◌≡◌, ◌+◌, false, List, [], ◌++◌, length, map}
+use Rattle.std.specs.Prelude.{ℕ, ◌≡◌, ◌+◌, None, false, List, [], ◌++◌, length, map}
 use Rattle.std.specs.List.{AllByRecursion, range_with_len}
-use Rattle.uid_names.specs.declared.limits.TheConstants.{MAX_ROOM}
+use Rattle.uid_names.specs.Wires.{wire_room}
 use Rattle.script_reader.specs.Arguments.{Given, Var, Offset, Count, Text, Mode}
 use Rattle.script_reader.specs.Commands.{IsCount, IsOffset, arguments_of}
 use Rattle.script_maker.specs.Generated.{generated_node, generated_object, generated_var, generated_commands}
@@ -12,8 +12,9 @@ use Rattle.script_reader.specs.declared.script.CommandRow.{CommandRow}
 -- so many nodes
 abbrev pub nodes_begun : ℕ → Content
 nodes_begun n = record {
+  said_wire = None;
   nodes = map generated_node (range_with_len 1 n);
-  opening = record { nodes = n; greatest = MAX_ROOM; objects = [] };
+  opening = record { nodes = n; greatest = wire_room 1; objects = [] };
   objects = [];
   plan = [];
   access = false;
@@ -25,8 +26,9 @@ nodes_begun n = record {
 -- all nodes, and so many objects
 abbrev pub objects_begun : ℕ → Content
 objects_begun n = record {
+  said_wire = None;
   nodes = map generated_node (range_with_len 1 8);
-  opening = record { nodes = 8; greatest = MAX_ROOM; objects = map generated_object (range_with_len 0 n) };
+  opening = record { nodes = 8; greatest = wire_room 1; objects = map generated_object (range_with_len 0 n) };
   objects = map generated_var (range_with_len 0 n);
   plan = [];
   access = false;

@@ -3,11 +3,12 @@ use Rattle.std.specs.Prelude.{ℕ, ◌≡◌, ◌≤◌, false, Some, IfSome, Li
 use Rattle.std.specs.List.{AllByRecursion}
 use Rattle.std.specs.Prelude.{bytes_eq}
 use Rattle.uid_names.specs.Rooms.{IsRoom}
+use Rattle.uid_names.specs.Wires.{IsWire}
 use Rattle.uid_names.specs.declared.limits.TheConstants.{NODE_PROCESSES}
 use Rattle.script_reader.specs.Arguments.{Said, Var, NewVar, Room, Offset, Count, Address, Text, Message, Mode, Home, HomeNode, OptionalRoom, Path, OptionalPath}
 use Rattle.script_reader.specs.Commands.{IsOffset, IsCount, IsAddress}
 use Rattle.script_reader.specs.Scripts.{Content}
-use Rattle.script_reader.specs.Sayings.{Saying, Node, Object, Fault, Subject, Does, SaidFate, Lose, Twice, Late}
+use Rattle.script_reader.specs.Sayings.{Saying, Wire, Node, Object, Fault, Subject, Does, SaidFate, Lose, Twice, Late}
 use Rattle.script_reader.specs.Shapes.{shape_of}
 use Rattle.script_reader.specs.declared.words.Kind.{Kind}
 use Rattle.script_reader.specs.declared.words.Kind.TheVariants as kind
@@ -63,6 +64,7 @@ IsFateFound (Late late) = IfSome late IsLate
 -- what the test of a line's form leaves: a number that was found is in its range, a link joins two words, and arguments
 -- are of the kinds of their verb
 abbrev pub HasForm : Saying → Type 0
+HasForm (Wire version) = IfSome version IsWire
 HasForm (Node name frames) = IfSome frames AreFrames
 HasForm (Object var room home) = IfSome room IsRoom
 HasForm (Fault from to index fate) = (bytes_eq from to ≡ false) × (IfSome index IsIndex × IsFateFound fate)

@@ -1,7 +1,7 @@
 -- The nodes that a line names, each looked up once.
 use Rattle.std.specs.Prelude.{ℕ, ◌≡◌, ◌≤◌, is_some, Option, IfSome, List, length}
 use Rattle.script_reader.specs.NodeNames.{is_node_name, node_number}
-use Rattle.script_reader.specs.Sayings.{Saying, Node, Object, Fault, Phase, Access, Subject, Does}
+use Rattle.script_reader.specs.Sayings.{Saying, Wire, Node, Object, Fault, Phase, Access, Subject, Does}
 use Rattle.script_reader.specs.declared.draft.LineNodes.{LineNodes}
 use Rattle.script_reader.specs.declared.script.NodeRow.{NodeRow}
 
@@ -14,6 +14,7 @@ pub record IsNodeOf (nodes : List NodeRow) (name : List ℕ) (found : Option ℕ
 
 -- what was found of the nodes that a line names
 abbrev pub AreNodesOf : List NodeRow → Saying → LineNodes → Type 0
+AreNodesOf nodes (Wire version) found = Unit {0}
 AreNodesOf nodes (Node name frames) found = IsNodeOf nodes name found.first
 AreNodesOf nodes (Object var room home) found = IsNodeOf nodes home found.first
 AreNodesOf nodes (Fault from to index fate) found = IsNodeOf nodes from found.first × IsNodeOf nodes to found.second

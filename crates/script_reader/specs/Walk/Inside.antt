@@ -1,5 +1,5 @@
 -- What a script holds beside its content, so that nobody goes over all rows.
-use Rattle.std.specs.Prelude.{ℕ, Bool, List}
+use Rattle.std.specs.Prelude.{ℕ, Bool, Option, List}
 use Rattle.uid_names.specs.Openings.{Start}
 use Rattle.dom_history.specs.declared.plan.FateRow.{FateRow}
 use Rattle.script_reader.specs.Scripts.{Content, IsContent}
@@ -12,8 +12,9 @@ use Rattle.script_reader.specs.declared.script.CommandRow.{CommandRow}
 use Rattle.script_reader.specs.declared.script.SubjectRow.{SubjectRow}
 
 -- the content of these parts
-abbrev pub content_made : List NodeRow → Start → List VarRow → List FateRow → Bool → List SubjectRow → ℕ → List CommandRow → Content
-content_made nodes opening objects plan access subjects phases commands = record {
+abbrev pub content_made : Option ℕ → List NodeRow → Start → List VarRow → List FateRow → Bool → List SubjectRow → ℕ → List CommandRow → Content
+content_made said_wire nodes opening objects plan access subjects phases commands = record {
+  said_wire = said_wire;
   nodes = nodes;
   opening = opening;
   objects = objects;
@@ -26,7 +27,7 @@ content_made nodes opening objects plan access subjects phases commands = record
 
 -- the content of a script
 abbrev pub content_within : Inside → Content
-content_within s = record { nodes = s.nodes.items; opening = s.opening; objects = s.objects.items; plan = s.plan; access = s.access; subjects = s.subjects.items; phases = s.phases; commands = s.commands.items }
+content_within s = record { said_wire = s.said_wire; nodes = s.nodes.items; opening = s.opening; objects = s.objects.items; plan = s.plan; access = s.access; subjects = s.subjects.items; phases = s.phases; commands = s.commands.items }
 
 pub record HoldsScript (s : Inside) : Type 0 where
   pub content : IsContent (content_within s)

@@ -6,13 +6,13 @@ use Rattle.dom_text.specs.declared.token.Token.{Token}
 use Rattle.dom_text.specs.declared.token.TokenRef.{TokenRef}
 use Rattle.dom_text.specs.declared.token.Token.TheVariants.{Word, Text as TextToken}
 use Rattle.script_reader.specs.Arguments.{Said, Var, NewVar, Room, Offset, Count, Address, Text, Message, Mode, Home, HomeNode, OptionalRoom, Path, OptionalPath}
-use Rattle.script_reader.specs.Sayings.{Saying, Node, Object, Fault, Phase, Access, Subject, Does, SaidFate, Lose, Twice, Late}
+use Rattle.script_reader.specs.Sayings.{Saying, Wire, Node, Object, Fault, Phase, Access, Subject, Does, SaidFate, Lose, Twice, Late}
 use Rattle.script_reader.specs.declared.line.LineFate.{LineFate}
 use Rattle.script_reader.specs.declared.line.LineFate.TheVariants.{Lose as LoseOfLine, Twice as TwiceOfLine, Late as LateOfLine}
 use Rattle.script_reader.specs.declared.arguments.Argument.{Argument as ArgumentOfLine}
 use Rattle.script_reader.specs.declared.arguments.Argument.TheVariants as words
 use Rattle.script_reader.specs.declared.line.Line.{Line}
-use Rattle.script_reader.specs.declared.line.Line.TheVariants.{Node as NodeLine, Object as ObjectLine, Fault as FaultLine, Phase as PhaseLine, Access as AccessLine, Subject as SubjectLine, Does as DoesLine}
+use Rattle.script_reader.specs.declared.line.Line.TheVariants.{Wire as WireLine, Node as NodeLine, Object as ObjectLine, Fault as FaultLine, Phase as PhaseLine, Access as AccessLine, Subject as SubjectLine, Does as DoesLine}
 
 abbrev pub seen_option : Option (Bor (List ℕ)) → Option (List ℕ)
 seen_option None = None
@@ -52,6 +52,7 @@ abbrev pub seen_arguments : List ArgumentOfLine → List Said
 seen_arguments arguments = map seen_argument arguments
 
 abbrev pub seen : Line → Saying
+seen (WireLine version) = Wire version
 seen (NodeLine name frames) = Node name.now frames
 seen (ObjectLine var room home) = Object var.now room home.now
 seen (FaultLine from to index fate) = Fault from.now to.now index (seen_fate fate)

@@ -1,9 +1,17 @@
-use Rattle.std.proofs.Common.{◌≡◌, ◌≤◌, ◌∙◌, ◌∷◌, [], ap, sym, subst}
+use Rattle.std.proofs.Common.{◌≡◌, ◌≤◌, ◌∙◌, ◌∷◌, [], ap, sym, subst, arith}
 use Rattle.std.specs.Prelude.{IfOk}
+use Rattle.uid_names.specs.Openings.{Start}
+use Rattle.uid_names.specs.Wires.{wire_room}
+use Rattle.uid_names.proofs.Wires.{wire_room-least}
 use Rattle.count_up.specs.Counters.{first_counter}
 use Rattle.count_up.specs.Counting.{team, IsCounting}
 use Rattle.count_up.proofs.Setting.{node_made}
 use Rattle.count_up.proofs.nodes.counting_node.Goals as goal
+
+pub new-requires-2-clause-rooms : goal.new-requires-2-clause-rooms
+new-requires-2-clause-rooms c =
+    let least = wire_room-least 2 in
+    subst (λ (o : Start). o.greatest ≤ wire_room 2) (sym c.in_ok-start.ensures) (omega (arith, least))
 
 pub returns : goal.returns
 returns c =

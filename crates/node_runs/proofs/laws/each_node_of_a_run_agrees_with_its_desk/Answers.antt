@@ -6,4 +6,5 @@ returns c = record {
   nodes = λ s setup cs w e timely n node. ((run-keeps s setup cs w e).kept timely).nodes n node;
   frames = λ s setup cs w e timely. ((run-keeps s setup cs w e).kept timely).frames;
   events = λ s setup cs w e timely. ((run-keeps s setup cs w e).kept timely).events;
+  wire = λ s setup cs w e. (run-keeps s setup cs w e).wire;
 }

@@ -4,7 +4,7 @@ use Rattle.ring_messages.proofs.writing.write.Goals as goal
 
 pub returns : goal.returns
 returns c =
-    let behind = λ (r : List ℕ). r ++ body_bytes c.args.frame.now.body in
+    let behind = λ (r : List ℕ). r ++ body_bytes c.args.frame.now.version c.args.frame.now.body in
     let head = header (head_of c.args.frame.now) in
     record {
       spelled = record {

@@ -1,4 +1,7 @@
-use Rattle.std.proofs.Common.{◌≡◌, ◌+◌, ◌%◌, ap, ◌∙◌, arith}
+use Rattle.std.proofs.Common.{◌≡◌, ◌≤◌, ◌+◌, ◌%◌, ap, sym, subst, ◌∙◌, arith}
+use Rattle.uid_names.specs.Wires.{wire_room}
+use Rattle.uid_names.proofs.Wires.{wire_room-least}
+use Rattle.script_reader.specs.Scripts.{Content, wire_of}
 use Rattle.script_reader.specs.Words.{is_name}
 use Rattle.script_maker.proofs.Adding.{object_added, object_name_free, object_room}
 use Rattle.script_maker.proofs.Generating.{object_name_is}
@@ -9,6 +12,11 @@ add_object-requires-clause-name c = ap is_name (c.bytes.ensures ∙ c.in_ok-name
 
 pub add_object-requires-clause-new : goal.add_object-requires-clause-new
 add_object-requires-clause-new c = object_name_free c.loop-at.draft c.loop-at.at c.bytes.result.now c.loop-at.invariant (c.bytes.ensures ∙ c.in_ok-name.ensures) c.loop-at-test.true
+
+pub add_object-requires-clause-low : goal.add_object-requires-clause-low
+add_object-requires-clause-low c =
+    let least = wire_room-least 1 in
+    subst (λ (s : Content). 4 ≤ wire_room (wire_of s)) (sym c.loop-at.invariant) (omega (arith, least))
 
 pub add_object-requires-clause-fits : goal.add_object-requires-clause-fits
 add_object-requires-clause-fits c =

@@ -7,5 +7,5 @@ use Rattle.script_reader.proofs.arguments.have_numbers.Goals as goal
 
 pub returns : goal.returns
 returns c =
-    let all : IsTrue c.all.result ↔ All (λ a. IsTrue (has_number (seen_argument a))) c.args.arguments.now = search rules in
-    all_seen has_number c.args.arguments.now c.all.result all
+    let all : IsTrue c.all.result ↔ All (λ a. IsTrue (has_number c.args.wire (seen_argument a))) c.args.arguments.now = search rules in
+    all_seen (has_number c.args.wire) c.args.arguments.now c.all.result all

@@ -10,7 +10,7 @@ use Rattle.node_core.proofs.Leading.{led-sent, same-frame}
 use Rattle.node_core.proofs.machine.Machine.asks.Goals as goal
 
 pub returns : goal.returns
-returns g c given op stage number wanted =
+returns g c given op stage number wire wanted =
     let m = c.args.self.now in
     let p = c.args.proc.number in
     let i = c.index_of.result in
@@ -25,7 +25,7 @@ returns g c given op stage number wanted =
     let call = next_call (proc_of (state_of m) p) c.args.home ask in
     let frame : c.new-frame.result ≡ request given (state_of m) p call =
     c.new-frame.ensures
-    ∙ same-frame c.node-from.result given.number c.args.home c.number.result p c.in_ok-number.number call.waiting.number m.tick c.into_body-body.result (body_of_ask ask) (c.node-from.ensures ∙ sym number) c.number.ensures.value
+    ∙ same-frame c.wire-version.result given.wire c.node-from.result given.number c.args.home c.number.result p c.in_ok-number.number call.waiting.number m.tick c.into_body-body.result (body_of_ask ask) (c.wire-version.ensures.value ∙ sym wire) (c.node-from.ensures ∙ sym number) c.number.ensures.value
     (c.in_ok-number.ensures.number ∙ ap (λ (r : ProcState). r.last + 1) (sym here)) c.into_body-body.ensures in
     led-sent g.P.Program.spent g.P.Program.wants g.P.Program.becomes m c.sends.new.self (set m.procs i c.call.new.self) c.sends.new.done c.new-frame.result (request given (state_of m) p call)
     (with_proc (state_of m) p (called (proc_of (state_of m) p)))

@@ -33,6 +33,12 @@ begins-requires-clause-wanted g c =
     let own : want_at m.procs p ≡ Do c.in-Do.field-0 = want-is m.procs i p d c.index_of.ensures.value inside ∙ c.in-Do.is in
     subst IsWanted (sym own) (subst IsWant own (c.requires.before.within.wanted p))
 
+pub begins-requires-clause-low : goal.begins-requires-clause-low
+begins-requires-clause-low g c = c.requires.before.node.within.desk
+
+pub begins-requires-clause-rooms : goal.begins-requires-clause-rooms
+begins-requires-clause-rooms g c = c.requires.before.given.wire.rooms
+
 pub returns-in-Do : goal.returns-in-Do
 returns-in-Do g c =
     let m = c.args.self.now in

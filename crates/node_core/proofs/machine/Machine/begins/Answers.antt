@@ -19,6 +19,7 @@ begins_new-requires g c =
       program = c.requires.program;
       wanted = wanted;
       room = (subst IsWanted wanted c.requires.wanted).1;
+      rooms = c.requires.rooms;
     }
 
 pub returns-in-Do-New : goal.returns-in-Do-New
@@ -56,6 +57,9 @@ begins_lock-requires g c =
       program = c.requires.program;
       wanted = wanted;
       range = subst IsWanted wanted c.requires.wanted;
+      process = c.index_of.ensures.process;
+      desk = c.requires.desk;
+      low = c.requires.low;
       idle = c.requires.idle;
     }
 
@@ -76,6 +80,9 @@ begins_unlock-requires g c =
       program = c.requires.program;
       wanted = wanted;
       range = subst IsWanted wanted c.requires.wanted;
+      process = c.index_of.ensures.process;
+      desk = c.requires.desk;
+      low = c.requires.low;
       idle = c.requires.idle;
     }
 
@@ -96,6 +103,9 @@ begins_delete-requires g c =
       program = c.requires.program;
       wanted = wanted;
       range = subst IsWanted wanted c.requires.wanted;
+      process = c.index_of.ensures.process;
+      desk = c.requires.desk;
+      low = c.requires.low;
       idle = c.requires.idle;
     }
 

@@ -2,7 +2,9 @@ use Rattle.std.proofs.Common.{sym, subst, refl, ◌∙◌, false, List, [], ℕ}
 use Rattle.std.proofs.lemmas.Result.{IfOk-weaker}
 use Rattle.uid_names.specs.Names.{ObjectName}
 use Rattle.dom_history.specs.declared.op.Reply.TheVariants.{Locks}
-use Rattle.ring_messages.specs.Bodies.{Ask}
+use Rattle.uid_names.specs.Wires.{wire_room}
+use Rattle.ring_messages.specs.Bodies.{Ask, body_of_ask}
+use Rattle.ring_messages.specs.Ranges.{LiesWithin}
 use Rattle.fault_handler.specs.Outcomes.{Turn, ended}
 use Rattle.fault_handler.specs.Accesses.{Accessed}
 use Rattle.node_runs.specs.Operations.{list_by, asking_home}
@@ -15,6 +17,9 @@ use Rattle.node_core.specs.Processes.{want_at}
 use Rattle.node_core.proofs.Turning.{do-same, moves-settled}
 use Rattle.uid_names.specs.declared.lock_row.LockRow.{LockRow}
 use Rattle.node_core.proofs.machine.Machine.begins_list.Goals as goal
+
+pub asks-requires-clause-within : goal.asks-requires-clause-within
+asks-requires-clause-within g c = subst (λ (ask : Ask). LiesWithin (wire_room c.args.self.now.server.wire) (body_of_ask ask)) (sym c.from_body-request.ensures) tt
 
 pub returns-then-is_node : goal.returns-then-is_node
 returns-then-is_node g c =

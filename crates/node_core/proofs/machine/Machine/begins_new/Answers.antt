@@ -1,8 +1,14 @@
-use Rattle.std.proofs.Common.{sym, subst, refl, ◌∙◌, List, [], ℕ}
+use Rattle.std.proofs.Common.{sym, subst, refl, ◌∙◌, List, [], ℕ, arith}
+use Rattle.std.specs.Prelude.{nat_le}
+use Rattle.std.proofs.lemmas.Bool.Decides.{nat_tests}
 use Rattle.std.proofs.lemmas.Result.{IfOk-weaker}
 use Rattle.uid_names.specs.Names.{ObjectName}
 use Rattle.dom_history.specs.declared.op.Reply.TheVariants.{NoSpace}
-use Rattle.ring_messages.specs.Bodies.{Ask}
+use Rattle.uid_names.specs.Wires.{wire_room}
+use Rattle.uid_names.proofs.Passed.{right-true}
+use Rattle.dom_history.specs.Objects.{is_node}
+use Rattle.ring_messages.specs.Bodies.{Ask, body_of_ask}
+use Rattle.ring_messages.specs.Ranges.{LiesWithin}
 use Rattle.fault_handler.specs.Outcomes.{Turn, ended}
 use Rattle.fault_handler.specs.Accesses.{Accessed}
 use Rattle.node_runs.specs.Operations.{new_by, asking_home}
@@ -14,6 +20,14 @@ use Rattle.node_runs.specs.Operations.{begun as begun_as}
 use Rattle.node_core.specs.Processes.{want_at}
 use Rattle.node_core.proofs.Turning.{do-same, moves-settled}
 use Rattle.node_core.proofs.machine.Machine.begins_new.Goals as goal
+
+pub asks-requires-clause-within : goal.asks-requires-clause-within
+asks-requires-clause-within g c =
+    let m = c.args.self.now in
+    let opening : Start = record { nodes = m.desk.nodes; greatest = m.greatest; objects = [] } in
+    let low = right-true (is_node opening c.args.home) (nat_le c.args.room m.greatest) (sym (sym c.if-may_make.true ∙ c.may_make.ensures)) in
+    let rooms = c.requires.rooms in
+    subst (λ (ask : Ask). LiesWithin (wire_room m.server.wire) (body_of_ask ask)) (sym c.from_body-request.ensures) (grind (arith, nat_tests, low, rooms))
 
 pub returns-then-may_make : goal.returns-then-may_make
 returns-then-may_make g c =

@@ -1,4 +1,4 @@
-use Rattle.std.proofs.Common.{IsSome, [], sym, subst, refl}
+use Rattle.std.proofs.Common.{IsSome, [], sym, subst, refl, arith}
 use Rattle.std.proofs.lemmas.Result.{IfOk-weaker}
 use Rattle.lock_validate.specs.Releases.{begin_unlock_of}
 use Rattle.fault_handler.specs.Next.{FitsTurn}
@@ -6,9 +6,12 @@ use Rattle.uid_names.specs.Openings.{Start}
 use Rattle.dom_history.specs.declared.op.Op.{Op}
 use Rattle.dom_history.specs.declared.op.Op.TheVariants as ops
 use Rattle.node_runs.specs.Operations.{begun as begun_as}
+use Rattle.uid_names.specs.Wires.{wire_room}
+use Rattle.node_runs.proofs.Keeping.{begun-within}
 use Rattle.node_core.specs.DeskMoves.{move_seen}
 use Rattle.node_core.specs.Processes.{want_at}
 use Rattle.node_core.specs.Outcomes.{Moves}
+use Rattle.node_core.proofs.Bounding.{step-within}
 use Rattle.node_core.proofs.Turning.{do-same, step-seen, moves-stepped}
 use Rattle.node_core.proofs.machine.Machine.begins_unlock.Goals as goal
 
@@ -23,6 +26,15 @@ moves-requires-clause-fits g c op wanted =
 
 pub moves-requires-clause-asks : goal.moves-requires-clause-asks
 moves-requires-clause-asks g c = c.in_ok-step.ensures.asks (move_seen c.of_step.result) c.of_step.ensures
+
+pub moves-requires-clause-within : goal.moves-requires-clause-within
+moves-requires-clause-within g c =
+    let m = c.args.self.now in
+    let room = wire_room m.server.wire in
+    let nothing : Start = record { nodes = 0; greatest = 0; objects = [] } in
+    step-within room c.begin_unlock.new.desk (begin_unlock_of c.args.self.now.desk c.args.proc.number c.args.uid) c.in_ok-step.step (move_seen c.of_step.result)
+    (begun-within room m.desk c.args.proc.number c.requires.desk c.requires.process c.requires.low nothing (ops.Unlock c.args.uid) (omega arith) c.requires.idle c.requires.range)
+    c.in_ok-step.ensures.outcome c.of_step.ensures
 
 pub returns : goal.returns
 returns g c =

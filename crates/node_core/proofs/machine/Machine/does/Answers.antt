@@ -10,7 +10,7 @@ use Rattle.node_core.specs.Receivings.{seen}
 use Rattle.node_core.specs.Processes.{want_at}
 use Rattle.node_core.specs.Machines.{given_of, state_of}
 use Rattle.node_core.specs.Outcomes.{Does}
-use Rattle.node_core.proofs.Keeping.{begin-at, go-at, notice-at, ready-at, mark-at}
+use Rattle.node_core.proofs.Keeping.{begin-at, go-at, take-at, notice-at, ready-at, mark-at}
 use Rattle.node_core.proofs.machine.Machine.does.Goals as goal
 
 pub proc-requires : goal.proc-requires
@@ -22,6 +22,16 @@ pub proc-requires-in-Go : goal.proc-requires-in-Go
 proc-requires-in-Go g c =
     let m = c.args.self.now in
     given-procs (given_of m) c.requires.before.given.programs c.in-Go.p (go-at (given_of m) (state_of m) c.in-Go.p c.args.what.now (seen c.args.incoming.now) c.in-Go.is c.requires.enabled).1
+
+pub take-requires-clause-here : goal.take-requires-clause-here
+take-requires-clause-here g c =
+    let m = c.args.self.now in
+    (take-at (given_of m) (state_of m) c.in-Take.field-0 c.in-Take.field-1 _ c.args.what.now (seen c.args.incoming.now) c.in-Take.is (ap seen c.in-Frame.is) c.requires.enabled).0
+
+pub take-requires-clause-version : goal.take-requires-clause-version
+take-requires-clause-version g c =
+    let m = c.args.self.now in
+    (take-at (given_of m) (state_of m) c.in-Take.field-0 c.in-Take.field-1 _ c.args.what.now (seen c.args.incoming.now) c.in-Take.is (ap seen c.in-Frame.is) c.requires.enabled).1
 
 pub proc-requires-in-Notice : goal.proc-requires-in-Notice
 proc-requires-in-Notice g c =

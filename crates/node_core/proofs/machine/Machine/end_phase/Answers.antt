@@ -23,7 +23,7 @@ returns g c s is =
     let effects = λ (x : List (ObjectName × ℕ)). let e : Effects = record { dropped = x; sent = None; ended = None } in e in
     subst (λ x. Led g.P.Program.spent g.P.Program.wants g.P.Program.becomes old new c.quiet.new.done x) (same_Some _ s is)
     (led-untold g.P.Program.spent g.P.Program.wants g.P.Program.becomes old new c.quiet.new.done _ c.requires.before.within
-    (ap (λ m. m.programs) c.pass_phase.ensures.same) (ap (λ m. m.procs) c.pass_phase.ensures.same) (ap (λ m. m.greatest) c.pass_phase.ensures.same) (ap (λ m. m.phases) c.pass_phase.ensures.same)
+    (ap (λ m. m.programs) c.pass_phase.ensures.same) (ap (λ m. m.procs) c.pass_phase.ensures.same) (ap (λ m. m.greatest) c.pass_phase.ensures.same) (ap (λ m. m.phases) c.pass_phase.ensures.same) (ap (λ m. m.server.wire) c.pass_phase.ensures.same)
     (subst (λ m. m.server.tick ≤ m.tick) (sym c.pass_phase.ensures.same) c.requires.before.within.earlier)
     (subst (λ x. AreAlike x node) (sym c.pass_phase.ensures.state) (alike-itself node))
     (λ p. ap (λ qs. (at qs p first_proc).heard) (after-procs (given_of old) n) ∙ seen-silent old.procs p)

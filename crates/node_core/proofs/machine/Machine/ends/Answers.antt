@@ -13,7 +13,7 @@ use Rattle.node_core.proofs.Leading.{led-told}
 use Rattle.node_core.proofs.machine.Machine.ends.Goals as goal
 
 pub returns : goal.returns
-returns g c begun given op stage number wanted =
+returns g c begun given op stage number wire wanted =
     let m = c.args.self.now in
     let p = c.args.proc.number in
     let told = c.in_ok-tell.ensures in
@@ -32,5 +32,5 @@ returns g c begun given op stage number wanted =
     (ap (λ hs. Some c.args.reply ∷ hs) (seen-silent m.procs p))
     told.program told.others told.told told.wanted told.numbers (ap (λ (x : Done). x.frame) c.requires.fresh)
     (ap (λ (x : Done). sending x.effects.sent) c.requires.fresh ∙ ap (λ n. effects n c.of-word.result) c.number.ensures.value ∙ ap (effects p) c.of-word.ensures)
-    (ap (λ (x : Machine g.row.P.Denot g.row.G.Denot). x.greatest) told.same) (ap (λ (x : Machine g.row.P.Denot g.row.G.Denot). x.phases) told.same)
+    (ap (λ (x : Machine g.row.P.Denot g.row.G.Denot). x.greatest) told.same) (ap (λ (x : Machine g.row.P.Denot g.row.G.Denot). x.phases) told.same) (ap (λ (x : Machine g.row.P.Denot g.row.G.Denot). x.server.wire) told.same)
     (subst (λ (x : Machine g.row.P.Denot g.row.G.Denot). x.server.tick ≤ x.tick) (sym told.same) c.requires.at.earlier)

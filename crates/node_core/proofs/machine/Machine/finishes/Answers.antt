@@ -19,4 +19,4 @@ returns g c =
     led-some g.P.Program.spent g.P.Program.wants g.P.Program.becomes m _ c.quiet.new.done (finishes (given_of m) (state_of m) p)
     (led-still g.P.Program.spent g.P.Program.wants g.P.Program.becomes m _ c.quiet.new.done (finishes (given_of m) (state_of m) p) c.requires.before.within refl (λ r. ap (λ ws. get_or ws (r - 1) Phase) kept)
     (ap (λ ps. record (state_of m) { procs = ps }) (sym put)) (ap (λ d. d.frame) c.quiet.ensures) (ap (λ d. d.effects) c.quiet.ensures ∙ ap (λ ds. record { dropped = ds; sent = None; ended = None }) c.new.ensures)
-    refl refl c.requires.before.within.earlier)
+    refl refl refl c.requires.before.within.earlier)

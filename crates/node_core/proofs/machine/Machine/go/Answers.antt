@@ -13,6 +13,12 @@ use Rattle.node_core.proofs.Seen.{want-is, proc-is, open-wanted, doing-open}
 use Rattle.node_core.proofs.Turning.{does-goes_on}
 use Rattle.node_core.proofs.machine.Machine.go.Goals as goal
 
+pub begins-requires-clause-low : goal.begins-requires-clause-low
+begins-requires-clause-low g c = c.requires.before.node.within.desk
+
+pub begins-requires-clause-rooms : goal.begins-requires-clause-rooms
+begins-requires-clause-rooms g c = c.requires.before.given.wire.rooms
+
 pub returns : goal.returns
 returns g c =
     let m = c.args.self.now in

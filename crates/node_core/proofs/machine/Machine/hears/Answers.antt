@@ -1,7 +1,9 @@
-use Rattle.std.proofs.Common.{◌≡◌, ℕ, ◌==◌, true, false, rules, get_or, refl, ap, sym, ◌∙◌}
+use Rattle.std.proofs.Common.{◌≡◌, ℕ, ◌==◌, true, false, rules, get_or, refl, ap, sym, subst, ◌∙◌}
 use Rattle.std.proofs.lemmas.Result.{IfOk-weaker}
 use Rattle.uid_names.proofs.ListLemmas.{by_cases}
+use Rattle.uid_names.specs.Wires.{wire_room}
 use Rattle.uid_names.proofs.Passed.{equal}
+use Rattle.ring_messages.specs.Ranges.{LiesWithin}
 use Rattle.node_core.proofs.Taking.{program-there, range-there, call-there, none-led, page-led, other-led, heard-led}
 use Rattle.node_core.proofs.machine.Machine.hears.Goals as goal
 
@@ -26,6 +28,14 @@ hears_body-requires-clause-call g c =
     call-there g.P.Program.spent g.P.Program.wants g.P.Program.becomes c.args.self.now c.requires.before c.index_of.result c.caller-proc.result.number (get_or c.args.self.now.procs c.index_of.result c.index-self-index_of.result) c.index-self-index_of.result
     c.index_of.ensures.process c.index_of.ensures.bound c.index_of.ensures.value refl c.in-Some.field-0 (sym c.doing.ensures ∙ c.in-Some.is)
     c.in-Answer.call c.in-Answer.is
+
+pub hears_body-requires-clause-within : goal.hears_body-requires-clause-within
+hears_body-requires-clause-within g c =
+    let m = c.args.self.now in
+    subst (LiesWithin (wire_room m.server.wire)) (sym c.body.ensures.value) (subst (λ v. LiesWithin (wire_room v) c.args.frame.now.body) c.requires.version c.requires.frame.range.within)
+
+pub hears_body-requires-clause-low : goal.hears_body-requires-clause-low
+hears_body-requires-clause-low g c = c.requires.before.node.within.desk
 
 pub returns-in_default : goal.returns-in_default
 returns-in_default g c =

@@ -1,5 +1,7 @@
 use Rattle.std.proofs.Common.{subst}
 use Rattle.std.proofs.lemmas.Result.{IfOk-weaker}
+use Rattle.uid_names.specs.Wires.{wire_room}
+use Rattle.lock_validate.specs.Bounded.{AsksWithin}
 use Rattle.fault_handler.specs.Next.{FitsTurn, IsAsked}
 use Rattle.node_core.specs.declared.moves.DeskMove.{DeskMove}
 use Rattle.node_core.specs.DeskMoves.{move_seen}
@@ -14,6 +16,9 @@ ends-requires-clause-fits g c =
 
 pub asks-requires-clause-range : goal.asks-requires-clause-range
 asks-requires-clause-range g c = (subst (λ (x : DeskMove). IsAsked c.args.self.now.desk.nodes (move_seen x).turn) c.in-Asks.is c.requires.asks).1
+
+pub asks-requires-clause-within : goal.asks-requires-clause-within
+asks-requires-clause-within g c = subst (λ (x : DeskMove). AsksWithin (wire_room c.args.self.now.server.wire) (move_seen x).turn) c.in-Asks.is c.requires.within
 
 pub returns-in-Ends : goal.returns-in-Ends
 returns-in-Ends g c = rw c.in-Ends.is (IfOk-weaker c.ends.result _ _ (λ ok h. h c.args.begun) c.ends.ensures)

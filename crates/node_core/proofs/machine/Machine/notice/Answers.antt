@@ -12,7 +12,7 @@ use Rattle.node_core.specs.Processes.{IsWanted, want_at}
 use Rattle.node_core.specs.Machines.{IsAtEvent}
 use Rattle.node_core.specs.Outcomes.{Moves}
 use Rattle.node_core.proofs.Opening.{range-open, call-open}
-use Rattle.node_core.proofs.Noticing.{call-at, given-up-same, again-least, again-range, resent-led, gave_up-led}
+use Rattle.node_core.proofs.Noticing.{call-at, given-up-same, again-least, again-range, again-within, resent-led, gave_up-led}
 use Rattle.node_core.proofs.machine.Machine.notice.Goals as goal
 
 pub resends-requires-clause-number : goal.resends-requires-clause-number
@@ -34,6 +34,16 @@ resends-requires-clause-range g c =
     let it = call-at g.P.Program.spent g.P.Program.wants old c.requires.before p i d c.index_of.ensures.bound c.index_of.ensures.value c.requires.called in
     let again = (rw c.in-Some.is at c.in_ok-again.ensures.again) it.began it.call it.kept in
     again-range g.P.Program.spent g.P.Program.wants g.P.Program.becomes old c.requires.before p c.index_of.ensures.process it.began it.call it.doing c.in-Some.again again.0
+
+pub resends-requires-clause-within : goal.resends-requires-clause-within
+resends-requires-clause-within g c =
+    let old = c.args.self.now in
+    let p = c.args.proc.number in
+    let i = c.index_of.result in
+    let d = c.index-self-index_of.result in
+    let it = call-at g.P.Program.spent g.P.Program.wants old c.requires.before p i d c.index_of.ensures.bound c.index_of.ensures.value c.requires.called in
+    let again = (rw c.in-Some.is at c.in_ok-again.ensures.again) it.began it.call it.kept in
+    again-within g.P.Program.spent g.P.Program.wants g.P.Program.becomes old c.requires.before p c.index_of.ensures.process it.began it.call it.doing c.in-Some.again again.0
 
 pub returns-in-Some : goal.returns-in-Some
 returns-in-Some g c s comes =

@@ -48,5 +48,5 @@ returns g c =
     (ap (λ hs. None ∷ hs) (seen-silent m.procs p))
     told.program told.others told.told told.wanted told.numbers (ap (λ x. x.frame) c.quiet.ensures)
     (ap (λ x. x.effects) c.quiet.ensures ∙ ap (λ ds. record { dropped = ds; sent = None; ended = None }) c.new.ensures)
-    (ap (λ (x : Machine g.row.P.Denot g.row.G.Denot). x.greatest) told.same) (ap (λ (x : Machine g.row.P.Denot g.row.G.Denot). x.phases) told.same)
+    (ap (λ (x : Machine g.row.P.Denot g.row.G.Denot). x.greatest) told.same) (ap (λ (x : Machine g.row.P.Denot g.row.G.Denot). x.phases) told.same) (ap (λ (x : Machine g.row.P.Denot g.row.G.Denot). x.server.wire) told.same)
     (subst (λ (x : Machine g.row.P.Denot g.row.G.Denot). x.server.tick ≤ x.tick) (sym told.same) c.requires.before.within.earlier))

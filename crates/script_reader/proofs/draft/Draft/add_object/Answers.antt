@@ -2,11 +2,13 @@ use Rattle.std.proofs.Common.{rules, ◌≡◌, ◌≤◌, ◌+◌, ◌++◌, �
 use Rattle.uid_names.specs.declared.limits.TheConstants.{VOLUME_ROOM}
 use Rattle.uid_names.specs.declared.mode.ObjKind.TheVariants.{File}
 use Rattle.script_reader.specs.Walk.Index.{DeclaresAlso}
+use Rattle.uid_names.specs.Wires.{wire_room}
+use Rattle.script_reader.specs.Scripts.{wire_of}
 use Rattle.script_reader.specs.Limits.{pages_at}
 use Rattle.script_reader.specs.After.{next_uid}
 use Rattle.script_reader.specs.Variables.{is_declared}
 use Rattle.script_reader.specs.Words.{is_name}
-use Rattle.script_reader.proofs.Drafting.{count_is, count_small, held-object}
+use Rattle.script_reader.proofs.Drafting.{greatest_of, count_is, count_small, held-object}
 use Rattle.script_reader.proofs.draft.Draft.add_object.Goals as goal
 
 pub overflow_add-self : goal.overflow_add-self
@@ -31,4 +33,5 @@ invariant_of-self-2 c =
     let new : is_declared d.objects.items name ≡ false = ap (is_declared d.objects.items) c.in_ok-name.ensures ∙ (ap (λ t. is_declared t.objects c.args.var.now) c.self.view_is ∙ c.requires.new) in
     let none : d.commands.items ≡ [] = ap (λ t. t.commands) c.self.view_is ∙ c.requires.first in
     let fits : pages_at home d.starts.items + c.args.room ≤ VOLUME_ROOM = subst (λ t. pages_at home t.opening.objects + c.args.room ≤ VOLUME_ROOM) (sym c.self.view_is) c.requires.fits in
-    held-object d c.push.new.self c.push-2.new.self c.add.new.self name home c.args.room at uid c.self.invariant u c.number-range.ensures.name es eo also named c.home_index-at.ensures.least most c.home_index-at.ensures.value c.requires.room new none fits
+    let low : c.args.room ≤ greatest_of d = subst (λ t. c.args.room ≤ wire_room (wire_of t)) (sym c.self.view_is) c.requires.low in
+    held-object d c.push.new.self c.push-2.new.self c.add.new.self name home c.args.room at uid c.self.invariant u c.number-range.ensures.name es eo also named c.home_index-at.ensures.least most c.home_index-at.ensures.value c.requires.room low new none fits
