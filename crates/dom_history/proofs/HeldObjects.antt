@@ -1,10 +1,12 @@
 -- An object that a process holds was made.
 use Rattle.std.proofs.Common.{◌≡◌, Bool, true, false, List, [], ◌∷◌, ◌++◌, refl, sym, ◌∙◌, ap, inl, inr, ◌⊎◌}
-use Rattle.std.specs.Prelude.{find, is_some, not, if◌then◌else◌, Option, Some, None}
+use Rattle.std.specs.Prelude.{find, is_some, not, Option, Some, None, if◌then◌else◌}
+use Rattle.std.proofs.lemmas.Option.{none-some}
 use Rattle.uid_names.specs.Names.{ProcName, ObjectName, same_proc, same_uid}
 use Rattle.uid_names.specs.Openings.{Start}
 use Rattle.uid_names.specs.declared.opening.Object.{Object}
 use Rattle.uid_names.specs.declared.mode.Mode.{Mode}
+use Rattle.uid_names.specs.declared.lock_row.LockRow.{LockRow}
 use Rattle.uid_names.proofs.Orders.{same_uid_is}
 use Rattle.uid_names.proofs.Passed.{left-true}
 use Rattle.dom_history.specs.declared.op.Op.{Op}
@@ -16,14 +18,14 @@ use Rattle.dom_history.specs.declared.deed.LockState.{LockState}
 use Rattle.dom_history.specs.StoreEffects.{StoreEffect, store_effect, store_effects, own}
 use Rattle.dom_history.specs.Objects.{IsOfMade, made, is_deleted, is_present}
 use Rattle.dom_history.specs.Locks.{state, state_after, is_held, not_free}
-use Rattle.dom_history.specs.Replies.{Before, before_of, reply_of, lock_reply}
+use Rattle.dom_history.specs.Replies.{Before, before_of, reply_of, lock_reply, conflict_or_fine}
 use Rattle.dom_history.specs.Runs.{AreAnswered}
 use Rattle.dom_history.proofs.KeptObjects.{find-present}
 use Rattle.dom_history.proofs.MadeObjects.{found-step}
 use Rattle.dom_history.proofs.Tables.{state_in-lines_after}
 
 -- an object that is held after a reply was held before, or was locked by it
-held-before : (u : ObjectName) (op : Op) (reply : Reply) (s : LockState) → is_held (state_after u op reply s) ≡ true → (is_held s ≡ true) ⊎ ((m : Mode) × (op ≡ Lock u m) × (reply ≡ Fine))
+pub held-before : (u : ObjectName) (op : Op) (reply : Reply) (s : LockState) → is_held (state_after u op reply s) ≡ true → (is_held s ≡ true) ⊎ ((m : Mode) × (op ≡ Lock u m) × (reply ≡ Fine))
 held-before u (Lock v m) Fine s h = by_test (same_uid u v) refl h
   where
     by_test : (b : Bool) → same_uid u v ≡ b → is_held (state_after u (Lock v m) Fine s) ≡ true → (is_held s ≡ true) ⊎ ((n : Mode) × (Lock v m ≡ Lock u n) × (Fine ≡ Fine))
@@ -55,6 +57,17 @@ held-before u (Delete v) Doubt s h = by_test (same_uid u v) refl h
     by_test true e h = let g = rw e at h in absurd cc
     by_test false e h = inl (rw e at h)
 held-before u _ _ s h = inl h
+
+-- a home that grants a lock has no row against it
+pub home-clear : (there : Bool) (found : Option LockRow) → (if not there then NoObject else conflict_or_fine found) ≡ Fine → found ≡ None
+home-clear true None is = refl
+home-clear true (Some row) is = cc
+home-clear false found is = cc
+
+-- what is held behind a lock that was given up was held before
+pub still-held : (b : Bool) (was : Option Mode) (m : Mode) → (if b then None else was) ≡ Some m → was ≡ Some m
+still-held true was m is = absurd (none-some m is)
+still-held false was m is = is
 
 -- a lock that was granted is of an object that is there
 pub granted-present : (b : Before) (p : ProcName) (u : ObjectName) (m : Mode) → Fine ≡ lock_reply b p u m → is_present b.opening b.past u ≡ true

@@ -16,6 +16,7 @@ pub mod SetFates
 pub mod PageOrder
 pub mod KeptObjects
 pub mod HeldObjects
+pub mod MappedObjects
 pub mod EndTexts
 pub mod OrderedLogs
 pub mod PlanRows

@@ -1,10 +1,10 @@
 -- The heads of frames, and the frames that live, by their numbers.
 use Rattle.std.proofs.Common.{◌≡◌, ◌≢◌, ℕ, zero, suc, ◌+◌, ◌-◌, ◌<◌, ◌≤◌, Bool, true, false, Option, Some, None, List, [], ◌∷◌, ◌++◌, length, drop, drop-cons, add-one, inl, inr, refl, sym, ap, ◌∙◌, arith}
-use Rattle.std.specs.Prelude.{◌==◌, slice_get, slice_index_or, slice_set, if◌then◌else◌, filter, All, IsSome}
+use Rattle.std.specs.Prelude.{◌==◌, slice_get, slice_index_or, slice_set, filter, All, IsSome, if◌then◌else◌}
 use Rattle.std.proofs.lemmas.Bool.{cases_eq}
 use Rattle.std.proofs.lemmas.Bool.Decides.{nat_tests}
 use Rattle.std.proofs.lemmas.Option.{same_Some, slice_get_past}
-use Rattle.uid_names.proofs.ListLemmas.{by_cases, set-there, set-else}
+use Rattle.uid_names.proofs.ListLemmas.{by_cases, set-there, set-else, end-there}
 use Rattle.ring_messages.specs.Frames.{Message}
 use Rattle.node_runs.specs.Runs.{numbered}
 use Rattle.journal_check.proofs.LinkPlaces.{read-at}
@@ -12,12 +12,7 @@ use Rattle.journal_check.specs.Kept.{head_at, live_at, told_if}
 use Rattle.journal_check.specs.declared.frames.Head.{Head}
 use Rattle.journal_check.specs.declared.frames.Live.{Live}
 
--- the item behind a list
-end-there : {A : Type 0} (xs : List A) (y : A) → slice_get (xs ++ y ∷ []) (length xs) ≡ Some y
-end-there [] y = refl
-end-there (x ∷ xs) y = end-there xs y
-
--- and the others
+-- the items before the last one
 end-else : {A : Type 0} (xs : List A) (y : A) (k : ℕ) → k ≢ length xs → slice_get (xs ++ y ∷ []) k ≡ slice_get xs k
 end-else [] y zero differs = absurd (differs refl)
 end-else [] y (suc k) differs = refl

@@ -1,10 +1,10 @@
 -- What is written for a picture is read again.
 use Rattle.std.proofs.Common.{◌≡◌, ◌<◌, ◌⊎◌, inl, inr, ◌+◌, ◌-◌, ◌^◌, ℕ, decimal, zero, suc, Bool, true, false, IsTrue, All, List, [], ◌∷◌, ◌++◌, Option, Some, None, refl, ap, sym, ◌∙◌, append_assoc, append-nil, arith}
-use Rattle.std.specs.Prelude.{if◌then◌else◌, ◌&&◌, ◌==◌, not}
+use Rattle.std.specs.Prelude.{◌&&◌, ◌==◌, not, if◌then◌else◌}
 use Rattle.std.specs.Char.{is_ascii_digit}
 use Rattle.std.specs.List.{list_all}
 use Rattle.std.specs.Str.{all_ascii_digits}
-use Rattle.std.proofs.lemmas.Bool.{false≢true, eqb-true}
+use Rattle.std.proofs.lemmas.Bool.{false≢true, eqb-true, not-true}
 use Rattle.std.proofs.lemmas.List.Elements.{All-append, All-cons, All-nil, All-head, All-tail}
 use Rattle.std.proofs.lemmas.Fmt.{digits_decimal}
 use Rattle.dom_text.proofs.Again.{number_spelled-decimal}
@@ -35,10 +35,6 @@ one_below test zero b h low = absurd (omega arith)
 one_below test (suc n) b h low =
     let parts = both (test n) (all_below test n) h in
     by_place test n b parts.0 (λ lower. one_below test n b parts.1 lower) (last_or_below n b low)
-
-not_true : (t : Bool) → not t ≡ true → t ≡ false
-not_true true h = absurd (false≢true h)
-not_true false h = refl
 
 -- ---- digits
 
@@ -115,7 +111,7 @@ unfolding read_on
 reference_reads [] before rest h = ap (λ name. byte_named name ∷ read_on None rest) (sym (append-nil before))
 reference_reads (c ∷ reference) before rest h =
     let parts = both (is_inside c) (list_all is_inside reference) h in
-    let other = not_true (c == 59) parts.0 in
+    let other = not-true (c == 59) parts.0 in
     ap (λ t. if t then byte_named before ∷ read_on None (reference ++ 59 ∷ rest) else read_on (Some (before ++ c ∷ [])) (reference ++ 59 ∷ rest)) other
     ∙ (reference_reads reference (before ++ c ∷ []) rest parts.1
     ∙ ap (λ name. byte_named name ∷ read_on None rest) (append_assoc before (c ∷ []) reference))
@@ -135,7 +131,7 @@ sign_is_named b h =
 
 unnamed_reads : (seen : Bool) (b : ℕ) (rest : List ℕ) → b < 256 → not (b == 38) ≡ true → read_on None (unnamed seen b ++ rest) ≡ b ∷ read_on None rest
 unfolding read_on
-unnamed_reads true b rest low h = ap (λ t. if t then read_on (Some []) rest else b ∷ read_on None rest) (not_true (b == 38) h)
+unnamed_reads true b rest low h = ap (λ t. if t then read_on (Some []) rest else b ∷ read_on None rest) (not-true (b == 38) h)
 unnamed_reads false b rest low h = named_reads (35 ∷ decimal (9216 + b)) b rest (decimal_passes is_inside (9216 + b) (omega arith) digit_is_inside) (sign_is_named b low)
 
 written_reads : (name : Option (List ℕ)) (b : ℕ) (rest : List ℕ) → b < 256 → is_read name b ≡ true → read_on None (written name b ++ rest) ≡ b ∷ read_on None rest

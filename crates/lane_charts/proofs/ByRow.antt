@@ -1,6 +1,7 @@
 -- What the places of arrows by rows say of what is drawn of them.
 use Rattle.std.proofs.Common.{◌≡◌, ◌∙◌, ℕ, ◌+◌, Bool, true, false, Some, List, [], ◌∷◌, ◌++◌, refl, ap, suc, arith}
 use Rattle.std.specs.Prelude.{◌==◌, ◌&&◌, slice_get}
+use Rattle.std.proofs.Math.Bool.{and-false, and-true}
 use Rattle.lane_charts.specs.ArrowKeys.{failing_of, key_as, taker_of}
 use Rattle.lane_charts.specs.Charts.{Drawing}
 use Rattle.lane_charts.specs.Pictures.{arrow_group, arrows_of, group_if, groups_at, line_after}
@@ -18,18 +19,10 @@ taken_so k (Row at) = refl
 taken_so k Lost = refl
 taken_so k Never = refl
 
-and_true : (b : Bool) → (b && true) ≡ b
-and_true true = refl
-and_true false = refl
-
-and_false : (b : Bool) → (b && false) ≡ false
-and_false true = refl
-and_false false = refl
-
 failing_so : (k sender : ℕ) (end : Arrival) → ((sender == k) && is_not_taken end) ≡ is_key k (failing_of sender end)
-failing_so k sender (Row at) = and_false (sender == k)
-failing_so k sender Lost = and_true (sender == k)
-failing_so k sender Never = and_true (sender == k)
+failing_so k sender (Row at) = and-false (sender == k)
+failing_so k sender Lost = and-true (sender == k)
+failing_so k sender Never = and-true (sender == k)
 
 pub taken-if : (column : ℕ) (c : Drawing) (k : ℕ) (b : Bool) (a : Arrow) → is_key k (key_as Taken a) ≡ b → arrow_if (is_taken_at k a.end) column c a ≡ arrow_if b column c a
 taken-if column c k b a is = ap (λ t. arrow_if t column c a) (taken_so k a.end ∙ is)

@@ -1,9 +1,10 @@
 -- A command of a mailbox is followed from its lock to its answer: what holds of its machine, and is kept by each reply, holds to the end.
-use Rattle.std.proofs.Common.{◌≡◌, ◌<◌, ◌≤◌, ◌+◌, ◌-◌, ◌∙◌, ℕ, Bool, true, false, Some, List, [], ◌∷◌, ◌++◌, length, append_assoc, refl, sym, ap, subst, inl, inr, ◌⊎◌, arith}
+use Rattle.std.proofs.Common.{◌≡◌, ◌+◌, ◌-◌, ◌∙◌, ℕ, Bool, true, false, Some, List, [], ◌∷◌, ◌++◌, length, append_assoc, refl, sym, ap, subst, inl, inr, ◌⊎◌, arith}
 use Rattle.std.specs.List.{slice_get}
 use Rattle.std.proofs.lemmas.Option.{slice_get_within}
 use Rattle.uid_names.specs.Names.{IsName, ProcName, same_proc}
 use Rattle.uid_names.proofs.Orders.{same_proc_is}
+use Rattle.uid_names.proofs.ListLemmas.{end-there, front}
 use Rattle.dom_history.specs.declared.op.Entry.{Entry}
 use Rattle.dom_history.specs.declared.op.Want.TheVariants.{Do, Done}
 use Rattle.dom_history.specs.Fitting.{Fits}
@@ -27,7 +28,7 @@ use Rattle.run_laws.specs.HeardOf.{with_asked_phases}
 use Rattle.mail_runs.proofs.MailTurns.{uid_stays}
 use Rattle.mail_runs.proofs.Positions.{heard_by, keeps_all, mail_of, moved, phases_stay, pos, pos_other, stands_at, talking_waits, wants_there, AreAsked}
 use Rattle.mail_runs.proofs.Sessions.{mail_at, session, session_asks, session_if, session_in, session_wants, AreWorks, IsAtMail, KeepsMail}
-use Rattle.mail_runs.proofs.Steps.{comes_exact, get_last, get_more, goes_exact, grows_then, mail_answer, mail_text, phases_grow, pos_grows, settled_grows, Grows}
+use Rattle.mail_runs.proofs.Steps.{comes_exact, goes_exact, grows_then, mail_answer, mail_text, phases_grow, pos_grows, settled_grows, Grows}
 
 -- an item that is no entry of the process
 abbrev pub IsOther : ProcName → Item → Type 0
@@ -88,7 +89,7 @@ module _ (s : Content) (p : ProcName) (works : AreWorks (part_of s p).jobs) wher
         (grows_then done (stands_at (part_of s p) heard) (stands_at (part_of s p) (with_asked_phases (ask s p) s.phases heard))
         (subst (Grows done) (sym exact) (settled_grows (part_of s p) done)) (phases_grow s p s.phases heard)) in
         ap (λ xs. slice_get xs (length at.answers)) grown.1
-        ∙ get_more (at.answers ++ text ∷ []) grown.0 (length at.answers) _ (get_last at.answers text)
+        ∙ front (at.answers ++ text ∷ []) grown.0 (length at.answers) _ (end-there at.answers text)
         ∙ ap Some (mail_answer (part_of s p) at.working at_it.job.command result)
 
 -- what is kept of a machine is kept to the end, and what comes of it holds of the result
@@ -130,7 +131,7 @@ module _ (s : Content) (p : ProcName) (works : AreWorks (part_of s p).jobs) (all
       let grown = pos_grows s p i past in
       record {
         result = answered.result;
-        text = ap (λ xs. slice_get xs (number - 1)) grown.1 ∙ get_more (pos s p past).answers grown.0 (number - 1) _ answered.text;
+        text = ap (λ xs. slice_get xs (number - 1)) grown.1 ∙ front (pos s p past).answers grown.0 (number - 1) _ answered.text;
         holds = kept.result_more i past answered.result answered.holds;
       }
 

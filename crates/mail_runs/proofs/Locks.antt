@@ -1,9 +1,10 @@
 -- What a process was told that it holds, it holds; and where one holds an object to write, no other one holds it.
 use Rattle.std.proofs.Common.{◌≡◌, Bool, true, false, Option, Some, None, List, [], ◌∷◌, ◌++◌, refl, sym, ◌∙◌, ap, subst, inl, inr, ◌⊎◌}
-use Rattle.std.specs.Prelude.{if◌then◌else◌, All, IsTrue, find, not, ◌&&◌}
+use Rattle.std.specs.Prelude.{All, IsTrue, find, not, ◌&&◌, if◌then◌else◌}
 use Rattle.std.proofs.lemmas.Bool.{false≢true}
 use Rattle.std.proofs.lemmas.Option.{same_Some}
 use Rattle.std.proofs.lemmas.List.Elements.{All-head, All-tail}
+use Rattle.std.proofs.Math.Bool.{and-false}
 use Rattle.uid_names.specs.Names.{ProcName, ObjectName, same_proc, same_uid}
 use Rattle.uid_names.specs.Modes.{modes_clash}
 use Rattle.uid_names.specs.Openings.{Start}
@@ -20,55 +21,18 @@ use Rattle.dom_history.specs.declared.op.Entry.{Entry}
 use Rattle.dom_history.specs.declared.op.Op.{Op}
 use Rattle.dom_history.specs.declared.op.Op.TheVariants.{New, Lock, Unlock, Delete, Load, Store, Length, Map, Unmap, List as ListOp}
 use Rattle.dom_history.specs.declared.op.Reply.{Reply}
-use Rattle.dom_history.specs.declared.op.Reply.TheVariants.{Made, Fine, At, NoObject, Doubt, LinkFault}
+use Rattle.dom_history.specs.declared.op.Reply.TheVariants.{Made, Fine, At, Doubt, LinkFault}
 use Rattle.dom_history.specs.Histories.{Item, Answered, Acted, Act, SomeOf, IsRising, deeds, entries, place_lt, place_of, told, before_op}
 use Rattle.dom_history.specs.Legal.{AreLegal, IsAllowed, IsEarlier, IsLeftOpen, IsLegalItem, MayAct, home_of, is_of_home}
 use Rattle.dom_history.specs.Locks.{holds, is_held, mode_in, not_free, rows, state, state_after}
 use Rattle.dom_history.specs.Objects.{is_present}
-use Rattle.dom_history.specs.Replies.{conflict_or_fine, home_lock_reply, reply_of}
+use Rattle.dom_history.specs.Replies.{home_lock_reply, reply_of}
 use Rattle.dom_history.specs.StoreEffects.{StoreEffect, own, store_effect, store_effects}
 use Rattle.dom_history.proofs.Places.{place_lt-not_self, place_lt-trans}
 use Rattle.dom_history.proofs.ReplyRows.{found}
 use Rattle.dom_history.proofs.Tables.{holds-rows, state_in-lines_after}
+use Rattle.dom_history.proofs.HeldObjects.{held-before, home-clear, still-held}
 use Rattle.mail_runs.proofs.Faults.{allowed_told, is_of_locks, lock_granted, never_lost}
-
-and-false : (b : Bool) → (b && false) ≡ false
-and-false true = refl
-and-false false = refl
-
--- an object that is held after a reply was held before, or was locked by it
-pub held-before : (u : ObjectName) (op : Op) (reply : Reply) (s : LockState) → is_held (state_after u op reply s) ≡ true → (is_held s ≡ true) ⊎ ((m : Mode) × (op ≡ Lock u m) × (reply ≡ Fine))
-held-before u (Lock v m) Fine s h = by_test (same_uid u v) refl h
-  where
-    by_test : (b : Bool) → same_uid u v ≡ b → is_held (state_after u (Lock v m) Fine s) ≡ true → (is_held s ≡ true) ⊎ ((n : Mode) × (Lock v m ≡ Lock u n) × (Fine ≡ Fine))
-    by_test true e h = inr (m, ap (λ w. Lock w m) (sym (same_uid_is u v e)), refl)
-    by_test false e h = inl (rw e at h)
-held-before u (Lock v m) Doubt s h = by_test (same_uid u v) refl h
-  where
-    by_test : (b : Bool) → same_uid u v ≡ b → is_held (state_after u (Lock v m) Doubt s) ≡ true → (is_held s ≡ true) ⊎ ((n : Mode) × (Lock v m ≡ Lock u n) × (Doubt ≡ Fine))
-    by_test true e h = let g = rw e at h in absurd cc
-    by_test false e h = inl (rw e at h)
-held-before u (Unlock v) Fine s h = by_test (same_uid u v) refl h
-  where
-    by_test : (b : Bool) → same_uid u v ≡ b → is_held (state_after u (Unlock v) Fine s) ≡ true → (is_held s ≡ true) ⊎ ((n : Mode) × (Unlock v ≡ Lock u n) × (Fine ≡ Fine))
-    by_test true e h = let g = rw e at h in absurd cc
-    by_test false e h = inl (rw e at h)
-held-before u (Unlock v) Doubt s h = by_test (same_uid u v) refl h
-  where
-    by_test : (b : Bool) → same_uid u v ≡ b → is_held (state_after u (Unlock v) Doubt s) ≡ true → (is_held s ≡ true) ⊎ ((n : Mode) × (Unlock v ≡ Lock u n) × (Doubt ≡ Fine))
-    by_test true e h = let g = rw e at h in absurd cc
-    by_test false e h = inl (rw e at h)
-held-before u (Delete v) Fine s h = by_test (same_uid u v) refl h
-  where
-    by_test : (b : Bool) → same_uid u v ≡ b → is_held (state_after u (Delete v) Fine s) ≡ true → (is_held s ≡ true) ⊎ ((n : Mode) × (Delete v ≡ Lock u n) × (Fine ≡ Fine))
-    by_test true e h = let g = rw e at h in absurd cc
-    by_test false e h = inl (rw e at h)
-held-before u (Delete v) Doubt s h = by_test (same_uid u v) refl h
-  where
-    by_test : (b : Bool) → same_uid u v ≡ b → is_held (state_after u (Delete v) Doubt s) ≡ true → (is_held s ≡ true) ⊎ ((n : Mode) × (Delete v ≡ Lock u n) × (Doubt ≡ Fine))
-    by_test true e h = let g = rw e at h in absurd cc
-    by_test false e h = inl (rw e at h)
-held-before u _ _ s h = inl h
 
 -- an operation that was left open stands before all that stands above it
 open_below : (past : List Item) (a : Act) (x : Place) → All (λ j. IsTrue (place_lt (place_of j) x)) past → SomeOf (IsLeftOpen a.begun a.deed.proc a.deed.op) past → IsTrue (place_lt a.begun x)
@@ -252,12 +216,6 @@ module _ (opening : Start) (p : ProcName) (u : ObjectName) where
         | inr none ↦ absurd none
       ]
 
--- a home that grants a lock has no row against it
-fine_none : (there : Bool) (row : Option LockRow) → (if not there then NoObject else conflict_or_fine row) ≡ Fine → row ≡ None
-fine_none false row e = absurd (cc)
-fine_none true None e = refl
-fine_none true (Some row) e = absurd (cc)
-
 row_held : (row : Option LockRow) (n : Mode) → mode_in row ≡ Some n → (r : LockRow) × (row ≡ Some r) × (r.mode ≡ n)
 row_held None n e = absurd (cc)
 row_held (Some r) n e = (r, refl, same_Some r.mode n e)
@@ -275,16 +233,12 @@ clashes_write Read p q = refl
 clashes_write Write p q = refl
 clashes_write CoWrite p q = refl
 
-freed : (b : Bool) (x : Option Mode) (m : Mode) → (if b then None else x) ≡ Some m → x ≡ Some m
-freed true x m e = absurd (cc)
-freed false x m e = e
-
 module _ (opening : Start) (u : ObjectName) where
   -- who holds it is the one that is granted it, where the two would clash
   granted_alone : (eff : List StoreEffect) (r : ProcName) (m : Mode) → home_lock_reply opening eff r u m ≡ Fine → (q : ProcName) (n : Mode) → holds q u eff ≡ Some n → ((a b : ProcName) → modes_clash a m b n ≡ true) → r ≡ q
   granted_alone eff r m granted q n held clash =
       let list = rows u.home eff in
-      let none = fine_none (is_present opening eff u) (find (is_in_conflict r u m) list) granted in
+      let none = home-clear (is_present opening eff u) (find (is_in_conflict r u m) list) granted in
       let row = row_held (find (same_row q u) list) n (sym (holds-rows q u eff) ∙ held) in
       let names = same_row_is q u row.0 (find-passes (same_row q u) list row.0 row.1) in
       let free = found (λ (x : LockRow). is_in_conflict r u m x ≡ false) (same_row q u) list (find-all_fail (is_in_conflict r u m) list none) row.0 row.1 in
@@ -320,8 +274,8 @@ module _ (opening : Start) (u : ObjectName) where
 
   alone_next : (eff : List StoreEffect) (r : ProcName) (op : Op) (reply : Reply) → IsAlone eff → ((v : ObjectName) (m : Mode) → op ≡ Lock v m → reply ≡ Fine → home_lock_reply opening eff r v m ≡ Fine) → IsAlone (store_effect r op reply ++ eff)
   alone_next eff r (Lock v m) Fine old granted = locked_alone eff r v m old (granted v m refl refl)
-  alone_next eff r (Unlock v) Fine old granted = λ p q n hp hq. old p q n (freed (same_proc p r && same_uid u v) (holds p u eff) Write hp) (freed (same_proc q r && same_uid u v) (holds q u eff) n hq)
-  alone_next eff r (Delete v) Fine old granted = λ p q n hp hq. old p q n (freed (same_proc p r && same_uid u v) (holds p u eff) Write hp) (freed (same_proc q r && same_uid u v) (holds q u eff) n hq)
+  alone_next eff r (Unlock v) Fine old granted = λ p q n hp hq. old p q n (still-held (same_proc p r && same_uid u v) (holds p u eff) Write hp) (still-held (same_proc q r && same_uid u v) (holds q u eff) n hq)
+  alone_next eff r (Delete v) Fine old granted = λ p q n hp hq. old p q n (still-held (same_proc p r && same_uid u v) (holds p u eff) Write hp) (still-held (same_proc q r && same_uid u v) (holds q u eff) n hq)
   alone_next eff r (New home kind room) (Made v) old granted = old
   alone_next eff r (Store spot bytes) Fine old granted = old
   alone_next eff r (Map v) (At address true) old granted = old

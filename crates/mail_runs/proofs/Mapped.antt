@@ -1,5 +1,5 @@
 -- In a history of one store the mappings of a process lie apart, so an object that it mapped is reached by its addresses.
-use Rattle.std.proofs.Common.{if◌then◌else◌, ◌≡◌, ◌<◌, ◌≤◌, ◌+◌, ◌-◌, ◌*◌, ℕ, Bool, true, false, not, ◌&&◌, Option, Some, None, List, [], ◌∷◌, ◌++◌, length, refl, ap, ◌∙◌, sym, subst, ◌⊎◌, arith}
+use Rattle.std.proofs.Common.{◌≡◌, ◌<◌, ◌≤◌, ◌+◌, ◌-◌, ◌*◌, ℕ, Bool, true, false, not, ◌&&◌, Option, Some, None, List, [], ◌∷◌, ◌++◌, length, refl, ap, ◌∙◌, sym, subst, arith, if◌then◌else◌}
 use Rattle.std.specs.Prelude.{nat_le, nat_lt, find, filter, is_some}
 use Rattle.std.specs.List.{list_all}
 use Rattle.std.specs.Option.{option_map}
@@ -251,17 +251,7 @@ is_mapping (Map u) = true
 is_mapping (Unmap u) = true
 is_mapping op = false
 
--- the mappings of a process stay where others act, and where it maps nothing
-pub mappings_other : (p q : ProcName) (op : Op) (reply : Reply) (past : List StoreEffect) → same_proc p q ≡ false → mappings p (store_effect q op reply ++ past) ≡ mappings p past
-mappings_other p q (New home kind room) (Made u) past other = refl
-mappings_other p q (Lock u m) Fine past other = refl
-mappings_other p q (Unlock u) Fine past other = refl
-mappings_other p q (Delete u) Fine past other = refl
-mappings_other p q (Store spot bytes) Fine past other = refl
-mappings_other p q (Map u) (At a true) past other = rw other refl
-mappings_other p q (Unmap u) Fine past other = rw other refl
-mappings_other p q _ _ past other = refl
-
+-- the mappings of a process stay where it maps nothing
 pub mappings_kept : (p q : ProcName) (op : Op) (reply : Reply) (past : List StoreEffect) → is_mapping op ≡ false → mappings p (store_effect q op reply ++ past) ≡ mappings p past
 mappings_kept p q (New home kind room) (Made u) past none = refl
 mappings_kept p q (Lock u m) Fine past none = refl

@@ -1,5 +1,5 @@
 -- A mailbox at which a machine is holds its lock, and its bytes are reached by the addresses of its mapping.
-use Rattle.std.proofs.Common.{◌≡◌, ◌<◌, ◌+◌, ◌∙◌, ℕ, Bool, true, false, Option, Some, None, List, [], ◌∷◌, ◌++◌, refl, sym, ap, subst, inl, inr, ◌⊎◌}
+use Rattle.std.proofs.Common.{◌≡◌, ◌+◌, ◌∙◌, ℕ, Bool, true, false, Option, Some, None, List, [], ◌∷◌, ◌++◌, refl, sym, ap, subst, inl, inr}
 use Rattle.uid_names.specs.Names.{ProcName, ObjectName, same_proc}
 use Rattle.uid_names.specs.Openings.{Start, IsStart}
 use Rattle.uid_names.specs.declared.mode.Mode.TheVariants.{Write}
@@ -17,6 +17,7 @@ use Rattle.dom_history.specs.Legal.{AreLegal, MayAct}
 use Rattle.dom_history.specs.Locks.{state_after}
 use Rattle.dom_history.specs.Mappings.{mappings}
 use Rattle.dom_history.specs.StoreEffects.{StoreEffect, store_effect, store_effects}
+use Rattle.dom_history.proofs.MappedObjects.{others-mapped}
 use Rattle.script_reader.specs.Scripts.{Content}
 use Rattle.aegis_shell.specs.Asking.{ask}
 use Rattle.aegis_shell.specs.States.{State, left}
@@ -41,7 +42,7 @@ use Rattle.mail_box.specs.declared.work.MailWork.{MailWork}
 use Rattle.mail_box.specs.declared.work.MailWork.TheVariants.{Put, Take}
 use Rattle.std.proofs.lemmas.Option.{same_Some}
 use Rattle.mail_runs.proofs.Locks.{state_other, state_own, state_told}
-use Rattle.mail_runs.proofs.Mapped.{all_apart, is_mapping, map_reached, mappings_kept, mappings_other, target_stays, Reach}
+use Rattle.mail_runs.proofs.Mapped.{all_apart, is_mapping, map_reached, mappings_kept, target_stays, Reach}
 use Rattle.mail_runs.proofs.MailTurns.{uid_stays}
 use Rattle.mail_runs.proofs.Positions.{heard_by, keeps_all, mail_of, pos, pos_next, pos_other, pos_start, wants_there, AreAsked, Moves}
 use Rattle.mail_runs.proofs.Rooms.{AreRanged}
@@ -272,6 +273,6 @@ module _ (s : Content) (start : IsStart s.opening) (p : ProcName) (works : AreWo
           let before = earlier m (sym (ap (session (part_of s p)) (pos_other s p e past other)) ∙ here) in
           record {
             reach = reach_at s.opening (eff_of past) (eff_of (Answered e ∷ past)) p m.uid
-                (λ address reach. kept_reach past e.proc e.op e.reply legal.1 (mappings_other p e.proc e.op e.reply (eff_of past) (same_proc-sym p e.proc ∙ other)) m.uid address reach) m.stage before.reach;
+                (λ address reach. kept_reach past e.proc e.op e.reply legal.1 (others-mapped p e.proc e.op e.reply (eff_of past) (same_proc-sym p e.proc ∙ other)) m.uid address reach) m.stage before.reach;
             held = subst (λ t. HeldAt t m.stage) (sym (state_other s.opening p m.uid e past other)) before.held;
           }

@@ -20,9 +20,10 @@ use Rattle.command_talks.specs.declared.talk.Talk.{Talk}
 use Rattle.aegis_shell.proofs.Shells.{shell_answers_are, shell_asks}
 use Rattle.run_laws.specs.HeardOf.{on_phase, with_asked_phases}
 use Rattle.script_runs.specs.Answers.{heard_behind}
+use Rattle.script_runs.proofs.Pacing.{no_phase}
 use Rattle.mail_box.specs.declared.mailing.Mailing.{Mailing}
 use Rattle.mail_runs.specs.Commands.{own_in}
-use Rattle.mail_runs.proofs.Sessions.{begins_at_start, begins_keep, goes_keep, no_phase, session, step_hears, step_passes, AreWorks, BeginsAt, GoesOn, KeepsMail}
+use Rattle.mail_runs.proofs.Sessions.{begins_at_start, begins_keep, goes_keep, session, step_hears, step_passes, AreWorks, BeginsAt, GoesOn, KeepsMail}
 
 -- where a process stands that heard this
 abbrev pub stands_at : Part → Heard → State

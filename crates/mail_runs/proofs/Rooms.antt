@@ -1,6 +1,6 @@
 -- Objects that were made have room, and what is held was made.
-use Rattle.std.proofs.Common.{◌≡◌, ◌≤◌, ◌∙◌, ℕ, zero, suc, Bool, true, false, Option, Some, None, List, [], ◌∷◌, ◌++◌, refl, sym, ap, subst, inl, inr, ◌⊎◌, arith}
-use Rattle.std.specs.Prelude.{if◌then◌else◌, All, find, is_some, not}
+use Rattle.std.proofs.Common.{◌≡◌, ◌≤◌, ◌∙◌, ℕ, zero, suc, Bool, true, false, Option, Some, None, List, [], ◌∷◌, ◌++◌, refl, sym, ap, subst, inl, inr, arith}
+use Rattle.std.specs.Prelude.{All, find, is_some, not, if◌then◌else◌}
 use Rattle.std.proofs.lemmas.List.Elements.{All-append, All-nil, All-push, All-weaker}
 use Rattle.uid_names.specs.Beginnings.{entry_directory}
 use Rattle.uid_names.specs.Names.{ProcName, ObjectName, same_proc, same_uid}
@@ -22,8 +22,9 @@ use Rattle.dom_history.specs.StoreEffects.{StoreEffect, store_effect, store_effe
 use Rattle.dom_history.proofs.KeptObjects.{find-present}
 use Rattle.dom_history.proofs.MadeObjects.{found-step}
 use Rattle.dom_history.proofs.ReplyRows.{found}
+use Rattle.dom_history.proofs.HeldObjects.{held-before}
 use Rattle.mail_runs.proofs.Faults.{allowed_told, lock_granted}
-use Rattle.mail_runs.proofs.Locks.{held-before, state_other, state_own, state_told}
+use Rattle.mail_runs.proofs.Locks.{state_other, state_own, state_told}
 
 -- all operations are in their ranges
 abbrev pub AreRanged : List Item → Type 0

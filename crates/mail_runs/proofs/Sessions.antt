@@ -1,12 +1,13 @@
 -- Where a process stands in a command of mailboxes, and what a reply makes of it.
-use Rattle.std.proofs.Common.{◌≡◌, ◌+◌, Bool, true, false, cond, Option, Some, None, List, [], ◌∷◌, ◌++◌, length, refl, sym, ◌∙◌, ap, subst, inl, inr, ◌⊎◌}
+use Rattle.std.proofs.Common.{◌≡◌, Bool, true, false, cond, Option, Some, None, List, [], ◌∷◌, length, refl, sym, ◌∙◌, ap, subst, inl, inr, ◌⊎◌}
 use Rattle.std.specs.Prelude.{All, nat_lt}
 use Rattle.std.proofs.lemmas.List.Elements.{All-head, All-drop}
+use Rattle.script_runs.proofs.Pacing.{no_op, no_phase}
 use Rattle.uid_names.specs.Names.{ObjectName}
 use Rattle.dom_history.specs.declared.op.Op.{Op}
 use Rattle.dom_history.specs.declared.op.Reply.{Reply}
 use Rattle.dom_history.specs.declared.op.Reply.TheVariants.{Fine}
-use Rattle.dom_history.specs.declared.op.Want.TheVariants.{Do, Phase, Done}
+use Rattle.dom_history.specs.declared.op.Want.TheVariants.{Do, Phase}
 use Rattle.dom_history.specs.Fitting.{Fits}
 use Rattle.script_reader.specs.declared.command.Command.{Command}
 use Rattle.script_reader.specs.declared.command.Command.TheVariants.{Putm, Takem}
@@ -237,11 +238,6 @@ jobs_hear part at reply (job ∷ jobs) is op wants keeps = job_hears part at job
 pub step_hears : (part : Part) (at : State) (reply : Reply) (op : Op) → want_of part at ≡ Do op → KeepsMail part at → Hears part at reply (step part at (Some reply))
 step_hears part at reply op wants keeps = jobs_hear part at reply (left part at) refl op wants keeps
 
--- a phase is waited for between commands
-pub no_phase : (op : Option Op) → want_by op ≡ Phase → ⊥
-no_phase None wants = cc
-no_phase (Some op) wants = cc
-
 waits_at : (part : Part) (at : State) (job : Job) (stage : Stage) → want_in part at job stage ≡ Phase → stage ≡ Between
 waits_at part at job Between wants = refl
 waits_at part at job First wants = absurd (no_phase (op_in (ops_at part at job) First) wants)
@@ -370,12 +366,8 @@ mild_talk : (w : MailWork) (o : Option FileTalk) → OfTalk (OfMail w) w o → m
 mild_talk w None at_it none = tt
 mild_talk w (Some f) at_it none = file_mild w f at_it none
 
-mild_between : (early : Bool) (op : Op) → cond early Phase Done ≡ Do op → ⊥
-mild_between true op wants = cc
-mild_between false op wants = cc
-
 mild_stage : (w : MailWork) (part : Part) (at : State) (job : Job) (stage : Stage) (op : Op) → OfStage (OfMail w) w stage → mail_in_stage stage ≡ None → want_in part at job stage ≡ Do op → is_mild op ≡ true
-mild_stage w part at job Between op keeps none wants = absurd (mild_between (nat_lt at.phase job.phase) op wants)
+mild_stage w part at job Between op keeps none wants = absurd (no_op (nat_lt at.phase job.phase) op wants)
 mild_stage w part at job (Talking talk) op keeps none wants = mild_op (talk_asks talk) op (mild_talk w talk.at keeps none) wants
 mild_stage w part at job _ op keeps none wants = absurd keeps
 

@@ -1,7 +1,6 @@
 -- What exactly a reply makes of a process that is at the machine of a mailbox, and that answers only become more.
-use Rattle.std.proofs.Common.{◌≡◌, ◌≤◌, ◌+◌, ◌∙◌, ℕ, zero, suc, Bool, true, false, cond, Option, Some, None, List, [], ◌∷◌, ◌++◌, length, append-nil, append_assoc, refl, sym, ap, subst, ◌⊎◌, arith}
+use Rattle.std.proofs.Common.{◌≡◌, ◌+◌, ◌∙◌, ℕ, zero, suc, Bool, true, false, cond, Option, Some, None, List, [], ◌∷◌, ◌++◌, append-nil, append_assoc, refl, sym, ap, subst, arith}
 use Rattle.std.specs.Prelude.{codes, nat_lt}
-use Rattle.std.specs.List.{slice_get}
 use Rattle.uid_names.specs.Names.{IsName, ObjectName, ProcName, same_proc}
 use Rattle.dom_history.specs.declared.op.Op.{Op}
 use Rattle.dom_history.specs.declared.op.Reply.{Reply}
@@ -231,13 +230,3 @@ module _ (s : Content) (p : ProcName) where
       by_proc true mine =
           subst (Grows (pos s p past)) (sym (moved s p e past mine))
           (grows_then (pos s p past) (stands_at (part_of s p) heard) (stands_at (part_of s p) (with_asked_phases (ask s p) s.phases heard)) (step_grows (part_of s p) (pos s p past) (Some e.reply)) (phases_grow s.phases heard))
-
--- what stands in a list stands there where more is behind
-pub get_more : {X : Type 0} (xs ys : List X) (i : ℕ) (x : X) → slice_get xs i ≡ Some x → slice_get (xs ++ ys) i ≡ Some x
-get_more [] ys i x is = absurd (cc)
-get_more (y ∷ xs) ys zero x is = is
-get_more (y ∷ xs) ys (suc i) x is = get_more xs ys i x is
-
-pub get_last : {X : Type 0} (xs : List X) (x : X) → slice_get (xs ++ x ∷ []) (length xs) ≡ Some x
-get_last [] x = refl
-get_last (y ∷ xs) x = get_last xs x

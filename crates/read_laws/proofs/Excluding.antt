@@ -1,5 +1,5 @@
 -- In every history of one store two processes hold one object at a time only in modes that do not clash.
-use Rattle.std.proofs.Common.{◌≡◌, Bool, true, false, not, cond, if◌then◌else◌, Option, Some, None, List, [], ◌∷◌, ◌++◌, inl, inr, refl, sym, subst, ◌∙◌}
+use Rattle.std.proofs.Common.{◌≡◌, Bool, true, false, not, cond, Option, Some, None, List, [], ◌∷◌, ◌++◌, inl, inr, refl, sym, subst, ◌∙◌, if◌then◌else◌}
 use Rattle.std.specs.Prelude.{find, ◌&&◌}
 use Rattle.std.proofs.lemmas.Bool.{and_parts, false≢true}
 use Rattle.std.proofs.lemmas.Option.{none-some, same_Some}
@@ -22,6 +22,7 @@ use Rattle.dom_history.specs.Objects.{is_present}
 use Rattle.dom_history.specs.Replies.{conflict_or_fine, reply_of, unlock_state}
 use Rattle.dom_history.specs.StoreEffects.{Deletes, FreesLock, StoreEffect, TakesLock, store_effect}
 use Rattle.dom_history.proofs.Tables.{holds-rows}
+use Rattle.dom_history.proofs.HeldObjects.{home-clear, still-held}
 use Rattle.read_laws.specs.Loads.{done}
 use Rattle.read_laws.proofs.Faults.{among-faults, no-fault}
 
@@ -87,10 +88,6 @@ module _ (past : List StoreEffect) (a : ProcName) (v : ObjectName) (k : Mode) (n
   taken-apart p q u m n other held_p held_q = by-tests p q u m n other (same_proc p a && same_uid u v) (same_proc q a && same_uid u v) refl refl held_p held_q
 
 -- a lock is given up
-still-held : (b : Bool) (was : Option Mode) (m : Mode) → (if b then None else was) ≡ Some m → was ≡ Some m
-still-held true was m is = absurd (none-some m is)
-still-held false was m is = is
-
 freed-apart : (past : List StoreEffect) (a : ProcName) (v : ObjectName) → AreApart past → AreApart (FreesLock a v ∷ past)
 freed-apart past a v apart p q u m n other held_p held_q =
     apart p q u m n other (still-held (same_proc p a && same_uid u v) (holds p u past) m held_p) (still-held (same_proc q a && same_uid u v) (holds q u past) n held_q)
@@ -114,11 +111,6 @@ effect-apart past p (Unmap u) Fine clear apart = apart
 effect-apart past p _ _ clear apart = apart
 
 -- what a home grants
-home-clear : (there : Bool) (found : Option LockRow) → (if not there then NoObject else conflict_or_fine found) ≡ Fine → found ≡ None
-home-clear true None is = refl
-home-clear true (Some row) is = cc
-home-clear false found is = cc
-
 lock-clear : (x y z there : Bool) (found : Option LockRow) → Fine ≡ (if x then AlreadyHeld else if y then Unsettled else if z then TooMany else (if not there then NoObject else conflict_or_fine found)) → found ≡ None
 lock-clear true y z there found is = cc
 lock-clear false true z there found is = cc

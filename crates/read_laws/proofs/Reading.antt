@@ -1,5 +1,5 @@
 -- How far a reading has come between the items of a history, and what its loads have told.
-use Rattle.std.proofs.Common.{◌≡◌, ◌≤◌, ◌<◌, ◌+◌, ◌-◌, ◌*◌, ℕ, zero, suc, Bool, true, false, not, if◌then◌else◌, Option, Some, None, List, [], ◌∷◌, ◌++◌, map, inl, inr, refl, ap, sym, subst, ◌∙◌, append-nil, arith}
+use Rattle.std.proofs.Common.{◌≡◌, ◌≤◌, ◌<◌, ◌+◌, ◌-◌, ◌*◌, ℕ, zero, suc, Bool, true, false, not, Option, Some, None, List, [], ◌∷◌, ◌++◌, map, inl, inr, refl, ap, sym, subst, ◌∙◌, append-nil, arith, if◌then◌else◌}
 use Rattle.std.specs.Prelude.{find, nat_le, nat_lt, length}
 use Rattle.std.specs.List.{range_with_len}
 use Rattle.std.proofs.lemmas.Bool.Decides.{nat_tests}
@@ -26,6 +26,7 @@ use Rattle.dom_history.specs.Mappings.{Mapping, Target, lowest_run, mappings, ta
 use Rattle.dom_history.specs.Objects.{room_of}
 use Rattle.dom_history.specs.Replies.{load_reply, map_anew_reply, mapping_of, reply_of, unlock_state}
 use Rattle.dom_history.specs.StoreEffects.{StoreEffect, own, store_effect}
+use Rattle.dom_history.proofs.MappedObjects.{others-mapped}
 use Rattle.naming_tree.specs.Dialogues.{asked, told}
 use Rattle.naming_tree.specs.Entering.{pages}
 use Rattle.naming_tree.specs.Sessions.{bytes, closers_if, fine, place, size}
@@ -68,18 +69,7 @@ pub closers-quiet : (fresh : Bool) (u : ObjectName) → AreQuiet (closers_if fre
 closers-quiet true u = (refl, (refl, tt))
 closers-quiet false u = (refl, tt)
 
--- what one process does leaves the mappings of another
-others-mapped : (p q : ProcName) (op : Op) (reply : Reply) (past : List StoreEffect) → same_proc p q ≡ false → mappings p (store_effect q op reply ++ past) ≡ mappings p past
-others-mapped p q (New home kind room) (Made u) past other = refl
-others-mapped p q (Lock u m) Fine past other = refl
-others-mapped p q (Unlock u) Fine past other = refl
-others-mapped p q (Delete u) Fine past other = refl
-others-mapped p q (Store spot bytes) Fine past other = refl
-others-mapped p q (Map u) (At a true) past other = rw other refl
-others-mapped p q (Unmap u) Fine past other = rw other refl
-others-mapped p q _ _ past other = refl
-
--- and so does an act
+-- an act of a process leaves the mappings of all
 act-mapped : (opening : Start) (p q : ProcName) (op : Op) (reply : Reply) (past : List StoreEffect) → MayAct opening past q op reply → mappings p (store_effect q op reply ++ past) ≡ mappings p past
 act-mapped opening p q (New home kind room) (Made u) past may = refl
 act-mapped opening p q (Lock u m) Fine past may = refl

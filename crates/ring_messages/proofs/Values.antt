@@ -2,7 +2,7 @@
 use Rattle.std.proofs.Common.{◌≡◌, ℕ, zero, suc, ◌/◌, ◌%◌, ◌^◌, ◌<◌, ◌≤◌, Bool, true, false, List, [], ◌∷◌, ◌++◌, length, take, drop, Some, None, refl, sym, ap, subst, ◌∙◌, append_assoc, arith}
 use Rattle.std.specs.Prelude.{All, nat_lt, nat_le, not, ◌*◌, ◌==◌, ◌&&◌, if◌then◌else◌}
 use Rattle.std.specs.List.{flat_map, AllByRecursion}
-use Rattle.std.proofs.lemmas.Bool.{ltb-false, le-ltb, and_parts}
+use Rattle.std.proofs.lemmas.Bool.{ltb-false, le-ltb, and_parts, not-true}
 use Rattle.std.proofs.lemmas.Bool.Decides.{nat_tests}
 use Rattle.std.proofs.lemmas.List.{take_at, drop_at, take-append-drop, length-append, length-take, length-replicate, get_or_default}
 use Rattle.std.proofs.lemmas.List.Elements.{All-replicate}
@@ -176,14 +176,10 @@ pub blank-is : IsPageBytes blank_page
 unfolding blank_page
 blank-is = record { len = length-replicate PAGE_BYTES 0; small = All-replicate (λ (b : ℕ). b < 256) PAGE_BYTES 0 (omega arith) }
 
-not_so : (b : Bool) → not b ≡ true → b ≡ false
-not_so true h = absurd cc
-not_so false h = refl
-
 -- any other page, without its form
 field-full : IsField (λ (bytes : List ℕ). bytes) (λ (bytes : List ℕ). IsPageBytes bytes × (is_blank bytes ≡ false)) full_at
 unfolding full_at
-field-full = field-passing (λ (bytes : List ℕ). not (is_blank bytes)) (λ (bytes : List ℕ). is_blank bytes ≡ false) (λ bytes h. ap not h) (λ bytes h. not_so (is_blank bytes) h) field-bytes
+field-full = field-passing (λ (bytes : List ℕ). not (is_blank bytes)) (λ (bytes : List ℕ). is_blank bytes ≡ false) (λ bytes h. ap not h) (λ bytes h. not-true (is_blank bytes) h) field-bytes
 
 -- a page behind its form
 form-again : (bytes rest : List ℕ) (b : Bool) → IsPageBytes bytes → is_blank bytes ≡ b → formed_at (formed b bytes ++ rest) ≡ Some (bytes, rest)

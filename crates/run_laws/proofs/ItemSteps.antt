@@ -5,6 +5,7 @@ use Rattle.std.specs.Prelude.{nat_lt, ◌&&◌, not, if◌then◌else◌}
 use Rattle.std.specs.Option.{option_map}
 use Rattle.std.proofs.lemmas.Bool.Decides.{nat_tests}
 use Rattle.std.proofs.lemmas.Option.{same_Some}
+use Rattle.std.proofs.Math.Bool.{and-true}
 use Rattle.uid_names.specs.Names.{ObjectName, same_uid}
 use Rattle.uid_names.specs.declared.mode.Mode.{Mode}
 use Rattle.uid_names.proofs.ListLemmas.{by_cases}
@@ -95,11 +96,7 @@ flagged-one-then d e u k w j change names dirty bytes now clean = by_cases (is_s
     (λ same. flagged-then d e u k change dirty bytes (ap (λ ps. page_at ps u k) now ∙ changed-here d.cache.pages u k w j change names same) clean)
     (λ differs. page-then d e u k (ap (λ ps. page_at ps u k) now ∙ page_at-changed_other w j change names d.cache.pages u k differs) clean)
 
-pub and-true : (b : Bool) → (b && true) ≡ b
-and-true true = refl
-and-true false = refl
-
--- the answer to a page or a length that was sent before a release: what becomes of it is told by the call itself
+pub -- the answer to a page or a length that was sent before a release: what becomes of it is told by the call itself
 abbrev pub IsPlain : Cause → Type 0
 IsPlain (Cause.AnswerCame (LockAnswer.PageSettled u delete taken stamp)) = ⊥
 IsPlain (Cause.AnswerCame (LockAnswer.LengthSettled u n delete taken stamp)) = ⊥

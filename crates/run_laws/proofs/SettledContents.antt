@@ -4,6 +4,7 @@ use Rattle.std.specs.Prelude.{◌==◌, ◌&&◌, not, if◌then◌else◌}
 use Rattle.std.specs.Option.{option_map}
 use Rattle.std.proofs.lemmas.Bool.Decides.{nat_tests}
 use Rattle.std.proofs.lemmas.Option.{same_Some}
+use Rattle.std.proofs.Math.Bool.{and-true}
 use Rattle.uid_names.specs.Names.{ObjectName, same_uid}
 use Rattle.uid_names.proofs.ListLemmas.{by_cases}
 use Rattle.uid_names.proofs.Orders.{same_uid_is}
@@ -21,7 +22,7 @@ use Rattle.fault_handler.proofs.KnownRows.{known_of-with_known, uid-sent}
 use Rattle.fault_handler.proofs.PageLists.{is_same, same-uid, same-page, page_at-changed_other}
 use Rattle.lock_validate.specs.Causes.{Cause}
 use Rattle.run_laws.specs.Items.{Item, Value, page_value, known_value, is_dirty_at}
-use Rattle.run_laws.proofs.ItemSteps.{IsCleanThen, ItemStep, alike, cleaned, changed-here, page-then, length-then, flagged-one-then, and-true}
+use Rattle.run_laws.proofs.ItemSteps.{IsCleanThen, ItemStep, alike, cleaned, changed-here, page-then, length-then, flagged-one-then}
 use Rattle.run_laws.proofs.Raising.{IsSettledTo}
 
 -- where a release goes on

@@ -51,11 +51,11 @@ settled-phase part at (Talking talk) = refl
 settled-phase part at (Listing home last text) = refl
 
 -- a phase is waited for between commands alone, and an operation within one
-no_phase : (op : Option Op) → want_by op ≡ Phase → ⊥
+pub no_phase : (op : Option Op) → want_by op ≡ Phase → ⊥
 no_phase None wants = cc
 no_phase (Some op) wants = cc
 
-no_op : (early : Bool) (asked : Op) → cond early Phase Done ≡ Do asked → ⊥
+pub no_op : (early : Bool) (asked : Op) → cond early Phase Done ≡ Do asked → ⊥
 no_op true asked wants = cc
 no_op false asked wants = cc
 

@@ -28,6 +28,16 @@ set-else (x ∷ xs) zero (suc n) y differs = refl
 set-else (x ∷ xs) (suc i) zero y differs = refl
 set-else (x ∷ xs) (suc i) (suc n) y differs = set-else xs i n y (λ same. differs (ap suc same))
 
+-- what stands in a list stands there where more is behind, and what is put behind it stands at its end
+pub front : {A : Type 0} (xs ys : List A) (k : ℕ) (x : A) → slice_get xs k ≡ Some x → slice_get (xs ++ ys) k ≡ Some x
+front [] ys k x e = absurd (cc)
+front (z ∷ xs) ys zero x e = e
+front (z ∷ xs) ys (suc k) x e = front xs ys k x e
+
+pub end-there : {A : Type 0} (xs : List A) (y : A) → slice_get (xs ++ y ∷ []) (length xs) ≡ Some y
+end-there [] y = refl
+end-there (x ∷ xs) y = end-there xs y
+
 -- what holds of each holds of each from the last one on
 pub All-reverse : {X : Type 0} (P : X → Type 0) (xs : List X) → All P xs → All P (reverse xs)
 All-reverse P [] all = all

@@ -11,6 +11,7 @@ use Rattle.dom_history.specs.declared.op.Reply.{Reply}
 use Rattle.dom_history.specs.declared.op.Want.{Want}
 use Rattle.dom_history.specs.Objects.{is_node}
 use Rattle.uid_names.specs.Openings.{Start}
+use Rattle.uid_names.proofs.ListLemmas.{front}
 use Rattle.node_runs.specs.Setups.{Setup}
 use Rattle.node_runs.specs.Doings.{node_numbers}
 use Rattle.node_runs.specs.Runs as runs
@@ -39,11 +40,6 @@ acts-many i (y ∷ ys) =
     let both = length-append (map (act_of (i + 1)) y.enabled.items) (acts (i + 1) ys) in
     let sums = sum_by-cons (λ (k : ℕ). k) (length y.enabled.items) (enabled_counts ys) in
     sums ∙ ap (λ k. length y.enabled.items + k) more ∙ ap (λ k. k + length (acts (i + 1) ys)) (sym own) ∙ sym both
-
-front : {A : Type 0} (xs ys : List A) (k : ℕ) (x : A) → slice_get xs k ≡ Some x → slice_get (xs ++ ys) k ≡ Some x
-front [] ys k x e = absurd (cc)
-front (z ∷ xs) ys zero x e = e
-front (z ∷ xs) ys (suc k) x e = front xs ys k x e
 
 beyond : {A : Type 0} (xs ys : List A) (k : ℕ) → slice_get (xs ++ ys) (length xs + k) ≡ slice_get ys k
 beyond [] ys k = ap (slice_get ys) (nothing-more k)

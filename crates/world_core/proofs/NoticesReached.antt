@@ -1,9 +1,10 @@
 -- The notices of a node after an event took one, and the notice of a frame that is lost or late came.
 use Rattle.std.proofs.Common.{◌≡◌, ◌≢◌, ℕ, ◌+◌, ◌≤◌, Bool, true, false, Option, Some, None, List, [], ◌++◌, map, inl, inr, refl, sym, ap, ◌∙◌, arith}
-use Rattle.std.specs.Prelude.{◌==◌, ◌-◌, not, ◌&&◌, if◌then◌else◌, filter, flat_map, All}
+use Rattle.std.specs.Prelude.{◌==◌, ◌-◌, not, ◌&&◌, filter, flat_map, All, if◌then◌else◌}
 use Rattle.std.specs.List.{list_any}
 use Rattle.std.proofs.lemmas.Bool.{cases_eq, eq-eqb, ne_eqb}
 use Rattle.std.proofs.lemmas.List.Elements.{All-nil, All-cons}
+use Rattle.std.proofs.Math.Bool.{and-false}
 use Rattle.dom_history.specs.declared.event.What.{What}
 use Rattle.dom_history.specs.declared.event.What.TheVariants as events
 use Rattle.dom_history.specs.declared.event.Sent.{Sent}
@@ -38,10 +39,6 @@ use Rattle.world_core.proofs.NoticesOnce.{notice-goes, all-but-one}
 pub record AreLeft (w : World) (n : ℕ) (e : Happening) (old kept : List Notice) : Type 0 where
   pub are : map notice_what kept ≡ filter (λ y. not (is_done_by n e y)) (map notice_what old)
   pub told : All (IsNoticeOf w n) kept
-
-and-false : (b : Bool) → (b && false) ≡ false
-and-false true = refl
-and-false false = refl
 
 start-tells : (what : What) → IsStart what → noticed_by what ≡ []
 start-tells what (begins p) = refl

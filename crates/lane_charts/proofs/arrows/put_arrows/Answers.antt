@@ -1,12 +1,12 @@
 use Rattle.std.proofs.Common.{◌∙◌, List, ℕ, ◌++◌, ap, length, arith}
 use Rattle.std.proofs.lemmas.List.Sums.{count_by-le-length}
+use Rattle.std.proofs.lemmas.Result.{on_ok_weaker}
 use Rattle.lane_charts.specs.ArrowKeys.{key_as}
 use Rattle.lane_charts.specs.Places.{is_key}
 use Rattle.lane_charts.specs.declared.by_row.Standing.TheVariants.{Sent}
 use Rattle.lane_charts.specs.declared.chart.Arrow.{Arrow}
 use Rattle.lane_charts.proofs.ByRow.{groups-all}
 use Rattle.lane_charts.proofs.Keyed.{keyed-list, length-places_of, listed-within}
-use Rattle.lane_charts.proofs.Puts.{on_ok}
 use Rattle.lane_charts.proofs.arrows.put_arrows.Goals as goal
 
 pub put_groups-requires-clause-there : goal.put_groups-requires-clause-there
@@ -25,7 +25,7 @@ put_groups-requires-clause-few c =
 pub returns : goal.returns
 returns c =
     let chart = c.args.chart.now in
-    on_ok c.put_groups.result
+    on_ok_weaker c.put_groups.result
     (λ h.
     h
     ∙ ap (λ (t : List ℕ). c.args.to.now ++ t)

@@ -1,4 +1,5 @@
 use Rattle.std.proofs.Common.{◌∙◌, List, ℕ, ◌++◌, ap, length, true, false}
+use Rattle.std.proofs.lemmas.Result.{on_ok_weaker}
 use Rattle.lane_charts.specs.ArrowKeys.{key_as}
 use Rattle.lane_charts.specs.Places.{is_key}
 use Rattle.lane_charts.specs.TextCharts.{arrow_if, arrow_in, is_taken_at}
@@ -6,7 +7,6 @@ use Rattle.lane_charts.specs.declared.by_row.Standing.TheVariants.{Taken}
 use Rattle.lane_charts.specs.declared.chart.Arrow.{Arrow}
 use Rattle.lane_charts.proofs.ByRow.{taken-if}
 use Rattle.lane_charts.proofs.Keyed.{drawn-all, keyed-list, listed-within}
-use Rattle.lane_charts.proofs.Puts.{on_ok}
 use Rattle.lane_charts.proofs.text.put_taken.Goals as goal
 
 pub put_arrows-requires-clause-there : goal.put_arrows-requires-clause-there
@@ -19,7 +19,7 @@ pub returns : goal.returns
 returns c =
     let chart = c.args.chart.now in
     let k = c.args.at in
-    on_ok c.put_arrows.result
+    on_ok_weaker c.put_arrows.result
     (λ h.
     h
     ∙ ap (λ (t : List ℕ). c.args.to.now ++ t)

@@ -3,11 +3,11 @@ use Rattle.std.specs.Prelude.{slice_get, slice_set, is_some}
 use Rattle.std.specs.Vec.{with_item}
 use Rattle.std.proofs.lemmas.Bool.{false≢true}
 use Rattle.std.proofs.lemmas.Option.{slice_get-get_or}
+use Rattle.std.proofs.lemmas.Result.{on_ok_weaker}
 use Rattle.uid_names.proofs.Somes.{take-some}
 use Rattle.world_core.specs.declared.station.LinkFrom.{LinkFrom}
 use Rattle.world_core.specs.declared.station.Station.{Station}
 use Rattle.world_core.proofs.Delivering.{delivered-there, still-listed, listed-without}
-use Rattle.world_core.proofs.OnOks.{on_ok}
 use Rattle.world_core.proofs.station.Station.deliver.Goals as goal
 use Rattle.world_core.proofs.station.Station.deliver.Goals.{then-own-via-then-own, then-own-via-else-own+then-waits}
 
@@ -34,7 +34,7 @@ returns-clause-listed g c =
     let waits = take-some (λ (k : LinkFrom). c.waits-waits.result ≡ is_some (slice_get k.link.queue 0)) (slice_get x.ins.items at) l there c.waits-waits.ensures in
     let y : Station g.row.P.Denot g.row.G.Denot = record { node = x.node; notices = x.notices; ins = with_item x.ins at (record l { link = c.send.new.self }); enabled = x.enabled } in
     let ins = ap (λ k. slice_set x.ins.items at (record l { link = k })) c.in_ok-send.ensures.sent in
-    on_ok c.list_oldest.result
+    on_ok_weaker c.list_oldest.result
     (λ listed other was. listed (listed-without at c.args.fate c.args.frame x y l there refl refl refl ins was (sym waits ∙ c.if-waits.false)))
     c.list_oldest.ensures.listed
 
@@ -44,7 +44,7 @@ returns-clause-ins g c =
     let at = c.args.at in
     let l = c.index_mut.result.now in
     let there = slice_get-get_or x.ins.items at l c.requires.within ∙ ap Some (sym c.index_mut.ensures.value) in
-    on_ok c.list_oldest.result
+    on_ok_weaker c.list_oldest.result
     (λ _. ap (λ v. v.items) c.list_oldest.ensures.others.ins ∙ ap (λ k. slice_set x.ins.items at (record l { link = k })) c.in_ok-send.ensures.sent
     ∙ delivered-there at c.args.fate c.args.frame x.ins.items l there)
     c.list_oldest.ensures.listed

@@ -1,11 +1,11 @@
 use Rattle.std.proofs.Common.{refl, sym, ap, ◌∙◌}
 use Rattle.std.specs.Prelude.{◌==◌, ◌-◌}
+use Rattle.std.proofs.lemmas.Result.{on_ok_weaker}
 use Rattle.dom_history.specs.Plans.{fate_of}
 use Rattle.ring_messages.specs.Frames.{caller_of}
 use Rattle.ring_links.specs.Notices.{notice_for}
 use Rattle.world_core.specs.Sending.{delivered}
 use Rattle.world_core.specs.Reached.{ins_if}
-use Rattle.world_core.proofs.OnOks.{on_ok}
 use Rattle.world_core.proofs.Reaching.{not-told, frame-reached}
 use Rattle.world_core.proofs.world.World.send_frame.Goals as goal
 
@@ -22,7 +22,7 @@ returns-clause-reached g c =
     let notice = notice_for m c.args.index in
     let fate-is = c.fate-fate.ensures ∙ ap (λ n. fate_of plan n c.to.result c.args.index) c.from.ensures.value ∙ ap (λ n. fate_of plan m.from n c.args.index) c.to.ensures.value in
     let to-is = c.place_of-to.ensures.value ∙ ap (λ k. k - 1) c.to-2.ensures.value in
-    on_ok c.deliver_at.result (λ reached. frame-reached plan at c.args.index m old new f to caller notice fate-is to-is refl refl
+    on_ok_weaker c.deliver_at.result (λ reached. frame-reached plan at c.args.index m old new f to caller notice fate-is to-is refl refl
     (not-told at caller f notice (λ n ls. ins_if (n == to) (delivered at f m ls) ls) old new new (sym c.is_gone.ensures ∙ c.if-is_gone.false) reached)) c.deliver_at.ensures.reached
 
 pub send_gone-requires-clause-fate : goal.send_gone-requires-clause-fate
