@@ -174,7 +174,7 @@ blank-itself = (bytes_eq-Decides blank_page blank_page).1 refl
 
 pub blank-is : IsPageBytes blank_page
 unfolding blank_page
-blank-is = record { len = length-replicate PAGE_BYTES 0; small = All-replicate (λ (b : ℕ). b < 256) PAGE_BYTES 0 (omega arith) }
+blank-is = record { len = length-replicate {A = ℕ} PAGE_BYTES 0; small = All-replicate (λ (b : ℕ). b < 256) PAGE_BYTES 0 (omega arith) }
 
 -- any other page, without its form
 field-full : IsField (λ (bytes : List ℕ). bytes) (λ (bytes : List ℕ). IsPageBytes bytes × (is_blank bytes ≡ false)) full_at
