@@ -8,7 +8,7 @@ use Rattle.uid_names.specs.declared.limits.TheConstants.{VOLUME_ROOM}
 use Rattle.object_store.specs.declared.attributes.Attr.{Attr}
 use Rattle.object_store.specs.Objects.{stamped, resized, with_change, without_row}
 use Rattle.object_store.specs.HomeStates.{HomeState, next_row, after_make, after_remove, after_page, after_length}
-use Rattle.lock_manager.specs.Tables.{Table, with_grant, without_grant, without_grants_on}
+use Rattle.lock_manager.specs.Tables.{Table, with_grant, without_grants_on}
 use Rattle.call_once.specs.Calls.{Call}
 use Rattle.ring_messages.specs.Bodies.{Ask, Answer}
 use Rattle.page_server.specs.Decisions.{Decision, decide}

@@ -11,7 +11,7 @@ use Rattle.lock_manager.specs.Grants.{grant_of, conflict_of}
 use Rattle.lock_manager.specs.Tables.{Table}
 use Rattle.ring_messages.specs.declared.body.Body.{Body}
 use Rattle.ring_messages.specs.Bodies.{Ask, Answer, ask_of, body_of_answer, copy_wants}
-use Rattle.page_server.specs.Decisions.{decide, is_granted, page_answer, write_answer, lock_answer, remove_answer, make_answer, may_remove, make}
+use Rattle.page_server.specs.Decisions.{decide, is_granted, page_answer, write_answer, lock_answer, remove_answer, make_answer, may_remove}
 use Rattle.page_server.specs.Wants.{is_page, decision_wants}
 
 -- what the copy of an answer wants

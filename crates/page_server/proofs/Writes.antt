@@ -1,13 +1,13 @@
 -- A write is taken exactly on its base, and an old number changes nothing.
 use Rattle.std.proofs.Common.{◌≡◌, ℕ, ◌+◌, ◌*◌, ◌<◌, ◌≤◌, ◌==◌, List, ap, sym, ◌∙◌, refl, arith}
-use Rattle.std.specs.Prelude.{Bool, true, false, ◌&&◌, if◌then◌else◌, nat_lt, nat_le, Option, Some, None}
+use Rattle.std.specs.Prelude.{Bool, true, false, ◌&&◌, if◌then◌else◌, Option, Some, None}
 use Rattle.std.specs.Option.{option_map}
 use Rattle.std.proofs.lemmas.Bool.{eqb-true, eq-eqb, lt-ltb, le-leb}
 use Rattle.std.proofs.lemmas.Bool.Decides.{nat_tests}
 use Rattle.uid_names.specs.Names.{ProcName, ObjectName}
 use Rattle.uid_names.specs.declared.limits.TheConstants.{PAGE_BYTES}
 use Rattle.object_store.specs.declared.attributes.Attr.{Attr}
-use Rattle.object_store.specs.Objects.{attr_at, changed_if, stamped, resized, with_change}
+use Rattle.object_store.specs.Objects.{attr_at, stamped, resized, with_change}
 use Rattle.object_store.specs.HomeStates.{HomeState, attr_of, after_page, after_length}
 use Rattle.object_store.specs.Rules.{has_page, has_length, stamp_of}
 use Rattle.object_store.proofs.RowLemmas.{attr_at-with_change}

@@ -144,5 +144,6 @@ reply-requires-clause-within g c =
 pub reply-requires-in-Again-clause-within : goal.reply-requires-in-Again-clause-within
 reply-requires-in-Again-clause-within g c =
     let version : c.self.inside.wire ≡ c.args.frame.now.version = ap (λ (s : ServerState). s.wire) c.self.view_is ∙ sym c.requires.version in
+    let kept = sym (ap (λ (p : ProcName). body_of p c.self.inside.served) c.caller-in-Again.ensures) ∙ c.in_ok-answer-in-Again.ensures.same in
     subst (λ (v : ℕ). LiesWithin (wire_room v) (body_of_answer c.in_ok-answer-in-Again.answer)) version
-    (kept-within (wire_room c.self.inside.wire) c.self.inside.served (caller_of c.args.frame.now) (call_of (caller_of c.args.frame.now) c.self.inside.served) c.in_ok-answer-in-Again.answer c.self.invariant.within.kept refl c.in_ok-answer-in-Again.ensures.same)
+    (kept-within (wire_room c.self.inside.wire) c.self.inside.served (caller_of c.args.frame.now) (call_of (caller_of c.args.frame.now) c.self.inside.served) c.in_ok-answer-in-Again.answer c.self.invariant.within.kept refl kept)
