@@ -1,6 +1,6 @@
 -- The script of a seed: each piece of it may be said where it is, and leads to the next.
 use Rattle.std.proofs.Common.{◌≡◌, ◌≤◌, ◌<◌, ◌+◌, ◌*◌, ◌/◌, ◌%◌, ◌≢◌, ℕ, zero, suc, Bool, true, false, get_or, set, List, [], ◌∷◌, ◌++◌, length, map, refl, ap, sym, subst, ◌∙◌, append-nil, append_assoc, add-one, length-append, arith, rules}
-use Rattle.std.specs.Prelude.{◌==◌, ◌||◌, not, nat_le, nat_lt, codes, decimal, flat_map}
+use Rattle.std.specs.Prelude.{◌==◌, not, nat_le, nat_lt, codes, decimal, flat_map}
 use Rattle.std.specs.Fmt.{digits}
 use Rattle.std.specs.List.{AllByRecursion, list_all, range_with_len}
 use Rattle.std.proofs.lemmas.Bool.{eqb-true, not-true, and_parts}
