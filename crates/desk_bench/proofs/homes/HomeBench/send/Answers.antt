@@ -1,4 +1,4 @@
-use Rattle.std.proofs.Common.{arith}
+use Rattle.std.proofs.Common.{rules, arith}
 use Rattle.ring_messages.proofs.Versions.{second-carries}
 use Rattle.desk_bench.proofs.homes.HomeBench.send.Goals as goal
 
@@ -8,7 +8,7 @@ new-frame-requires c = record {
   proc_high = c.number.ensures.greatest;
   number = omega arith;
   tick = omega arith;
-  body = c.may_ask.ensures.ranges c.may_ask.true;
+  body = search rules;
   version = (omega arith, omega arith);
-  within = second-carries c.node-to.result c.args.body (c.may_ask.ensures.ranges c.may_ask.true);
+  within = second-carries c.node-to.result c.args.body (search rules);
 }
