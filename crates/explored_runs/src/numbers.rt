@@ -29,7 +29,8 @@ fn explored_part(alloc: Global, script: &Script, from: u64, to: u64) -> Result<E
     Ok(explored)
 }
 
-/// The same, in parts of which all outcomes are kept.
+/// What came of the numbers from one up to another, which is none of them, counted one after the other in this thread: in parts
+/// so short that each of their outcomes is kept.
 fn explored_in_turn(
     alloc: Global,
     script: &Script,
