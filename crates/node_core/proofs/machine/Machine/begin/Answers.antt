@@ -11,12 +11,13 @@ use Rattle.node_runs.specs.Doings.{begins}
 use Rattle.node_runs.specs.Operations.{begun}
 use Rattle.node_runs.specs.Outcomes.{Stage}
 use Rattle.node_runs.specs.Steps.{stepped_as_named}
+use Rattle.node_runs.proofs.Forgetting.{idle-when_nothing_is_open}
 use Rattle.node_core.specs.Processes.{IsWanted, want_at}
 use Rattle.node_core.specs.Machines.{given_of, state_of}
 use Rattle.node_core.specs.Outcomes.{Led, Moves}
 use Rattle.node_core.proofs.Seen.{want-is}
 use Rattle.node_core.proofs.Turning.{does-moves}
-use Rattle.node_core.proofs.Enabling.{program-there}
+use Rattle.node_core.proofs.Enabling.{nothing-open, program-there}
 use Rattle.node_core.proofs.machine.Machine.begin.Goals as goal
 
 pub begins-requires-clause-program : goal.begins-requires-clause-program
@@ -32,6 +33,12 @@ begins-requires-clause-wanted g c =
     let inside : i < length m.procs = subst (λ n. i < n) (sym c.requires.before.within.four) c.index_of.ensures.bound in
     let own : want_at m.procs p ≡ Do c.in-Do.field-0 = want-is m.procs i p d c.index_of.ensures.value inside ∙ c.in-Do.is in
     subst IsWanted (sym own) (subst IsWant own (c.requires.before.within.wanted p))
+
+pub begins-requires-clause-idle : goal.begins-requires-clause-idle
+begins-requires-clause-idle g c =
+    let m = c.args.self.now in
+    let p = c.args.proc.number in
+    idle-when_nothing_is_open (given_of m) (state_of m) c.requires.before.node p c.index_of.ensures.process (nothing-open (given_of m) (state_of m) p c.requires.enabled)
 
 pub begins-requires-clause-low : goal.begins-requires-clause-low
 begins-requires-clause-low g c = c.requires.before.node.within.desk
