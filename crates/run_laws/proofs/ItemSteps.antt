@@ -96,7 +96,7 @@ flagged-one-then d e u k w j change names dirty bytes now clean = by_cases (is_s
     (λ same. flagged-then d e u k change dirty bytes (ap (λ ps. page_at ps u k) now ∙ changed-here d.cache.pages u k w j change names same) clean)
     (λ differs. page-then d e u k (ap (λ ps. page_at ps u k) now ∙ page_at-changed_other w j change names d.cache.pages u k differs) clean)
 
-pub -- the answer to a page or a length that was sent before a release: what becomes of it is told by the call itself
+-- the answer to a page or a length that was sent before a release: what becomes of it is told by the call itself
 abbrev pub IsPlain : Cause → Type 0
 IsPlain (Cause.AnswerCame (LockAnswer.PageSettled u delete taken stamp)) = ⊥
 IsPlain (Cause.AnswerCame (LockAnswer.LengthSettled u n delete taken stamp)) = ⊥
