@@ -80,7 +80,6 @@ impl Spelled {
     }
 
     /// The frame that has these bytes: there is just one.
-    #[tactic(auto, using(crate::proofs::Spelling::spelt_tick))]
     pub fn frame(&self, alloc: Global) -> Result<Frame, NoMemory>
         ensures spells { IfOk result (λ frame. Spells frame self.now) }
         ensures tick { IfOk result (λ frame. frame.tick < 2 ^ 40) }
