@@ -399,7 +399,7 @@ module _ {P G : Type 0} (wants : P → Want) (becomes : P → Option Reply → P
                   (subst (λ (ns : List notice.Notice). AreNotices s.opening.nodes plan n p ns) (sym notices) post.notices) from apart carried what incoming event;
             }) done
 
-        dropped-by : IsPassed from n (entries_taken from n (events_in p.own)) carried → IsKept wants becomes limit made s plan n mid
+        dropped-by : IsPassed s.wire from n (entries_taken from n (events_in p.own)) carried → IsKept wants becomes limit made s plan n mid
         dropped-by passed =
             let q : Serving = record p { ins = ins_with from carried p.ins } in
             let served = passed-by s.opening.nodes plan n p post.served.own_rest x.own.queue x.notices.items post.own_rest s post.served post.notices from apart carried passed in
