@@ -10,5 +10,5 @@ new-requires c = record {
   tick = omega arith;
   body = search rules;
   version = (omega arith, omega arith);
-  within = second-carries 2 c.in_ok-body.body c.in_ok-body.ensures;
+  within = second-carries 2 c.in_ok-body.field-0 c.in_ok-body.ensures;
 }
