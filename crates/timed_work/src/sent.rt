@@ -85,7 +85,7 @@ impl Side {
                 let bytes = write(self.alloc, &frame)?;
                 self.index = index;
                 self.incoming = Incoming::Frame(frame);
-                Ok(bytes.bytes().len() as u32)
+                Ok(u32::try_from(bytes.bytes().len()).unwrap_or(u32::MAX))
             }
             None => {
                 self.incoming = Incoming::Nothing;
