@@ -17,5 +17,6 @@ pub mod Plans
 pub mod KeptFates
 pub mod NodeTexts
 pub mod EndWords
+pub mod DroppedPages
 pub mod Events
 pub mod MergedLogs

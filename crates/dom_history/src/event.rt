@@ -71,19 +71,36 @@ fn are_rising(pages: &[(Uid, u32)]) -> bool
     true
 }
 
-/// Pages, each by its object and its number there.
+/// Pages as a list of them is kept.
 #[derive(Drop, Debug)]
+enum Pages {
+    /// The one page, which takes no memory.
+    One([(Uid, u32); 1]),
+    Many(Vec<(Uid, u32)>),
+}
+
+/// Pages, each by its object and its number there. Most events that drop a page drop one.
+#[derive(Debug)]
 pub struct Dropped {
-    items: Vec<(Uid, u32)>,
+    alloc: Global,
+    pages: Pages,
+}
+
+// Of its own, so that what drops one calls this and does not take it apart in place.
+impl Drop for Dropped {
+    fn drop(self) {
+        let Dropped { alloc: _, pages: _ } = self;
+    }
 }
 
 impl Model for Dropped {
     ghost use Rattle.std.specs.Prelude.{ℕ, List};
     ghost use Rattle.uid_names.specs.Names.{ObjectName};
+    ghost use Rattle.dom_history.specs.DroppedPages.{listed};
 
     ghost Value = { List (ObjectName × ℕ) };
 
-    ghost view = { λ d. d.items.items };
+    ghost view = { λ d. listed d.pages };
 }
 
 impl Dropped {
@@ -92,15 +109,19 @@ impl Dropped {
         ensures { result ≡ [] }
     {
         Dropped {
-            items: Vec::new(alloc),
+            alloc,
+            pages: Pages::Many(Vec::new(alloc)),
         }
     }
 
-    /// The list of a vector's pages. Takes no memory.
-    pub fn from_vec(items: Vec<(Uid, u32)>) -> Dropped
-        ensures { result ≡ items.items }
+    /// One page. Takes no memory.
+    pub fn one(alloc: Global, uid: Uid, page: u32) -> Dropped
+        ensures { result ≡ (uid, page) ∷ [] }
     {
-        Dropped { items }
+        Dropped {
+            alloc,
+            pages: Pages::One([(uid, page)]),
+        }
     }
 
     /// Puts a page last; without memory the list stays as it was.
@@ -108,31 +129,60 @@ impl Dropped {
         ensures ok { OnOk result (self.new ≡ self.old ++ page ∷ []) }
         ensures err { OnErr result (self.new ≡ self.old) }
     {
-        self.items.push(page)?;
-        Ok(())
+        match &mut self.pages {
+            Pages::Many(pages) => {
+                pages.push(page)?;
+                Ok(())
+            }
+            Pages::One(one) => {
+                let pages = both(self.alloc, one[0], page)?;
+                self.pages = Pages::Many(pages);
+                Ok(())
+            }
+        }
     }
 
     /// The pages.
     pub fn items(&self) -> &[(Uid, u32)]
         ensures { result.now ≡ self.now }
     {
-        self.items.as_slice()
+        match &self.pages {
+            Pages::One(page) => page.as_slice(),
+            Pages::Many(pages) => pages.as_slice(),
+        }
     }
 
     /// Whether each page comes before the later ones, by object and then by number. Takes no memory.
     pub fn is_rising(&self) -> bool
         ensures { IsTrue result ↔ ArePagesRising self.now }
     {
-        are_rising(&self.items)
+        are_rising(self.items())
     }
 
     /// A copy.
     pub fn copy(&self, alloc: Global) -> Result<Dropped, NoMemory>
         ensures { IfOk result (λ copy. copy ≡ self.now) }
     {
-        let items = Vec::from_slice(alloc, self.items.as_slice())?;
-        Ok(Dropped { items })
+        let pages = match &self.pages {
+            Pages::One(page) => Pages::One([page[0]]),
+            Pages::Many(pages) => Pages::Many(Vec::from_slice(alloc, pages.as_slice())?),
+        };
+        Ok(Dropped { alloc, pages })
     }
+}
+
+/// A list of two pages.
+fn both(
+    alloc: Global,
+    first: (Uid, u32),
+    second: (Uid, u32),
+) -> Result<Vec<(Uid, u32)>, NoMemory>
+    ensures { IfOk result (λ pages. pages.items ≡ first ∷ second ∷ []) }
+{
+    let mut pages = Vec::with_capacity(alloc, 2)?;
+    pages.push(first)?;
+    pages.push(second)?;
+    Ok(pages)
 }
 
 /// What an event did: the pages that it dropped, the frame that it sent, and the process whose operation it ended.

@@ -22,6 +22,7 @@ use crate::four::{in_transit, index_of, other_transit, others_keep, transit_of};
 use crate::lengths::Known;
 use crate::open_call::OpenCall;
 use crate::pages::ResidentPages;
+use crate::spare::PageRoom;
 use crate::tasks::Task;
 use address_map::AddressMap;
 use dom_history::LockState;
@@ -48,6 +49,8 @@ pub struct Desk {
     maps: [AddressMap; NODE_PROCESSES],
     calls: [Option<OpenCall>; NODE_PROCESSES],
     tasks: [Option<Task>; NODE_PROCESSES],
+    // Room for the bytes of a page, from a miss that sent none home.
+    spare: Option<PageRoom>,
 }
 
 // Of its own, so that what drops one calls this and does not take it apart in place.
@@ -63,6 +66,7 @@ impl Drop for Desk {
             maps: _,
             calls: _,
             tasks: _,
+            spare: _,
         } = self;
     }
 }
@@ -127,6 +131,7 @@ impl Desk {
             maps,
             calls: [None; NODE_PROCESSES],
             tasks: [None, None, None, None],
+            spare: None,
         })
     }
 

@@ -1,5 +1,5 @@
 //! A node's resident pages by their names, and the pages that its processes move. Which frame a page is in stays in here.
-ghost use Rattle.std.specs.Prelude.{◌≡◌, ◌⊎◌, ℕ, ◌+◌, ◌-◌, ◌<◌, ◌≤◌, List, [], ◌∷◌, length, take, drop, false, not, ◌&&◌, is_some, Some, None, IfOk, IfSome, IfNone, OnOk, OnErr, vec_capacity};
+ghost use Rattle.std.specs.Prelude.{◌≡◌, ◌⊎◌, ℕ, ◌+◌, ◌-◌, ◌<◌, ◌≤◌, List, [], ◌∷◌, length, take, drop, false, not, ◌&&◌, is_some, Some, None, IfOk, IfSome, IfNone, OnOk, OnErr};
 ghost use Rattle.std.specs.Bool.{OnTrue, OnFalse};
 ghost use Rattle.std.specs.Option.{option_map};
 ghost use Rattle.page_cache.specs.Caches.{IsCache, IsResident, IsFrame, page_at, page_in, free_count};
@@ -20,7 +20,7 @@ use page_cache::{Cache, PageList};
 use page_frames::{FEWEST_FRAMES, Flags, FrameNo, MOST_FRAMES};
 use std::alloc::Global;
 use std::marker::Model;
-use uid_names::{ByteList, NODE_PROCESSES, NoMemory, PAGE_BYTES, ProcId, Uid};
+use uid_names::{ByteList, ByteRoom, NODE_PROCESSES, NoMemory, PAGE_BYTES, ProcId, Uid};
 
 /// The frame of a resident page.
 fn frame_of(cache: &Cache, uid: Uid, page: u32) -> FrameNo
@@ -125,21 +125,20 @@ impl ResidentPages {
         }
     }
 
-    /// So many bytes of a page, from one on, in a vector with room for them; the page becomes the last used
+    /// So many bytes of a page, from one on, where there is room for them; the page becomes the last used
     /// one. None where it is not resident. Takes no memory. Inlined, as are those beside it that hand on the
-    /// vector: else it is stored and read again at each load.
+    /// room: else it is stored and read again at each load.
     #[inline(always)]
     pub(crate) fn load(
         &mut self,
-        room: Vec<u8>,
+        room: ByteRoom,
         uid: Uid,
         page: u32,
         start: u32,
         count: u32,
     ) -> Option<ByteList>
         requires within { start + count ≤ PAGE_BYTES }
-        requires empty { room.items ≡ [] }
-        requires room { count ≤ vec_capacity room }
+        requires room { count ≤ room }
         ensures bytes { result ≡ option_map (λ r. take count (drop start r.bytes)) (page_at self.old.cache.pages uid page) }
         ensures used { IfSome result (λ _. self.new ≡ repaged self.old (used self.old.cache.pages uid page)) }
         ensures absent { IfNone result (page_at self.old.cache.pages uid page ≡ None) }

@@ -1,24 +1,19 @@
 //! Loads and stores at their places.
-ghost use Rattle.std.specs.Prelude.{◌≡◌, ◌+◌, ◌≤◌, IfOk, take, drop, [], vec_capacity};
+ghost use Rattle.std.specs.Prelude.{◌≡◌, ◌+◌, ◌≤◌, IfOk, take, drop};
 ghost use Rattle.fault_handler.specs.Tasks.{page_of, start_of, size_of};
 ghost use Rattle.fault_handler.specs.Unseen.{loaded_from, loaded_size};
 
 use std::alloc::Global;
-use uid_names::{ByteList, NoMemory, PAGE_BYTES, Uid};
+use uid_names::{ByteList, ByteRoom, NoMemory, PAGE_BYTES, Uid};
 
-/// So many bytes of a page, from one on, in a vector with room for them. Takes no memory.
-pub(crate) fn copied(mut room: Vec<u8>, page: &[u8; PAGE_BYTES], start: u32, count: u32) -> ByteList
+/// So many bytes of a page, from one on, where there is room for them. Takes no memory.
+pub(crate) fn copied(room: ByteRoom, page: &[u8; PAGE_BYTES], start: u32, count: u32) -> ByteList
     requires within { start + count ≤ PAGE_BYTES }
-    requires empty { room.items ≡ [] }
-    requires room { count ≤ vec_capacity room }
+    requires room { count ≤ room }
     ensures { result ≡ take count (drop start page.now) }
 {
     let first = start as usize;
-    match room.extend_from_slice(&page[first..first + count as usize]) {
-        Ok(()) => ByteList::from_vec(room),
-        // There is room for them.
-        Err(_) => unreachable!(),
-    }
+    room.fill(&page[first..first + count as usize])
 }
 
 /// What is done at a place: so many bytes loaded, or these stored.
@@ -62,14 +57,13 @@ impl Task {
         self.offset % PAGE_BYTES as u32
     }
 
-    /// A vector with room for the bytes that a load takes from its page. A store wants no memory.
-    pub(crate) fn room(&self, alloc: Global) -> Result<Vec<u8>, NoMemory>
-        ensures empty { IfOk result (λ room. room.items ≡ []) }
-        ensures room { IfOk result (λ room. loaded_size self.now.work ≤ vec_capacity room) }
+    /// Room for the bytes that a load takes from its page. A store wants no memory.
+    pub(crate) fn room(&self, alloc: Global) -> Result<ByteRoom, NoMemory>
+        ensures { IfOk result (λ room. loaded_size self.now.work ≤ room) }
     {
         match &self.work {
-            Work::Load(count) => Ok(Vec::with_capacity(alloc, *count as usize)?),
-            Work::Store(_) => Ok(Vec::new(alloc)),
+            Work::Load(count) => ByteRoom::new(alloc, *count as usize),
+            Work::Store(_) => Ok(ByteRoom::none(alloc)),
         }
     }
 

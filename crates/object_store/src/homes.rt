@@ -1,5 +1,5 @@
 //! The home side of a node: its objects and their pages.
-ghost use Rattle.std.specs.Prelude.{◌≡◌, ◌↔◌, ℕ, ◌+◌, ◌-◌, ◌^◌, ◌<◌, ◌≤◌, IfOk, OnOk, OnErr, MatchOption, is_ok, is_some};
+ghost use Rattle.std.specs.Prelude.{◌≡◌, ◌↔◌, ℕ, ◌+◌, ◌-◌, ◌^◌, ◌<◌, ◌≤◌, IfOk, IfErr, OnOk, OnErr, MatchOption, is_ok, is_some, unwrap_or, Some, None, option_copied};
 ghost use Rattle.std.specs.Option.{ForSome};
 ghost use Rattle.std.specs.Result.{result_ok};
 ghost use Rattle.page_store.specs.Volumes.{no_pages, page_of, zeros};
@@ -182,6 +182,20 @@ impl<P: Pages> Home<P> {
         }
         self.pages.get(uid.counter(), page, into);
         Ok(attr.stamp)
+    }
+
+    /// The stamp of an object, and a page of it; None in place of one that was never written, which is zeros. Takes no memory.
+    pub fn page(&self, uid: Uid, page: u32) -> Result<(u64, Option<&[u8; PAGE_BYTES]>), NoObject>
+        ensures stamp { IfOk result (λ found. page_stamp (attr_of self.now uid) page ≡ Some found.0) }
+        ensures absent { IfErr result (λ e. page_stamp (attr_of self.now uid) page ≡ None) }
+        ensures least { IfOk result (λ found. 1 ≤ found.0) }
+        ensures page { IfOk result (λ found. page_of self.now.pages uid.counter page ≡ unwrap_or (option_copied found.1) zeros) }
+    {
+        let attr = self.look(uid)?;
+        if page >= attr.room {
+            return Err(NoObject);
+        }
+        Ok((attr.stamp, self.pages.find(uid.counter(), page)))
     }
 
     /// Writes a page of an object where the base is the object's stamp, and gives the new stamp.

@@ -1,7 +1,8 @@
 //! What a home decides on each kind of request.
-ghost use Rattle.std.specs.Prelude.{◌≡◌, ◌-◌, ◌^◌, ◌<◌, ◌≤◌, ◌&&◌, nat_le, length, IfSome, IfOk, OnOk, OnErr, IsErr, IsTrue};
+ghost use Rattle.std.specs.Prelude.{◌≡◌, ◌-◌, ◌^◌, ◌<◌, ◌≤◌, ◌&&◌, nat_le, length, IfSome, IfOk, OnOk, OnErr, IsErr, IsTrue, unwrap_or, option_copied};
 ghost use Rattle.std.specs.Option.{ForSome};
 ghost use Rattle.uid_names.specs.Names.{ProcName};
+ghost use Rattle.page_store.specs.Volumes.{zeros};
 ghost use Rattle.uid_names.specs.declared.mode.Mode.{Mode};
 ghost use Rattle.object_store.specs.HomeStates.{attr_of};
 ghost use Rattle.object_store.specs.Rules.{has_page, has_length};
@@ -22,7 +23,18 @@ use ring_messages::{Body, PageBytes};
 use std::alloc::Global;
 use uid_names::{MAX_ROOM, Mode, NoMemory, ObjKind, PAGE_BYTES, ProcId, Uid};
 
-/// A page, where it is there. It is read to where its answer carries it.
+/// A page as an answer carries it; one of zeros takes no memory.
+#[tactic(auto, unfolding(ring_messages::specs::BlankPages::blank_page, page_store::specs::Volumes::zeros))]
+fn carried(alloc: Global, found: Option<&[u8; PAGE_BYTES]>) -> Result<PageBytes, NoMemory>
+    ensures { IfOk result (λ page. page ≡ unwrap_or (option_copied found.entry) zeros) }
+{
+    match found {
+        Some(bytes) => PageBytes::new(alloc, bytes),
+        None => Ok(PageBytes::blank()),
+    }
+}
+
+/// A page, where it is there.
 pub(crate) fn page_in<P: Pages>(
     alloc: Global,
     home: &Home<P>,
@@ -35,10 +47,9 @@ pub(crate) fn page_in<P: Pages>(
     if !has_page(home, uid, page) {
         return Ok(HomeAnswer::new(Body::NoObject));
     }
-    let mut bytes = Box::new(alloc, [0; PAGE_BYTES])?;
-    match home.read_page(uid, page, &mut *bytes) {
-        Ok(stamp) => {
-            let bytes = PageBytes::from_box(bytes);
+    match home.page(uid, page) {
+        Ok((stamp, found)) => {
+            let bytes = carried(alloc, found)?;
             Ok(HomeAnswer::new(Body::Page { stamp, bytes }))
         }
         // The page is there.

@@ -78,9 +78,16 @@ impl BlockPages {
 impl Pages for BlockPages {
     ghost volume = { λ pages. pages };
 
-    fn get(&self, counter: u64, page: u32, into: &mut [u8; PAGE_BYTES]) {
+    fn find(&self, counter: u64, page: u32) -> Option<&[u8; PAGE_BYTES]> {
         match self.places.of(counter, page) {
-            Some(place) => *into = *self.blocks.page(place),
+            Some(place) => Some(self.blocks.page(place)),
+            None => None,
+        }
+    }
+
+    fn get(&self, counter: u64, page: u32, into: &mut [u8; PAGE_BYTES]) {
+        match self.find(counter, page) {
+            Some(bytes) => *into = *bytes,
             None => *into = [0; PAGE_BYTES],
         }
     }

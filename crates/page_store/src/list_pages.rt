@@ -60,6 +60,13 @@ fn position(rows: &[PageRow], counter: u64, page: u32) -> Result<usize, usize>
 impl Pages for ListPages {
     ghost volume = { λ pages. pages };
 
+    fn find(&self, counter: u64, page: u32) -> Option<&[u8; PAGE_BYTES]> {
+        match position(self.rows.as_slice(), counter, page) {
+            Ok(at) => Some(&self.rows[at].bytes),
+            Err(_) => None,
+        }
+    }
+
     fn get(&self, counter: u64, page: u32, into: &mut [u8; PAGE_BYTES]) {
         *into = match position(self.rows.as_slice(), counter, page) {
             Ok(at) => self.rows[at].bytes,

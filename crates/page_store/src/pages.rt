@@ -1,6 +1,6 @@
 //! The trait of all that keeps pages.
-ghost use Rattle.std.specs.Prelude.{◌≡◌, OnOk, OnErr};
-ghost use Rattle.page_store.specs.Volumes.{Volume, page_of, with_page, without_object};
+ghost use Rattle.std.specs.Prelude.{◌≡◌, OnOk, OnErr, MatchOption};
+ghost use Rattle.page_store.specs.Volumes.{Volume, page_of, with_page, without_object, zeros};
 
 use uid_names::{NoMemory, PAGE_BYTES};
 
@@ -9,6 +9,12 @@ use uid_names::{NoMemory, PAGE_BYTES};
 pub trait Pages: Drop {
     // The pages that are kept.
     ghost volume: { Self → Volume };
+
+    /// A page as it was put; None where it reads as zeros, since it was not. Takes no memory.
+    fn find(&self, counter: u64, page: u32) -> Option<&[u8; PAGE_BYTES]>
+        ensures { MatchOption result
+            (page_of (volume self.now) counter page ≡ zeros)
+            (λ bytes. page_of (volume self.now) counter page ≡ bytes.now) };
 
     /// Copies a page. Takes no memory.
     fn get(&self, counter: u64, page: u32, into: &mut [u8; PAGE_BYTES])

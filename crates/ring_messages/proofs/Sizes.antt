@@ -14,7 +14,8 @@ use Rattle.ring_messages.specs.declared.body.Body.TheVariants.{PageIn, PageOut, 
 use Rattle.ring_messages.specs.Bodies.{kind_of}
 use Rattle.uid_names.specs.declared.limits.TheConstants.{PAGE_BYTES}
 use Rattle.ring_messages.specs.Ranges.{IsBody, IsWhole}
-use Rattle.ring_messages.specs.Spelling.{be32, be64, uid_bytes, proc_bytes, row_bytes, after_bytes, is_blank, formed, page_by, page_bytes, body_bytes}
+use Rattle.ring_messages.specs.BlankPages.{is_blank}
+use Rattle.ring_messages.specs.Spelling.{be32, be64, uid_bytes, proc_bytes, row_bytes, after_bytes, formed, page_by, page_bytes, body_bytes}
 use Rattle.ring_messages.specs.Sizes.{formed_size, page_size_by, page_size, body_size}
 use Rattle.ring_messages.proofs.Fields.{length-be32, length-be64}
 

@@ -11,7 +11,8 @@ use Rattle.std.proofs.lemmas.List.Concat.{flat_map-cons}
 use Rattle.uid_names.specs.Names.{ProcName, ObjectName, IsName, number_of, IsProcName}
 use Rattle.uid_names.specs.Modes.{mode_code, object_code}
 use Rattle.uid_names.specs.declared.lock_row.LockRow.{LockRow}
-use Rattle.ring_messages.specs.Spelling.{be32, be64, uid_bytes, proc_bytes, flag, row_bytes, blank_page, is_blank, formed, page_by, page_bytes}
+use Rattle.ring_messages.specs.BlankPages.{blank_page, is_blank}
+use Rattle.ring_messages.specs.Spelling.{be32, be64, uid_bytes, proc_bytes, flag, row_bytes, formed, page_by, page_bytes}
 use Rattle.uid_names.specs.declared.limits.TheConstants.{PAGE_BYTES}
 use Rattle.ring_messages.specs.Ranges.{IsWhole}
 use Rattle.ring_messages.specs.Spelled.{IsRow, AreBytes}

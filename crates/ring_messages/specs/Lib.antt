@@ -1,3 +1,4 @@
+pub mod BlankPages
 pub mod Bodies
 pub mod Ranges
 pub mod Frames

@@ -8,7 +8,7 @@ use Rattle.uid_names.specs.declared.mode.ObjKind.{ObjKind}
 use Rattle.uid_names.specs.Modes.{mode_of_code, object_of_code}
 use Rattle.uid_names.specs.declared.limits.TheConstants.{PAGE_BYTES}
 use Rattle.uid_names.specs.Steps.{◌>>=◌}
-use Rattle.ring_messages.specs.Spelling.{blank_page, is_blank}
+use Rattle.ring_messages.specs.BlankPages.{blank_page, is_blank}
 use Rattle.ring_messages.specs.ReaderSteps.{◌then◌, passing, meaning}
 
 unfoldable pub byte_at : List ℕ → Option (ℕ × List ℕ)

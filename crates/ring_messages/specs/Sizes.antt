@@ -2,7 +2,7 @@
 use Rattle.std.specs.Prelude.{ℕ, ◌+◌, ◌*◌, ◌==◌, Bool, true, false, List, length}
 use Rattle.uid_names.specs.declared.limits.TheConstants.{PAGE_BYTES}
 use Rattle.ring_messages.specs.declared.body.Body.{Body}
-use Rattle.ring_messages.specs.Spelling.{is_blank}
+use Rattle.ring_messages.specs.BlankPages.{is_blank}
 use Rattle.ring_messages.specs.declared.body.Body.TheVariants.{PageIn, PageOut, AttrOut, Lock, Unlock, Remove, Make, List as ListLocks, Page, Stored, Stale, NoGrant, NoObject, Granted, Conflict, Done, Made, NoSpace, Listed}
 
 -- those of a page, behind its form: whether it is left out

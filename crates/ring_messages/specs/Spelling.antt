@@ -1,15 +1,15 @@
 -- The one spelling of each frame. Numbers are big-endian.
-use Rattle.std.specs.Prelude.{ℕ, ◌==◌, Bool, true, false, List, [], ◌∷◌, ◌++◌, replicate, length, Option, Some, None, bytes_eq}
+use Rattle.std.specs.Prelude.{ℕ, ◌==◌, Bool, true, false, List, [], ◌∷◌, ◌++◌, replicate, length, Option, Some, None}
 use Rattle.std.specs.List.{flat_map}
 use Rattle.byteorder.specs.Endian.{big_bytes}
 use Rattle.uid_names.specs.Names.{ProcName, ObjectName, number_of}
 use Rattle.uid_names.specs.Modes.{mode_code, object_code}
 use Rattle.uid_names.specs.FrameKinds.{kind_number}
-use Rattle.uid_names.specs.declared.limits.TheConstants.{PAGE_BYTES}
 use Rattle.uid_names.specs.declared.lock_row.LockRow.{LockRow}
 use Rattle.ring_messages.specs.declared.body.Body.{Body}
 use Rattle.ring_messages.specs.declared.body.Body.TheVariants.{PageIn, PageOut, AttrOut, Lock, Unlock, Remove, Make, List as ListLocks, Page, Stored, Stale, NoGrant, NoObject, Granted, Conflict, Done, Made, NoSpace, Listed}
 use Rattle.ring_messages.specs.declared.frame.Head.{Head}
+use Rattle.ring_messages.specs.BlankPages.{is_blank}
 use Rattle.ring_messages.specs.Bodies.{kind_of}
 use Rattle.ring_messages.specs.Frames.{Message}
 
@@ -41,13 +41,6 @@ row_bytes row = uid_bytes row.uid ++ (proc_bytes row.proc ++ (mode_code row.mode
 abbrev pub after_bytes : Option (ObjectName × ProcName) → List ℕ
 after_bytes None = 0 ∷ replicate 10 0
 after_bytes (Some (u, p)) = 1 ∷ (uid_bytes u ++ proc_bytes p)
-
--- a page of zeros
-unfoldable pub blank_page : List ℕ
-blank_page = replicate PAGE_BYTES 0
-
-abbrev pub is_blank : List ℕ → Bool
-is_blank bytes = bytes_eq bytes blank_page
 
 -- a form, and then the page: 0 for a page of zeros, which is left out, and 1 for any other
 abbrev pub formed : Bool → List ℕ → List ℕ

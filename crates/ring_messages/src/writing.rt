@@ -6,7 +6,8 @@ ghost use Rattle.uid_names.specs.Names.{IsName, IsProcName};
 ghost use Rattle.ring_messages.specs.Bodies.{is_request};
 ghost use Rattle.ring_messages.specs.Frames.{IsInRange};
 ghost use Rattle.ring_messages.specs.Ranges.{IsBody};
-ghost use Rattle.ring_messages.specs.Spelling.{be32, be64, uid_bytes, proc_bytes, row_bytes, flag, after_bytes, is_blank, formed, page_bytes, body_bytes, header, head_of, spelling};
+ghost use Rattle.ring_messages.specs.BlankPages.{is_blank};
+ghost use Rattle.ring_messages.specs.Spelling.{be32, be64, uid_bytes, proc_bytes, row_bytes, flag, after_bytes, formed, page_bytes, body_bytes, header, head_of, spelling};
 ghost use Rattle.ring_messages.specs.Spelled.{IsRow, AreBytes, IsAfter, IsTypedBody, IsHead, Spells};
 ghost use Rattle.ring_messages.specs.Sizes.{page_size, body_size};
 

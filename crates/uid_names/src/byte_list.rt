@@ -1,14 +1,25 @@
 //! Lists of bytes.
-ghost use Rattle.std.specs.Prelude.{◌≡◌, ℕ, List, [], ◌∷◌, ◌++◌, length, IfOk, OnOk, OnErr};
+ghost use Rattle.std.specs.Prelude.{◌≡◌, ℕ, List, [], ◌∷◌, ◌++◌, ◌≤◌, length, IfOk, OnOk, OnErr};
 
 use crate::no_memory::NoMemory;
+use smallvec::SmallVec;
 use std::alloc::Global;
 use std::marker::Model;
 
-/// A list of bytes.
-#[derive(Drop, Debug)]
+/// How many bytes lie in a list itself.
+const SHORT: usize = 16;
+
+/// A list of bytes. A short one takes no memory.
+#[derive(Debug)]
 pub struct ByteList {
-    items: Vec<u8>,
+    items: SmallVec<u8, SHORT>,
+}
+
+// Of its own, so that what drops one calls this and does not take it apart in place.
+impl Drop for ByteList {
+    fn drop(self) {
+        let ByteList { items: _ } = self;
+    }
 }
 
 impl Model for ByteList {
@@ -25,7 +36,7 @@ impl ByteList {
         ensures { result ≡ [] }
     {
         ByteList {
-            items: Vec::new(alloc),
+            items: SmallVec::new(alloc),
         }
     }
 
@@ -33,22 +44,15 @@ impl ByteList {
     pub fn with_capacity(alloc: Global, capacity: usize) -> Result<ByteList, NoMemory>
         ensures { IfOk result (λ list. list ≡ []) }
     {
-        let items = Vec::with_capacity(alloc, capacity)?;
+        let items = SmallVec::with_capacity(alloc, capacity)?;
         Ok(ByteList { items })
-    }
-
-    /// The list of a vector's bytes. Takes no memory.
-    pub fn from_vec(items: Vec<u8>) -> ByteList
-        ensures { result ≡ items.items }
-    {
-        ByteList { items }
     }
 
     /// These bytes.
     pub fn from_slice(alloc: Global, bytes: &[u8]) -> Result<ByteList, NoMemory>
         ensures { IfOk result (λ list. list ≡ bytes.now) }
     {
-        let items = Vec::from_slice(alloc, bytes)?;
+        let items = SmallVec::from_slice(alloc, bytes)?;
         Ok(ByteList { items })
     }
 
@@ -65,7 +69,7 @@ impl ByteList {
     pub fn copy(&self, alloc: Global) -> Result<ByteList, NoMemory>
         ensures { IfOk result (λ copy. copy ≡ self.now) }
     {
-        let items = Vec::from_slice(alloc, self.items.as_slice())?;
+        let items = SmallVec::from_slice(alloc, self.items.as_slice())?;
         Ok(ByteList { items })
     }
 
@@ -83,5 +87,58 @@ impl ByteList {
         ensures { result.now ≡ self.now }
     {
         self.items.as_slice()
+    }
+}
+
+/// Room for bytes that may still come. A little takes no memory.
+#[derive(Debug)]
+pub struct ByteRoom {
+    items: SmallVec<u8, SHORT>,
+}
+
+// Of its own, so that what drops one calls this and does not take it apart in place.
+impl Drop for ByteRoom {
+    fn drop(self) {
+        let ByteRoom { items: _ } = self;
+    }
+}
+
+impl Model for ByteRoom {
+    ghost use Rattle.std.specs.Prelude.{◌≡◌, ℕ, []};
+
+    ghost Value = { ℕ };
+
+    ghost view = { λ r. r.items.capacity };
+
+    ghost invariant = { λ r. r.items.items ≡ [] };
+}
+
+impl ByteRoom {
+    /// Room for no byte that takes memory.
+    pub fn none(alloc: Global) -> ByteRoom {
+        ByteRoom {
+            items: SmallVec::new(alloc),
+        }
+    }
+
+    /// Room for so many bytes.
+    pub fn new(alloc: Global, count: usize) -> Result<ByteRoom, NoMemory>
+        ensures { IfOk result (λ room. count ≤ room) }
+    {
+        let items = SmallVec::with_capacity(alloc, count)?;
+        Ok(ByteRoom { items })
+    }
+
+    /// The list of these bytes, for which there is room. Takes no memory.
+    pub fn fill(self, bytes: &[u8]) -> ByteList
+        requires { length bytes.now ≤ self }
+        ensures { result ≡ bytes.now }
+    {
+        let ByteRoom { mut items } = self;
+        match items.extend_from_slice(bytes) {
+            Ok(()) => ByteList { items },
+            // There is room for them.
+            Err(_) => unreachable!(),
+        }
     }
 }

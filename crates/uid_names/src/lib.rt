@@ -15,7 +15,7 @@ pub mod segment;
 pub mod table;
 pub mod wire;
 
-pub use byte_list::ByteList;
+pub use byte_list::{ByteList, ByteRoom};
 pub use frame_kind::FrameKind;
 pub use ids::{BadUid, NodeId, Place, ProcId, Uid, UidSource};
 pub use item_list::ItemList;

@@ -24,13 +24,13 @@ ghost use Rattle.fault_handler.specs.Next.{FitsTurn, IsAsked, IsNext, IsAtOnce};
 use super::Desk;
 use crate::access::{Access, Local};
 use crate::four::{index_of, others_fetch, writing_grant};
-use crate::spare::Spare;
+use crate::spare::{PageRoom, page_room};
 use crate::tasks::{Task, Work};
 use address_map::{MapRefusal, NotMapped};
 use dom_history::{Dropped, Op, Reply, Spot};
 use ring_messages::{Body, PageBytes};
 use std::alloc::Global;
-use uid_names::{ByteList, MAX_ROOM, NoMemory, PAGE_BYTES, ProcId, Uid};
+use uid_names::{ByteList, ByteRoom, MAX_ROOM, NoMemory, PAGE_BYTES, ProcId, Uid};
 
 impl Desk {
     /// Begins a load, a store, or a call on a length or a mapping, or goes on with one that waited. Only
@@ -138,7 +138,7 @@ impl Desk {
         }
         let page = offset / PAGE_BYTES as u32;
         // What wants memory comes first.
-        let room = Vec::with_capacity(alloc, count as usize)?;
+        let room = ByteRoom::new(alloc, count as usize)?;
         match self.load_page(room, uid, page, offset % PAGE_BYTES as u32, count) {
             Some(bytes) => Ok(Local::Done(Reply::Bytes(bytes))),
             None => {
@@ -196,14 +196,32 @@ impl Desk {
         Ok(self.missed(alloc, proc, task, spare))
     }
 
-    /// What making room for a page may want, where no frame is free.
-    pub(super) fn spare(&self, alloc: Global) -> Result<Option<Spare>, NoMemory>
-        ensures { IfOk result (λ spare. (0 < free_count self.now.cache) ⊎ IsSome spare) }
+    /// What making room for a page may want, where no frame is free: room for the bytes of one that is sent home.
+    pub(super) fn spare(&mut self, alloc: Global) -> Result<Option<PageRoom>, NoMemory>
+        ensures spare { IfOk result (λ spare. (0 < free_count self.new.cache) ⊎ IsSome spare) }
+        ensures unchanged { self.new ≡ self.old }
     {
         if self.pages.free() > 0 {
             return Ok(None);
         }
-        Ok(Some(Spare::new(alloc)?))
+        match self.take_spare() {
+            Some(bytes) => Ok(Some(bytes)),
+            None => Ok(Some(page_room(alloc)?)),
+        }
+    }
+
+    /// The room that an earlier miss left.
+    fn take_spare(&mut self) -> Option<PageRoom>
+        ensures { self.new ≡ self.old }
+    {
+        self.spare.take()
+    }
+
+    /// Leaves room for a later miss.
+    fn keep_spare(&mut self, bytes: PageRoom)
+        ensures { self.new ≡ self.old }
+    {
+        self.spare = Some(bytes);
     }
 
     /// A load or store whose page is not resident, with what making room for it may want. Takes no memory.
@@ -212,7 +230,7 @@ impl Desk {
         alloc: Global,
         proc: ProcId,
         task: Task,
-        spare: Option<Spare>,
+        spare: Option<PageRoom>,
     ) -> Access
         requires idle { IsIdle self.old proc.number }
         requires absent { page_at self.old.cache.pages task.uid (page_of task) ≡ None }
@@ -229,7 +247,7 @@ impl Desk {
             return self.fetch_page(proc, task, Dropped::new(alloc));
         }
         match spare {
-            Some(spare) => self.make_room(alloc, proc, task, spare),
+            Some(place) => self.make_room(alloc, proc, task, place),
             // No frame is free.
             None => unreachable!(),
         }
@@ -250,9 +268,9 @@ impl Desk {
         Access::Need(uid.home(), Body::PageIn { uid, page }, dropped)
     }
 
-    /// Makes room for the page of a load or store: a clean page is dropped, or a dirty one sent home.
+    /// Makes room for the page of a load or store: a clean page is dropped, or a dirty one sent home, in this place for its bytes.
     #[inline(never)]
-    fn make_room(&mut self, alloc: Global, proc: ProcId, task: Task, spare: Spare) -> Access
+    fn make_room(&mut self, alloc: Global, proc: ProcId, task: Task, place: PageRoom) -> Access
         requires idle { IsIdle self.old proc.number }
         requires full { free_count self.old.cache ≡ 0 }
         requires limit { length self.old.cache.pages + self.old.cache.reserved ≤ self.old.cache.frames }
@@ -263,10 +281,12 @@ impl Desk {
     {
         let (uid, page, dirty) = self.chosen(proc);
         if dirty {
-            return self.evict_page(alloc, proc, task, uid, page, spare.into_page());
+            return self.evict_page(alloc, proc, task, uid, page, place);
         }
         self.drop_page(uid, page);
-        self.fetch_page(proc, task, spare.dropped(uid, page))
+        let access = self.fetch_page(proc, task, Dropped::one(alloc, uid, page));
+        self.keep_spare(place);
+        access
     }
 
     /// The page that is chosen to make room, and whether it is dirty.
@@ -297,7 +317,7 @@ impl Desk {
         task: Task,
         uid: Uid,
         page: u32,
-        place: PageBytes,
+        place: PageRoom,
     ) -> Access
         requires idle { IsIdle self.old proc.number }
         requires dirty { is_dirty (page_at self.old.cache.pages uid page) ≡ true }
@@ -312,17 +332,17 @@ impl Desk {
 
     /// The request that sends a resident page home, in this place for its bytes, under the grant under which its node
     /// writes the object.
-    pub(super) fn page_out(&self, uid: Uid, page: u32, mut place: PageBytes) -> Body
+    pub(super) fn page_out(&self, uid: Uid, page: u32, mut place: PageRoom) -> Body
         requires { IsResident self.now.cache.pages uid page }
         ensures { option_map (λ r. body_of_ask (page_out self.now uid page r.bytes)) (page_at self.now.cache.pages uid page) ≡ Some result }
     {
-        place.write(self.pages.bytes(uid, page));
+        *place = *self.pages.bytes(uid, page);
         Body::PageOut {
             uid,
             page,
             grant: writing_grant(&self.entries, uid),
             base: self.seen.of(uid).unwrap_or(0),
-            bytes: place,
+            bytes: PageBytes::from_box(place),
         }
     }
 

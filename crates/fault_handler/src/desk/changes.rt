@@ -1,5 +1,5 @@
 //! What changes in a desk. Each change leaves a desk that keeps what each desk keeps.
-ghost use Rattle.std.specs.Prelude.{◌≡◌, ◌+◌, ◌/◌, ◌%◌, ◌<◌, ◌≤◌, true, false, is_some, length, take, drop, Some, None, IsSome, IfOk, IfSome, IfNone, OnOk, OnErr, slice_index_or, slice_set, [], vec_capacity};
+ghost use Rattle.std.specs.Prelude.{◌≡◌, ◌+◌, ◌/◌, ◌%◌, ◌<◌, ◌≤◌, true, false, is_some, length, take, drop, Some, None, IsSome, IfOk, IfSome, IfNone, OnOk, OnErr, slice_index_or, slice_set, []};
 ghost use Rattle.std.specs.Bool.{OnTrue, OnFalse};
 ghost use Rattle.std.specs.Option.{option_map};
 ghost use Rattle.uid_names.specs.Rooms.{IsLength, IsPageNumber};
@@ -18,23 +18,21 @@ use crate::four::index_of;
 use crate::open_call::OpenCall;
 use crate::tasks::Task;
 use std::mem;
-use uid_names::{ByteList, NODE_PROCESSES, NoMemory, PAGE_BYTES, ProcId, Uid};
+use uid_names::{ByteList, ByteRoom, NODE_PROCESSES, NoMemory, PAGE_BYTES, ProcId, Uid};
 
 impl Desk {
-    /// So many bytes of a page, from one on, in a vector with room for them, which uses the page; None where
-    /// it is not resident.
+    /// So many bytes of a page, from one on, where there is room for them, which uses the page; None where it is not resident.
     #[inline(always)]
     pub(super) fn load_page(
         &mut self,
-        room: Vec<u8>,
+        room: ByteRoom,
         uid: Uid,
         page: u32,
         start: u32,
         count: u32,
     ) -> Option<ByteList>
         requires within { start + count ≤ PAGE_BYTES }
-        requires empty { room.items ≡ [] }
-        requires room { count ≤ vec_capacity room }
+        requires room { count ≤ room }
         ensures bytes { result ≡ option_map (λ r. take count (drop start r.bytes)) (page_at self.old.cache.pages uid page) }
         ensures used { IfSome result (λ _. self.new ≡ with_used self.old uid page) }
         ensures absent { IfNone result (page_at self.old.cache.pages uid page ≡ None) }

@@ -1,5 +1,5 @@
 //! How a load or store goes on where a home answers, or where a link fault ends its call.
-ghost use Rattle.std.specs.Prelude.{◌≡◌, ◌⊎◌, ◌≤◌, ◌<◌, true, false, length, nat_lt, Some, None, IsSome, IfOk, IfSome, OnOk, OnErr, [], vec_capacity};
+ghost use Rattle.std.specs.Prelude.{◌≡◌, ◌⊎◌, ◌≤◌, ◌<◌, true, false, length, nat_lt, Some, None, IsSome, IfOk, IfSome, OnOk, OnErr, []};
 ghost use Rattle.std.specs.Option.{ForSome};
 ghost use Rattle.ring_messages.specs.Bodies.{answer_of};
 ghost use Rattle.ring_messages.specs.Ranges.{IsBody};
@@ -22,13 +22,13 @@ ghost use Rattle.fault_handler.specs.Next.{FitsTurn, IsAsked, IsOpen, IsNext};
 use super::Desk;
 use crate::access::Access;
 use crate::four::{index_of, transit_of};
-use crate::spare::{Spare, blank_page};
+use crate::spare::{PageRoom, page_room};
 use crate::tasks::{Task, Work};
 use crate::transits::Transit;
 use dom_history::{Dropped, Reply};
 use ring_messages::Body;
 use std::alloc::Global;
-use uid_names::{ByteList, NoMemory, PAGE_BYTES, ProcId, Uid};
+use uid_names::{ByteList, ByteRoom, NoMemory, PAGE_BYTES, ProcId, Uid};
 
 impl Desk {
     /// Goes on with a load or store at the answer to its open call. It is never refused. Wants memory
@@ -119,11 +119,10 @@ impl Desk {
         }
     }
 
-    /// A vector with room for the bytes that the open load of a process takes from its page.
-    fn room_for_bytes(&self, alloc: Global, proc: ProcId) -> Result<Vec<u8>, NoMemory>
+    /// Room for the bytes that the open load of a process takes from its page.
+    fn room_for_bytes(&self, alloc: Global, proc: ProcId) -> Result<ByteRoom, NoMemory>
         requires { IsAccessing self.now proc.number }
-        ensures empty { IfOk result (λ room. room.items ≡ []) }
-        ensures room { IfOk result (λ room. IfSome (task_of self.now proc.number) (λ task. loaded_size task.work ≤ vec_capacity room)) }
+        ensures { IfOk result (λ room. IfSome (task_of self.now proc.number) (λ task. loaded_size task.work ≤ room)) }
     {
         self.kept(proc);
         match &self.tasks[index_of(proc)] {
@@ -214,13 +213,12 @@ impl Desk {
         alloc: Global,
         proc: ProcId,
         task: Task,
-        room: Vec<u8>,
-        spare: Option<Spare>,
+        room: ByteRoom,
+        spare: Option<PageRoom>,
     ) -> Access
         requires idle { IsIdle self.old proc.number }
         requires allowed { IsAllowed self.old.entries proc.number task }
-        requires no_bytes { room.items ≡ [] }
-        requires bytes { loaded_size task.work ≤ vec_capacity room }
+        requires bytes { loaded_size task.work ≤ room }
         requires room { (0 < free_count self.old.cache) ⊎ IsSome spare }
         ensures outcome { ComesTo proc.number self.new (page_access self.old proc.number task) result }
     {
@@ -258,7 +256,7 @@ impl Desk {
     {
         self.kept(proc);
         // What wants memory comes first.
-        let place = blank_page(alloc)?;
+        let place = page_room(alloc)?;
         self.raise(transit.uid, stamp);
         let body = self.page_out(transit.uid, transit.page, place);
         self.send_again(proc, transit.uid, transit.page);

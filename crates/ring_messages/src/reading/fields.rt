@@ -82,12 +82,12 @@ fn full_page(alloc: Global, bytes: &[u8]) -> Result<(PageBytes, &[u8]), FrameFau
 }
 
 /// A page, by its form and the bytes behind that.
-#[tactic(auto, unfolding(crate::specs::ReaderFields::page_of_form, crate::specs::Spelling::blank_page))]
+#[tactic(auto, unfolding(crate::specs::ReaderFields::page_of_form, crate::specs::BlankPages::blank_page))]
 fn page_of_form(alloc: Global, form: u8, bytes: &[u8]) -> Result<(PageBytes, &[u8]), FrameFault>
     ensures { Gives (λ x. (x.0, x.1.now)) result (page_by_form form bytes.now) }
 {
     match form {
-        0 => Ok((PageBytes::new(alloc, &[0; PAGE_BYTES])?, bytes)),
+        0 => Ok((PageBytes::blank(), bytes)),
         1 => full_page(alloc, bytes),
         _ => Err(FrameFault::BadFrame),
     }

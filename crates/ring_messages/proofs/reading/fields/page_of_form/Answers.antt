@@ -1,5 +1,5 @@
 use Rattle.std.proofs.Common.{ℕ, List, Some, ap, sym, ◌∙◌}
-use Rattle.ring_messages.specs.Spelling.{blank_page}
+use Rattle.ring_messages.specs.BlankPages.{blank_page}
 use Rattle.ring_messages.specs.ReaderFields.{page_of_form as page_by_form}
 use Rattle.ring_messages.proofs.reading.fields.page_of_form.Goals as goal
 
