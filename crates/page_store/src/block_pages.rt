@@ -85,6 +85,7 @@ impl Pages for BlockPages {
         }
     }
 
+    #[tactic(auto, unfolding(crate::specs::Volumes::zeros))]
     fn get(&self, counter: u64, page: u32, into: &mut [u8; PAGE_BYTES]) {
         match self.find(counter, page) {
             Some(bytes) => *into = *bytes,

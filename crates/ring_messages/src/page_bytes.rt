@@ -68,6 +68,7 @@ impl PageBytes {
     }
 
     /// The bytes.
+    #[tactic(auto, unfolding(crate::specs::BlankPages::blank_page))]
     pub fn bytes(&self) -> &[u8; PAGE_BYTES]
         ensures { result.now ≡ self.now }
     {
