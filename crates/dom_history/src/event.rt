@@ -172,11 +172,7 @@ impl Dropped {
 }
 
 /// A list of two pages.
-fn both(
-    alloc: Global,
-    first: (Uid, u32),
-    second: (Uid, u32),
-) -> Result<Vec<(Uid, u32)>, NoMemory>
+fn both(alloc: Global, first: (Uid, u32), second: (Uid, u32)) -> Result<Vec<(Uid, u32)>, NoMemory>
     ensures { IfOk result (λ pages. pages.items ≡ first ∷ second ∷ []) }
 {
     let mut pages = Vec::with_capacity(alloc, 2)?;
