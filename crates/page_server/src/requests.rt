@@ -9,7 +9,7 @@ ghost use Rattle.object_store.specs.Rules.{has_page, has_length};
 ghost use Rattle.lock_manager.specs.Grants.{grant_of};
 ghost use Rattle.ring_messages.specs.Bodies.{Answer, ask_of, is_request};
 ghost use Rattle.lock_manager.specs.Tables.{IsTable};
-ghost use Rattle.ring_messages.specs.Ranges.{IsBody};
+ghost use Rattle.ring_messages.specs.Ranges.{IsBody, IsWhole};
 ghost use Rattle.lock_manager.specs.declared.locks.TheConstants.{ROOM};
 ghost use Rattle.page_server.specs.ServerStates.{AreStampedTo};
 ghost use Rattle.page_server.specs.Wants.{is_page, is_stored, is_grant, is_made, decision_wants};
@@ -23,13 +23,22 @@ use ring_messages::{Body, PageBytes};
 use std::alloc::Global;
 use uid_names::{MAX_ROOM, Mode, NoMemory, ObjKind, PAGE_BYTES, ProcId, Uid};
 
+/// A copy of a page.
+fn copy(alloc: Global, bytes: &[u8; PAGE_BYTES]) -> Result<PageBytes, NoMemory>
+    ensures bytes { IfOk result (λ page. page ≡ bytes.now) }
+    ensures whole { IfOk result IsWhole }
+{
+    PageBytes::new(alloc, bytes)
+}
+
 /// A page as an answer carries it; one of zeros takes no memory.
 #[tactic(auto, unfolding(ring_messages::specs::BlankPages::blank_page, page_store::specs::Volumes::zeros))]
 fn carried(alloc: Global, found: Option<&[u8; PAGE_BYTES]>) -> Result<PageBytes, NoMemory>
-    ensures { IfOk result (λ page. page ≡ unwrap_or (option_copied found.entry) zeros) }
+    ensures bytes { IfOk result (λ page. page ≡ unwrap_or (option_copied found.entry) zeros) }
+    ensures whole { IfOk result IsWhole }
 {
     match found {
-        Some(bytes) => PageBytes::new(alloc, bytes),
+        Some(bytes) => copy(alloc, bytes),
         None => Ok(PageBytes::blank()),
     }
 }
