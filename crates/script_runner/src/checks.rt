@@ -1,5 +1,5 @@
 //! Whether a journal is that of a run of a script.
-ghost use Rattle.std.specs.Prelude.{◌≡◌, ◌≤◌, All, IsSome, IfOk, IfErr, length, map, option_copied};
+ghost use Rattle.std.specs.Prelude.{slice_get, ◌≡◌, ◌≤◌, All, IsSome, IfOk, IfErr, length, map, option_copied};
 ghost use Rattle.journal_check.specs.Journals.{IsAccepted};
 ghost use Rattle.journal_check.specs.Verdicts.{IsNoMemory, IsRefused};
 ghost use Rattle.script_runner.specs.Reports.{answers_in};
@@ -28,12 +28,19 @@ pub struct CheckedJournal {
     pub answers: AnswerRows,
 }
 
+/// The item at a place.
+fn item_at<T>(items: &[T], at: usize) -> Option<&T>
+    ensures { option_copied result ≡ slice_get items.now at }
+{
+    items.get(at)
+}
+
 /// The shell of a process among nodes, by number.
 fn shell_at<'a, 'b>(nodes: &'a [Node<Shell<'b>, BlockPages>], proc: ProcId) -> Option<&'a Shell<'b>>
     ensures { option_copied result ≡ shell_among nodes.now proc }
 {
     let at = proc.node().number() as usize - 1;
-    match nodes.get(at) {
+    match item_at(nodes, at) {
         Some(node) => node.program(proc.number()),
         None => None,
     }

@@ -10,10 +10,10 @@ returns-in_ok-refusal-in-Err-TooLong-clause-said g c =
 
 pub returns-in_ok-said_of-in-Ok-clause-said : goal.returns-in_ok-said_of-in-Ok-clause-said
 returns-in_ok-said_of-in-Ok-clause-said g c =
-    let few : length c.bytes-in-Ok.result.now ≤ JOURNAL_BYTES = subst (λ list. length list ≤ JOURNAL_BYTES) (sym c.bytes-in-Ok.ensures) c.in-Ok.ensures.within in
+    let few : length c.bytes.result.now ≤ JOURNAL_BYTES = subst (λ list. length list ≤ JOURNAL_BYTES) (sym c.bytes.ensures) c.in-Ok.ensures.within in
     record {
-      bytes = c.bytes-in-Ok.result.now;
-      are_left = search (rules, c.in-Ok.ensures.all, c.bytes-in-Ok.ensures);
+      bytes = c.bytes.result.now;
+      are_left = search (rules, c.in-Ok.ensures.all, c.bytes.ensures);
       taken = inl (few, c.in-Ok.ensures.end);
       said = inr (few, c.in_ok-said_of-in-Ok.ensures);
     }

@@ -22,7 +22,7 @@ returns-in-Err-TooLong-clause-due g c = record {
 pub returns-in-Ok-read_script-clause-due : goal.returns-in-Ok-read_script-clause-due
 returns-in-Ok-read_script-clause-due g c =
     let left = from_to (g.S.Source.left c.args.script.now) (g.S.Source.left c.read_all.new.source) in
-    let source : IsSourceOf left c.in-Ok-read_script.read = record { bytes = c.bytes-2.result.now; are_left = search (rules, c.in-Ok.ensures.all, c.bytes-2.ensures); form = c.in-Ok-read_script.ensures.script; at_end = c.in-Ok.ensures.end } in
+    let source : IsSourceOf left c.in-Ok-read_script.read = record { bytes = c.bytes.result.now; are_left = search (rules, c.in-Ok.ensures.all, c.bytes.ensures); form = c.in-Ok-read_script.ensures.script; at_end = c.in-Ok.ensures.end } in
     c.run_due.ensures.due left source
 
 pub returns-in-Ok-read_script-clause-read_fault : goal.returns-in-Ok-read_script-clause-read_fault
@@ -31,21 +31,21 @@ returns-in-Ok-read_script-clause-read_fault g c = λ is. absurd (no_read_fault c
 pub returns-in-Ok-read_script-clause-limit : goal.returns-in-Ok-read_script-clause-limit
 returns-in-Ok-read_script-clause-limit g c =
     let left = from_to (g.S.Source.left c.args.script.now) (g.S.Source.left c.read_all.new.source) in
-    let source : IsSourceOf left c.in-Ok-read_script.read = record { bytes = c.bytes-2.result.now; are_left = search (rules, c.in-Ok.ensures.all, c.bytes-2.ensures); form = c.in-Ok-read_script.ensures.script; at_end = c.in-Ok.ensures.end } in
+    let source : IsSourceOf left c.in-Ok-read_script.read = record { bytes = c.bytes.result.now; are_left = search (rules, c.in-Ok.ensures.all, c.bytes.ensures); form = c.in-Ok-read_script.ensures.script; at_end = c.in-Ok.ensures.end } in
     limit_for (Reads c.args.turns) left c.in-Ok-read_script.read c.run_due.result source c.run_due.ensures.end
 
 pub returns-in-Err-Bad-clause-due : goal.returns-in-Err-Bad-clause-due
 returns-in-Err-Bad-clause-due g c =
     let left = from_to (g.S.Source.left c.args.script.now) (g.S.Source.left c.read_all.new.source) in
-    let bytes = c.bytes-2.result.now in
-    let bad : IsBad c.bytes-2.result.now c.in-Err-Bad.line c.in-Err-Bad.cause = subst (IsRefusal c.bytes-2.result.now) c.in-Err-Bad.field-0-is c.in-Err-Bad.ensures.bad in
-    let few : length c.bytes-2.result.now ≤ SCRIPT_BYTES = subst (λ list. length list ≤ SCRIPT_BYTES) (sym c.bytes-2.ensures) c.in-Ok.ensures.within in
+    let bytes = c.bytes.result.now in
+    let bad : IsBad c.bytes.result.now c.in-Err-Bad.line c.in-Err-Bad.cause = subst (IsRefusal c.bytes.result.now) c.in-Err-Bad.field-0-is c.in-Err-Bad.ensures.bad in
+    let few : length c.bytes.result.now ≤ SCRIPT_BYTES = subst (λ list. length list ≤ SCRIPT_BYTES) (sym c.bytes.ensures) c.in-Ok.ensures.within in
     record {
       line = c.in-Err-Bad.line;
       cause = c.in-Err-Bad.cause;
       bad = record {
         bytes = bytes;
-        are_left = search (rules, c.in-Ok.ensures.all, c.bytes-2.ensures);
+        are_left = search (rules, c.in-Ok.ensures.all, c.bytes.ensures);
         bad = bad;
         taken = all_taken left bytes c.in-Err-Bad.line c.in-Err-Bad.cause few bad c.in-Ok.ensures.end;
       };
