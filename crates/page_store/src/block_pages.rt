@@ -88,7 +88,7 @@ impl Pages for BlockPages {
     #[tactic(auto, unfolding(crate::specs::Volumes::zeros))]
     fn get(&self, counter: u64, page: u32, into: &mut [u8; PAGE_BYTES]) {
         match self.find(counter, page) {
-            Some(bytes) => *into = *bytes,
+            Some(bytes) => into.copy_from_slice(bytes),
             None => *into = [0; PAGE_BYTES],
         }
     }

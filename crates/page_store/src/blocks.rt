@@ -103,7 +103,8 @@ impl Blocks {
         requires { IsSome (stored_in self.old.blocks.items place) }
         ensures { Stores self.old.blocks.items self.new.blocks.items place (Some bytes.now) }
     {
-        self.blocks[place.block][place.key] = *bytes;
+        // An assignment would copy the page twice.
+        self.blocks[place.block][place.key].copy_from_slice(bytes);
     }
 
     /// Makes a place free. Takes no memory.

@@ -44,9 +44,9 @@ impl PageBytes {
     pub fn new(alloc: Global, bytes: &[u8; PAGE_BYTES]) -> Result<PageBytes, NoMemory>
         ensures { IfOk result (λ page. page ≡ bytes.now) }
     {
-        // Made of zeros and then written over: a page that is moved into a box is copied twice.
+        // Made of zeros and then written over: a page that is moved into a box is copied twice, and so is one assigned.
         let mut kept = Box::new(alloc, [0; PAGE_BYTES]).map_err(AllocError::from)?;
-        *kept = *bytes;
+        kept.copy_from_slice(bytes);
         Ok(PageBytes::from_box(kept))
     }
 
