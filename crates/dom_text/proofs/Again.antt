@@ -14,6 +14,7 @@ use Rattle.dom_text.specs.Tokens.{Between, InText, High, Behind, after_move, as_
 use Rattle.dom_text.specs.declared.token.Token.{Token}
 use Rattle.dom_text.specs.declared.token.Token.TheVariants.{Word, Text}
 use Rattle.dom_text.proofs.Readings.{with_bytes, with_bytes-nil, with_byte-bytes, between_is_closed, text_tokens}
+use Rattle.dom_text.proofs.PlainTexts.{plain_reads}
 use Rattle.dom_text.proofs.Spelling.{own, decimal_digits}
 use Rattle.dom_text.proofs.Words.{BeginsWithWord, word_byte, word_is_first}
 
@@ -68,10 +69,6 @@ hex_reads b rest h =
     ap (λ v. after_move (high_move (hex_digit (b / 16)) v) (reading (hex_digit (b % 16) ∷ rest))) high
     ∙ (ap (λ v. after_move (low_move (b / 16) (hex_digit (b % 16)) v) (reading rest)) low
     ∙ ap (λ n. with_byte n (reading rest InText)) whole)
-
--- a printed byte that is no quote and no `\` stands for itself
-plain_reads : (b : ℕ) (rest : List ℕ) → (b == 34) ≡ false → (b == 92) ≡ false → is_printed b ≡ true → reading (b ∷ rest) InText ≡ with_byte b (reading rest InText)
-plain_reads b rest quote slash printed = rw (quote, slash, printed) refl
 
 -- one byte of a text
 escaped_reads : (b : ℕ) (rest : List ℕ) → b < 256 → reading (escaped b ++ rest) InText ≡ with_byte b (reading rest InText)

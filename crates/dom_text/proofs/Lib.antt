@@ -1,4 +1,5 @@
 pub mod Readings
+pub mod PlainTexts
 pub mod Words
 pub mod Written
 pub mod Spelling

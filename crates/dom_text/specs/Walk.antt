@@ -1,8 +1,9 @@
 -- What the steps of private code find. No public clause cites these, and they decide nothing.
-use Rattle.std.specs.Prelude.{ℕ, ◌≡◌, ◌+◌, ◌-◌, ◌*◌, ◌^◌, nat_lt, true, ◌<◌, ◌&&◌, if◌then◌else◌, Option, Some, None, Result, Ok, Err, List, [], ◌∷◌, ◌++◌, length}
+use Rattle.std.specs.Prelude.{ℕ, ◌≡◌, ◌+◌, ◌-◌, ◌*◌, ◌^◌, ◌==◌, nat_lt, Bool, true, false, not, ◌<◌, ◌&&◌, if◌then◌else◌, Option, Some, None, Result, Ok, Err, List, [], ◌∷◌, ◌++◌, length}
 use Rattle.std.specs.Char.{is_ascii_digit}
 use Rattle.std.specs.Str.{all_ascii_digits}
 use Rattle.dom_text.specs.Numbers.{value_on}
+use Rattle.dom_text.specs.Texts.{is_printed}
 use Rattle.dom_text.specs.Tokens.{Between, InText, is_blank, reading, with_byte}
 use Rattle.dom_text.specs.declared.token.Token.{Token}
 use Rattle.dom_text.specs.declared.line.TextFault.{TextFault}
@@ -31,3 +32,11 @@ number_of_digits text = if all_ascii_digits text && nat_lt (value_on 0 text) (2 
 -- one decimal digit more, below 2^64
 abbrev pub digit_more : ℕ → ℕ → Option ℕ
 digit_more n b = if is_ascii_digit b && nat_lt (10 * n + (b - 48)) (2 ^ 64) then Some (10 * n + (b - 48)) else None
+
+-- no blank stands first
+abbrev pub BeginsUnblank : List ℕ → Type 0
+BeginsUnblank line = (b : ℕ) (rest : List ℕ) → line ≡ b ∷ rest → is_blank b ≡ false
+
+-- a byte of a text that stands for itself
+abbrev pub is_plain_byte : ℕ → Bool
+is_plain_byte b = is_printed b && (not (b == 34) && not (b == 92))

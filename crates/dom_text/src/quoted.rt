@@ -1,8 +1,8 @@
 //! Reads a quoted text from behind its first quote.
-ghost use Rattle.std.specs.Prelude.{◌≡◌, ◌<◌, ◌+◌, ◌*◌, ℕ, length, List, [], ◌∷◌, ◌++◌, IfOk, IfErr};
+ghost use Rattle.std.specs.Prelude.{◌≡◌, ◌<◌, ◌≤◌, ◌+◌, ◌*◌, ℕ, All, IsTrue, length, take, List, [], ◌∷◌, ◌++◌, IfOk, IfErr};
 ghost use Rattle.dom_text.specs.Answers.{Gives, text_refusal};
 ghost use Rattle.dom_text.specs.Tokens.{reading, tokens_in, tokens_of, as_text, with_byte, Escape, High, Low, InText};
-ghost use Rattle.dom_text.specs.Walk.{IsPiece, with_tokens};
+ghost use Rattle.dom_text.specs.Walk.{IsPiece, is_plain_byte, with_tokens};
 ghost use Rattle.dom_text.specs.declared.token.Token.TheVariants.{Text};
 
 use crate::line::{TextFault, fault_at, is_blank};
@@ -24,8 +24,9 @@ pub(crate) fn read_text(alloc: Global, line: &[u8]) -> Result<(ByteList, &[u8]),
     ensures shorter { IfOk result (λ found. length found.1.now < length line.now) }
     ensures fault { IfErr result (λ fault. Gives (text_refusal fault) (reading line.now InText)) }
 {
-    let mut text = ByteList::new(alloc);
-    let mut rest = line;
+    let (plain, behind) = line.split_at(plain_end(line));
+    let mut text = ByteList::from_slice(alloc, plain)?;
+    let mut rest = behind;
     loop {
         match next_piece(rest)? {
             Piece::Byte(byte, behind) => {
@@ -35,6 +36,24 @@ pub(crate) fn read_text(alloc: Global, line: &[u8]) -> Result<(ByteList, &[u8]),
             Piece::End(behind) => return Ok((text, behind)),
         }
     }
+}
+
+/// How many bytes at the front of a text stand for themselves.
+fn plain_end(line: &[u8]) -> usize
+    ensures within { result ≤ length line.now }
+    ensures plain { All (λ b. IsTrue (is_plain_byte b)) (take result line.now) }
+{
+    match line.iter().position(|b| !is_plain(*b)) {
+        Some(end) => end,
+        None => line.len(),
+    }
+}
+
+/// Whether this byte of a text stands for itself.
+fn is_plain(byte: u8) -> bool
+    ensures { result ≡ is_plain_byte byte }
+{
+    matches!(byte, b']'..=b'~' | b'#'..=b'[' | b' '..=b'!')
 }
 
 /// The next piece of a text.
