@@ -10,11 +10,11 @@ use Rattle.dom_text.specs.Spelled.{is_word_byte}
 use Rattle.dom_text.specs.Walk.{AreApart, with_tokens}
 use Rattle.dom_text.specs.Spelled.{AreWritable, IsWritable, line_of, spelling}
 use Rattle.dom_text.specs.Texts.{all_escaped, escaped, hex_digit, is_printed, quoted_text}
-use Rattle.dom_text.specs.Tokens.{Between, InText, High, Behind, after_move, as_text, high_move, low_move, is_blank, reading, tokens_in, tokens_of, with_byte}
+use Rattle.dom_text.specs.Tokens.{Between, InText, High, after_move, as_text, high_move, low_move, is_blank, reading, tokens_in, tokens_of, with_byte}
 use Rattle.dom_text.specs.declared.token.Token.{Token}
 use Rattle.dom_text.specs.declared.token.Token.TheVariants.{Word, Text}
 use Rattle.dom_text.proofs.Readings.{with_bytes, with_bytes-nil, with_byte-bytes, between_is_closed, text_tokens}
-use Rattle.dom_text.proofs.PlainTexts.{plain_reads}
+use Rattle.dom_text.proofs.PlainTexts.{behind_reads, plain_reads}
 use Rattle.dom_text.proofs.Spelling.{own, decimal_digits}
 use Rattle.dom_text.proofs.Words.{BeginsWithWord, word_byte, word_is_first}
 
@@ -97,10 +97,6 @@ text_reads (b ∷ bytes) rest h =
     ∙ (escaped_reads b (all_escaped bytes ++ rest) (All-head (λ b. b < 256) b bytes h)
     ∙ (ap (with_byte b) (text_reads bytes rest (All-tail (λ b. b < 256) b bytes h))
     ∙ with_byte-bytes bytes b (reading rest InText)))
-
-behind_reads : (rest : List ℕ) → AreApart rest → reading rest Behind ≡ reading rest Between
-behind_reads [] h = refl
-behind_reads (b ∷ rest) h = rw h refl
 
 -- a text, and what is apart from it
 quoted_is_first : (bytes behind : List ℕ) → All (λ b. b < 256) bytes → AreApart behind → tokens_of (quoted_text bytes ++ behind) ≡ with_tokens (Text bytes ∷ []) (tokens_of behind)

@@ -1,5 +1,5 @@
 -- What the steps of private code find. No public clause cites these, and they decide nothing.
-use Rattle.std.specs.Prelude.{ℕ, ◌≡◌, ◌+◌, ◌-◌, ◌*◌, ◌^◌, ◌==◌, nat_lt, Bool, true, false, not, ◌<◌, ◌&&◌, if◌then◌else◌, Option, Some, None, Result, Ok, Err, List, [], ◌∷◌, ◌++◌, length}
+use Rattle.std.specs.Prelude.{ℕ, ◌≡◌, ◌+◌, ◌-◌, ◌*◌, ◌^◌, ◌==◌, nat_lt, nat_le, Bool, true, false, not, ◌<◌, ◌&&◌, if◌then◌else◌, Option, Some, None, Result, Ok, Err, List, [], ◌∷◌, ◌++◌, length}
 use Rattle.std.specs.Char.{is_ascii_digit}
 use Rattle.std.specs.Str.{all_ascii_digits}
 use Rattle.dom_text.specs.Numbers.{value_on}
@@ -40,3 +40,7 @@ BeginsUnblank line = (b : ℕ) (rest : List ℕ) → line ≡ b ∷ rest → is_
 -- a byte of a text that stands for itself
 abbrev pub is_plain_byte : ℕ → Bool
 is_plain_byte b = is_printed b && (not (b == 34) && not (b == 92))
+
+-- a byte of a word that is no `!`
+abbrev pub is_usual_byte : ℕ → Bool
+is_usual_byte b = nat_le 35 b && nat_le b 126

@@ -1,14 +1,14 @@
 //! Reads a line's tokens from the left.
-ghost use Rattle.std.specs.Prelude.{◌≡◌, ◌≢◌, ◌<◌, ◌≤◌, false, ℕ, All, IsTrue, length, take, slice_index, List, [], ◌∷◌, ◌++◌, Ok, IfOk, IfErr, OnErr, IfSome, IfNone};
+ghost use Rattle.std.specs.Prelude.{◌≡◌, ◌≢◌, ◌<◌, ◌≤◌, false, ℕ, All, IsTrue, length, take, slice_index, List, [], ◌∷◌, ◌++◌, Ok, IfOk, IfErr, OnErr, OnOk, vec_capacity, vec_len};
 ghost use Rattle.dom_text.specs.Answers.{Gives, text_answer, text_refusal};
 ghost use Rattle.dom_text.specs.Lent.{lent_answer, owned, owned_token};
 ghost use Rattle.dom_text.specs.Tokens.{tokens_of, fault_at as fault_of_byte, is_blank as is_blank_byte};
 ghost use Rattle.dom_text.specs.Spelled.{is_word_byte as may_stand_in_word};
-ghost use Rattle.dom_text.specs.Walk.{BeginsUnblank, with_tokens};
+ghost use Rattle.dom_text.specs.Walk.{BeginsUnblank, is_usual_byte, with_tokens};
 ghost use Rattle.dom_text.specs.declared.line.TextFault.TheVariants.{NoMemory as OutOfMemory};
 ghost use Rattle.dom_text.specs.declared.token.Token.TheVariants.{Word};
 
-use crate::quoted::read_text;
+use crate::quoted::lend_text;
 use crate::token::{Token, TokenRef};
 use std::alloc::{AllocFailed, Global};
 use thiserror::Error;
@@ -103,7 +103,7 @@ fn put_word<'a>(found: &mut Vec<TokenRef<'a>>, line: &'a [u8]) -> Result<&'a [u8
     ensures fault { IfErr result (λ fault. Gives (text_refusal fault) (tokens_of line.now)) }
 {
     let (word, behind) = cut_word(line)?;
-    found.push(TokenRef::Word(word))?;
+    put(found, TokenRef::Word(word))?;
     Ok(without_blanks(behind))
 }
 
@@ -118,12 +118,35 @@ fn put_text<'a>(
     ensures begun { IfOk result (λ rest. BeginsUnblank rest.now) }
     ensures fault { IfErr result (λ fault. Gives (text_refusal fault) (tokens_of (34 ∷ inside.now))) }
 {
-    let (text, behind) = read_text(alloc, inside)?;
-    found.push(TokenRef::Text(text))?;
+    let (text, behind) = lend_text(alloc, inside)?;
+    put(found, text)?;
     Ok(without_blanks(behind))
 }
 
-/// The tokens with words of their own.
+/// Puts a token last.
+#[inline(always)]
+fn put<'a>(found: &mut Vec<TokenRef<'a>>, token: TokenRef<'a>) -> Result<(), NoMemory>
+    ensures { OnOk result (found.new.items ≡ found.old.items ++ token.entry ∷ []) }
+{
+    make_room(found)?;
+    found.push_reserved(token);
+    Ok(())
+}
+
+/// Makes room for one token more, where there is none.
+#[inline(always)]
+fn make_room(found: &mut Vec<TokenRef<'_>>) -> Result<(), NoMemory>
+    ensures same { found.new.items ≡ found.old.items }
+    ensures room { OnOk result (vec_len found.new < vec_capacity found.new) }
+{
+    if found.len() < found.capacity() {
+        return Ok(());
+    }
+    found.reserve(1)?;
+    Ok(())
+}
+
+/// The tokens with bytes of their own.
 fn to_owned(alloc: Global, lent: &[TokenRef<'_>]) -> Result<ItemList<Token>, NoMemory>
     ensures { IfOk result (λ tokens. tokens ≡ owned lent.now) }
 {
@@ -134,12 +157,13 @@ fn to_owned(alloc: Global, lent: &[TokenRef<'_>]) -> Result<ItemList<Token>, NoM
     Ok(found)
 }
 
-/// The token with a word of its own.
+/// The token with bytes of its own.
 fn owned_one(alloc: Global, token: &TokenRef<'_>) -> Result<Token, NoMemory>
     ensures { IfOk result (λ t. t ≡ owned_token token.now) }
 {
     Ok(match token {
         TokenRef::Word(word) => Token::Word(ByteList::from_slice(alloc, word)?),
+        TokenRef::Plain(text) => Token::Text(ByteList::from_slice(alloc, text)?),
         TokenRef::Text(text) => Token::Text(text.copy(alloc)?),
     })
 }
@@ -182,6 +206,32 @@ fn word_end(line: &[u8]) -> usize
     ensures word { All (λ b. IsTrue (may_stand_in_word b)) (take result line.now) }
     ensures end { result < length line.now → may_stand_in_word (slice_index line.now result) ≡ false }
 {
+    let end = usual_end(line);
+    match line.get(end) {
+        Some(b'!') => rare_end(line),
+        _ => end,
+    }
+}
+
+/// How many bytes at the front of a line may stand in a word, and are no `!`.
+fn usual_end(line: &[u8]) -> usize
+    ensures within { result ≤ length line.now }
+    ensures word { All (λ b. IsTrue (is_usual_byte b)) (take result line.now) }
+    ensures end { result < length line.now → is_usual_byte (slice_index line.now result) ≡ false }
+{
+    match line.iter().position(|b| !matches!(*b, b'#'..=b'~')) {
+        Some(end) => end,
+        None => line.len(),
+    }
+}
+
+/// How many bytes at the front of a line may stand in a word.
+#[inline(never)]
+fn rare_end(line: &[u8]) -> usize
+    ensures within { result ≤ length line.now }
+    ensures word { All (λ b. IsTrue (may_stand_in_word b)) (take result line.now) }
+    ensures end { result < length line.now → may_stand_in_word (slice_index line.now result) ≡ false }
+{
     match line.iter().position(|b| !is_word_byte(*b)) {
         Some(end) => end,
         None => line.len(),
@@ -192,8 +242,7 @@ fn word_end(line: &[u8]) -> usize
 fn is_word_byte(byte: u8) -> bool
     ensures { result ≡ may_stand_in_word byte }
 {
-    // The first test passes for all of them but one.
-    matches!(byte, b'#'..=b'~') || byte == b'!'
+    matches!(byte, b'!'..=b'~') && byte != b'"'
 }
 
 /// Whether this byte separates tokens.

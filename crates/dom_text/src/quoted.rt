@@ -1,12 +1,14 @@
 //! Reads a quoted text from behind its first quote.
 ghost use Rattle.std.specs.Prelude.{◌≡◌, ◌<◌, ◌≤◌, ◌+◌, ◌*◌, ℕ, All, IsTrue, length, take, List, [], ◌∷◌, ◌++◌, IfOk, IfErr};
 ghost use Rattle.dom_text.specs.Answers.{Gives, text_refusal};
+ghost use Rattle.dom_text.specs.Lent.{owned_token};
 ghost use Rattle.dom_text.specs.Tokens.{reading, tokens_in, tokens_of, as_text, with_byte, Escape, High, Low, InText};
-ghost use Rattle.dom_text.specs.Walk.{IsPiece, is_plain_byte, with_tokens};
+ghost use Rattle.dom_text.specs.Walk.{AreApart, IsPiece, is_plain_byte, with_tokens};
 ghost use Rattle.dom_text.specs.declared.token.Token.TheVariants.{Text};
 
 use crate::line::{TextFault, fault_at, is_blank};
 use crate::numbers::hex_value;
+use crate::token::TokenRef;
 use std::alloc::Global;
 use uid_names::ByteList;
 
@@ -18,15 +20,41 @@ enum Piece<'a> {
     End(&'a [u8]),
 }
 
+/// A text, and what stands behind it, from behind its first quote on.
+pub(crate) fn lend_text(alloc: Global, line: &[u8]) -> Result<(TokenRef<'_>, &[u8]), TextFault>
+    ensures text { IfOk result (λ found. tokens_in (as_text (reading line.now InText)) ≡ with_tokens (owned_token found.0 ∷ []) (tokens_of found.1.now)) }
+    ensures shorter { IfOk result (λ found. length found.1.now < length line.now) }
+    ensures fault { IfErr result (λ fault. Gives (text_refusal fault) (reading line.now InText)) }
+{
+    let (plain, rest) = line.split_at(plain_end(line));
+    match rest.split_first() {
+        Some((b'"', behind)) if is_apart(behind) => Ok((TokenRef::Plain(plain), behind)),
+        _ => {
+            let (text, behind) = read_text(alloc, line)?;
+            Ok((TokenRef::Text(text), behind))
+        }
+    }
+}
+
+/// Whether no token goes on into these bytes.
+fn is_apart(line: &[u8]) -> bool
+    ensures { IsTrue result → AreApart line.now }
+{
+    match line.first() {
+        Some(byte) => is_blank(*byte),
+        None => true,
+    }
+}
+
 /// The bytes of a text, and what stands behind it, from behind its first quote on.
-pub(crate) fn read_text(alloc: Global, line: &[u8]) -> Result<(ByteList, &[u8]), TextFault>
+#[inline(never)]
+fn read_text(alloc: Global, line: &[u8]) -> Result<(ByteList, &[u8]), TextFault>
     ensures text { IfOk result (λ found. tokens_in (as_text (reading line.now InText)) ≡ with_tokens (Text found.0 ∷ []) (tokens_of found.1.now)) }
     ensures shorter { IfOk result (λ found. length found.1.now < length line.now) }
     ensures fault { IfErr result (λ fault. Gives (text_refusal fault) (reading line.now InText)) }
 {
-    let (plain, behind) = line.split_at(plain_end(line));
-    let mut text = ByteList::from_slice(alloc, plain)?;
-    let mut rest = behind;
+    let mut text = ByteList::new(alloc);
+    let mut rest = line;
     loop {
         match next_piece(rest)? {
             Piece::Byte(byte, behind) => {

@@ -8,9 +8,11 @@ pub enum Token {
     Text(ByteList),
 }
 
-/// A token whose word is lent by the line that it stands in.
+/// A token whose word, or whose text without escapes, is lent by the line that it stands in.
 #[derive(Drop, Debug)]
 pub enum TokenRef<'a> {
     Word(&'a [u8]),
+    /// A text whose bytes stand in the line as they are.
+    Plain(&'a [u8]),
     Text(ByteList),
 }

@@ -53,6 +53,7 @@ fn put_token(alloc: Global, to: &mut ByteList, token: &TokenRef<'_>) -> Result<(
 {
     match token {
         TokenRef::Word(word) => to.extend(word),
+        TokenRef::Plain(text) => put_quoted(alloc, to, text),
         TokenRef::Text(text) => put_quoted(alloc, to, text.bytes()),
     }
 }

@@ -234,6 +234,7 @@ fn token_argument<'a>(kind: Kind, token: Option<&'a TokenRef<'_>>) -> Option<Arg
 {
     match token {
         Some(TokenRef::Word(word)) => word_argument(kind, *word),
+        Some(TokenRef::Plain(text)) => text_argument(kind, *text),
         Some(TokenRef::Text(text)) => text_argument(kind, text.bytes()),
         None => absent(kind),
     }

@@ -20,7 +20,7 @@ pub(crate) fn first_word<'a, 'l>(
     let (first, rest) = tokens.split_first()?;
     match first {
         TokenRef::Word(word) => Some((*word, rest)),
-        TokenRef::Text(_) => None,
+        TokenRef::Plain(_) | TokenRef::Text(_) => None,
     }
 }
 

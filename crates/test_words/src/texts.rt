@@ -56,6 +56,7 @@ fn shown_refs(alloc: Global, list: &[TokenRef<'_>]) -> Result<ByteList, NoMemory
 fn put_ref(to: &mut ByteList, token: &TokenRef<'_>) -> Result<(), NoMemory> {
     match token {
         TokenRef::Word(word) => put_between(to, b"<", *word, b">"),
+        TokenRef::Plain(bytes) => put_between(to, b"[", *bytes, b"]"),
         TokenRef::Text(bytes) => put_between(to, b"[", bytes.bytes(), b"]"),
     }
 }
