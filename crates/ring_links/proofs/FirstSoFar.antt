@@ -1,85 +1,63 @@
--- The first of the places below one.
-use Rattle.std.proofs.Common.{◌≡◌, ℕ, ◌+◌, ◌<◌, ◌≤◌, Bool, true, false, Option, Some, None, List, length, get_or, MatchOption, ◌⊎◌, inl, inr, sym, subst, ◌∙◌, below_more, arith}
-use Rattle.std.proofs.lemmas.Bool.{cases_lt}
+-- The least of the ranks below one.
+use Rattle.std.proofs.Common.{◌≡◌, ℕ, ◌+◌, ◌<◌, ◌≤◌, true, false, Option, Some, None, List, length, get_or, MatchOption, sym, subst, ◌∙◌, below_more, arith}
+use Rattle.std.specs.Prelude.{All}
 use Rattle.std.proofs.lemmas.Bool.Decides.{nat_tests}
-use Rattle.std.proofs.lemmas.List.{get_or_past, get_or_default}
-use Rattle.uid_names.specs.declared.ids.Place.{Place}
-use Rattle.dom_history.specs.Histories.{place_lt}
-use Rattle.dom_history.proofs.Places.{place_lt-irrefl}
-use Rattle.ring_links.specs.Merged.{IsLeast}
-use Rattle.ring_links.proofs.Coming.{some-same}
+use Rattle.std.proofs.lemmas.List.{get_or_default}
+use Rattle.ring_links.specs.declared.merge.Rank.{Rank}
+use Rattle.ring_links.specs.Ranks.{is_below, no_event, IsLeast}
 
-place-over : (a b c : Place) → place_lt a b ≡ false → place_lt c b ≡ true → place_lt a c ≡ false
-place-over a b c h k = grind (arith, nat_tests, h, k)
+below-over : (a b c : Rank) → is_below a b ≡ false → is_below c b ≡ true → is_below a c ≡ false
+below-over a b c h k = grind (arith, nat_tests, h, k)
 
--- whether a place comes before the first one so far
-abbrev pub IsTest : Option (ℕ × Place) → Place → Bool → Type 0
-IsTest first place b = MatchOption first (b ≡ true) (λ f. b ≡ place_lt place f.1)
+below-itself : (a : Rank) → is_below a a ≡ false
+below-itself a = grind (arith, nat_tests)
 
-module _ (nexts : List (Option Place)) where
-  -- the place of this number, if there is one, is not before this one
-  abbrev NotBefore : Place → ℕ → Type 0
-  NotBefore place j = (other : Place) → get_or nexts j None ≡ Some other → place_lt other place ≡ false
+below-both : (a b c : Rank) → is_below a b ≡ true → is_below b c ≡ true → is_below a c ≡ true
+below-both a b c h k = grind (arith, nat_tests, h, k)
 
-  -- of the places below i none is before that of number k
-  pub record IsFirstBelow (i k : ℕ) (place : Place) : Type 0 where
+module _ (nexts : List Rank) where
+  -- the rank of this number, which is that of an event
+  pub record IsRankAt (k : ℕ) (r : Rank) : Type 0 where
     pub below : k < length nexts
-    pub next : get_or nexts k None ≡ Some place
-    pub least : (j : ℕ) → j < i → NotBefore place j
+    pub next : get_or nexts k no_event ≡ r
+    pub event : is_below r no_event ≡ true
 
-  abbrev pub FirstSoFar : ℕ → Option (ℕ × Place) → Type 0
-  FirstSoFar i first = MatchOption first ((j : ℕ) → j < i → get_or nexts j None ≡ None) (λ f. IsFirstBelow i f.0 f.1)
+  abbrev NotBelow : Rank → ℕ → Type 0
+  NotBelow r j = is_below (get_or nexts j no_event) r ≡ false
 
-  -- a place that was read
-  pub was-read : (i : ℕ) (d r : Option Place) → i < length nexts → get_or nexts i d ≡ r → get_or nexts i None ≡ r
-  was-read i d r within is = get_or_default nexts i None d within ∙ is
+  -- of the ranks below i none is below this one
+  pub record LeastSoFar (i : ℕ) (first : Option ℕ) (least : Rank) : Type 0 where
+    pub least_is : (j : ℕ) → j < i → NotBelow least j
+    pub from : MatchOption first (least ≡ no_event) (λ k. IsRankAt k least)
 
-  itself : (i : ℕ) (p : Place) → get_or nexts i None ≡ Some p → NotBefore p i
-  itself i p next other there = subst (λ (o : Place). place_lt o p ≡ false) (some-same next there) (place_lt-irrefl p)
+  -- a rank that was read
+  was-read : (i : ℕ) (d r : Rank) → i < length nexts → get_or nexts i d ≡ r → get_or nexts i no_event ≡ r
+  was-read i d r within is = get_or_default nexts i no_event d within ∙ is
 
-  pub first-taken : (i : ℕ) (p : Place) (first : Option (ℕ × Place)) → i < length nexts → get_or nexts i None ≡ Some p → FirstSoFar i first → IsTest first p true → IsFirstBelow (i + 1) i p
-  first-taken i p None within next so-far test = record {
-    below = within;
-    next = next;
-    least = below_more (NotBefore p) i (λ j lt other there. absurd (let none = so-far j lt in cc)) (itself i p next);
-  }
-  first-taken i p (Some f) within next so-far test = record {
-    below = within;
-    next = next;
-    least = below_more (NotBefore p) i (λ j lt other there. place-over other f.1 p (so-far.least j lt other there) (sym test)) (itself i p next);
-  }
+  under : (first : Option ℕ) (r least : Rank) → MatchOption first (least ≡ no_event) (λ k. IsRankAt k least) → is_below r least ≡ true → is_below r no_event ≡ true
+  under None r least none test = subst (λ (l : Rank). is_below r l ≡ true) none test
+  under (Some k) r least at test = below-both r least no_event test at.event
 
-  pub first-kept : (i : ℕ) (p : Place) (first : Option (ℕ × Place)) → get_or nexts i None ≡ Some p → FirstSoFar i first → IsTest first p false → FirstSoFar (i + 1) first
-  first-kept i p None next so-far test = absurd (cc)
-  first-kept i p (Some f) next so-far test = record {
-    below = so-far.below;
-    next = so-far.next;
-    least = below_more (NotBefore f.1) i so-far.least (λ other there. subst (λ (o : Place). place_lt o f.1 ≡ false) (some-same next there) (sym test));
-  }
+  pub first-taken : (i : ℕ) (d r : Rank) (first : Option ℕ) (least : Rank) → i < length nexts → get_or nexts i d ≡ r → LeastSoFar i first least → is_below r least ≡ true → LeastSoFar (i + 1) (Some i) r
+  first-taken i d r first least within is so-far test =
+      let next = was-read i d r within is in record {
+        least_is = below_more (NotBelow r) i (λ j lt. below-over (get_or nexts j no_event) least r (so-far.least_is j lt) test)
+            (subst (λ (o : Rank). is_below o r ≡ false) (sym next) (below-itself r));
+        from = record { below = within; next = next; event = under first r least so-far.from test };
+      }
 
-  pub first-absent : (i : ℕ) (first : Option (ℕ × Place)) → get_or nexts i None ≡ None → FirstSoFar i first → FirstSoFar (i + 1) first
-  first-absent i None absent so-far = below_more (λ j. get_or nexts j None ≡ None) i so-far absent
-  first-absent i (Some f) absent so-far = record {
-    below = so-far.below;
-    next = so-far.next;
-    least = below_more (NotBefore f.1) i so-far.least (λ other there. absurd (cc));
+  pub first-kept : (i : ℕ) (d r : Rank) (first : Option ℕ) (least : Rank) → i < length nexts → get_or nexts i d ≡ r → LeastSoFar i first least → is_below r least ≡ false → LeastSoFar (i + 1) first least
+  first-kept i d r first least within is so-far test = record {
+    least_is = below_more (NotBelow least) i so-far.least_is (subst (λ (o : Rank). is_below o least ≡ false) (sym (was-read i d r within is)) test);
+    from = so-far.from;
   }
 
-  -- past all places there is none
-  all-none : (i : ℕ) → length nexts ≤ i → ((j : ℕ) → j < i → get_or nexts j None ≡ None) → (j : ℕ) → get_or nexts j None ≡ None
-  all-none i past none j = of-order (cases_lt j i)
-    where
-      of-order : (j < i) ⊎ (i ≤ j) → get_or nexts j None ≡ None
-      of-order (inl h) = none j h
-      of-order (inr h) = get_or_past nexts j None (omega (arith, past, h))
+  all-of : (i : ℕ) (least : Rank) → length nexts ≤ i → ((j : ℕ) → j < i → NotBelow least j) → All (λ r. is_below r least ≡ false) nexts
+  all-of i least past is k d inside = subst (λ (o : Rank). is_below o least ≡ false) (get_or_default nexts k no_event d inside) (is k (omega (arith, past, inside)))
 
-  none-before : (place : Place) (i : ℕ) → length nexts ≤ i → ((j : ℕ) → j < i → NotBefore place j) → (j : ℕ) → NotBefore place j
-  none-before place i past least j other there = of-order (cases_lt j i)
-    where
-      of-order : (j < i) ⊎ (i ≤ j) → place_lt other place ≡ false
-      of-order (inl h) = least j h other there
-      of-order (inr h) = absurd (let none = get_or_past nexts j None (omega (arith, past, h)) in cc)
-
-  pub first-of-all : (i : ℕ) (first : Option (ℕ × Place)) → length nexts ≤ i → FirstSoFar i first → MatchOption first ((j : ℕ) → get_or nexts j None ≡ None) (λ f. IsLeast nexts f.0)
-  first-of-all i None past so-far = all-none i past so-far
-  first-of-all i (Some f) past so-far = record { place = f.1; next = so-far.next; least = none-before f.1 i past so-far.least }
+  pub first-of-all : (i : ℕ) (first : Option ℕ) (least : Rank) → length nexts ≤ i → LeastSoFar i first least → MatchOption first (All (λ r. is_below r no_event ≡ false) nexts) (IsLeast nexts)
+  first-of-all i None least past so-far = subst (λ (l : Rank). All (λ r. is_below r l ≡ false) nexts) so-far.from (all-of i least past so-far.least_is)
+  first-of-all i (Some k) least past so-far = record {
+    event = subst (λ (l : Rank). is_below l no_event ≡ true) (sym so-far.from.next) so-far.from.event;
+    least = subst (λ (l : Rank). All (λ r. is_below r l ≡ false) nexts) (sym so-far.from.next) (all-of i least past so-far.least_is);
+  }

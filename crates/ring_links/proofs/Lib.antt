@@ -6,5 +6,5 @@ pub mod Owning
 pub mod Sent
 pub mod Coming
 pub mod FirstSoFar
-pub mod Places
+pub mod NextRanks
 pub mod Merging

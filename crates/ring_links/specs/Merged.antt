@@ -1,6 +1,5 @@
 -- Logs of nodes, merged by place. In a log, and in what is merged, the first event comes first.
-use Rattle.std.specs.Prelude.{◌≡◌, ◌≢◌, ℕ, ◌+◌, ◌-◌, ◌<◌, false, Option, Some, None, List, [], ◌∷◌, length, reverse, slice_index_or, All, AllPairs}
-use Rattle.uid_names.specs.declared.ids.Place.{Place}
+use Rattle.std.specs.Prelude.{◌≡◌, ◌≢◌, ℕ, ◌+◌, ◌-◌, false, Some, List, [], ◌∷◌, length, reverse, All, AllPairs}
 use Rattle.dom_history.specs.Events.{Happening}
 use Rattle.dom_history.specs.Histories.{place_lt}
 use Rattle.dom_history.specs.MergedLogs.{next_at}
@@ -23,22 +22,6 @@ pub record IsFirst (logs : List NodeLog) (came : List ℕ) (i : ℕ) : Type 0 wh
   pub event : Happening
   pub next : next_at logs came i ≡ Some event
   pub least : (j : ℕ) (other : Happening) → next_at logs came j ≡ Some other → place_lt other.place event.place ≡ false
-
--- the place of an event, if there is one
-abbrev pub place_of : Option Happening → Option Place
-place_of None = None
-place_of (Some e) = Some e.place
-
--- the places of the logs' next events
-pub record AreNext (logs : List NodeLog) (came : List ℕ) (nexts : List (Option Place)) : Type 0 where
-  pub same : length nexts ≡ length logs
-  pub each : (j : ℕ) → j < length logs → slice_index_or nexts j None ≡ place_of (next_at logs came j)
-
--- of these places none comes before this one
-pub record IsLeast (nexts : List (Option Place)) (i : ℕ) : Type 0 where
-  pub place : Place
-  pub next : slice_index_or nexts i None ≡ Some place
-  pub least : (j : ℕ) (other : Place) → slice_index_or nexts j None ≡ Some other → place_lt other place ≡ false
 
 -- how many events are left
 abbrev pub left : List NodeLog → List ℕ → ℕ

@@ -1,6 +1,7 @@
--- So many events of each log are merged, and the places of the next ones are listed.
+-- So many events of each log are merged, and the ranks of the next ones are listed.
 use Rattle.std.proofs.Common.{◌≡◌}
-use Rattle.ring_links.specs.Merged.{left, AreNext}
+use Rattle.ring_links.specs.Merged.{left}
+use Rattle.ring_links.specs.Ranks.{AreNext}
 use Rattle.ring_links.proofs.Merging.{IsMerging}
 use Rattle.ring_links.proofs.merge.by_place.Given as goal
 

@@ -1,6 +1,6 @@
--- The first place so far.
-use Rattle.ring_links.proofs.FirstSoFar.{FirstSoFar}
+-- The least rank so far.
+use Rattle.ring_links.proofs.FirstSoFar.{LeastSoFar}
 use Rattle.ring_links.proofs.merge.first_log.Given as goal
 
 abbrev pub invariant-loop-i : goal.invariant-loop-i
-invariant-loop-i l = FirstSoFar l.nexts l.i l.first
+invariant-loop-i l = LeastSoFar l.nexts l.i l.first l.least
