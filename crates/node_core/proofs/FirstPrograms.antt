@@ -15,6 +15,19 @@ module _ {S : Type 0} where
   first-program (d ∷ es) p zero e f h is = let same : (d.0 == p) ≡ true = search rules in rw same (ap (λ (x : ℕ × S). Some x.1) (sym is))
   first-program (d ∷ es) p (suc i) e f h is = let other : (d.0 == p) ≡ false = search rules in rw other (first-program es p i e f.1 (omega arith) is)
 
+  -- there is one where its number stands somewhere
+  some-by : (b : Bool) (x : S) (o : Option S) → is_some o ≡ true → is_some (program_by b x o) ≡ true
+  some-by true x o there = refl
+  some-by false x o there = there
+
+  pub program-there : (es : List (ℕ × S)) (p i : ℕ) (e : ℕ × S) → i < length es → e ≡ get_or es i e → e.0 ≡ p → is_some (program_in es p) ≡ true
+  program-there [] p i e h is number = absurd (omega (arith, h))
+  program-there (d ∷ es) p zero e h is number =
+      let own : d.0 ≡ p = ap (λ (x : ℕ × S). x.0) (sym is) ∙ number in
+      let same : (d.0 == p) ≡ true = search rules in
+      rw same refl
+  program-there (d ∷ es) p (suc i) e h is number = some-by (d.0 == p) d.1 (program_in es p) (program-there es p i e (omega (arith, h)) is number)
+
   pub first-number : (es : List (ℕ × S)) (p i : ℕ) (e : ℕ × S) → IsFirstAt es p i → i < length es → e ≡ get_or es i e → e.0 ≡ p
   first-number [] p i e f h is = elim f [ ]
   first-number (d ∷ es) p zero e f h is = ap (λ (x : ℕ × S). x.0) is ∙ f

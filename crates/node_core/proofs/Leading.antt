@@ -29,6 +29,7 @@ use Rattle.node_core.specs.Programs.{program_in, numbers_in, told_all}
 use Rattle.node_core.specs.Nodes.{IsTold, AreTold}
 use Rattle.node_core.specs.Machines.{state_of, IsAtEvent}
 use Rattle.node_core.specs.Outcomes.{LedFrom, Sent}
+use Rattle.node_core.specs.Receivings.{frame_of}
 use Rattle.node_core.proofs.Seen.{seen-silent, want-set_same, want-set_other, alike-set}
 
 -- a frame with the same fields
@@ -92,7 +93,7 @@ module _ {P : Type 0} (spent : P → Bool) (wants : P → Want) where
 module _ {P G : Type 0} (spent : P → Bool) (wants : P → Want) (becomes : P → Option Reply → P) where
   -- no program was told anything
   pub led-alike : (old new : Machine P G) (done : Done) (s : Stepped) → IsAtEvent spent wants old → new.programs ≡ old.programs → ((p : ℕ) → want_at new.procs p ≡ want_at old.procs p)
-      → AreAlike (state_of new) s.node → ((p : ℕ) → (proc_of s.node p).heard ≡ []) → done.frame ≡ s.frame → done.effects ≡ s.effects → new.greatest ≡ old.greatest → new.phases ≡ old.phases → new.server.wire ≡ old.server.wire → new.server.tick ≤ new.tick
+      → AreAlike (state_of new) s.node → ((p : ℕ) → (proc_of s.node p).heard ≡ []) → done.frame ≡ frame_of s → done.effects ≡ s.effects → new.greatest ≡ old.greatest → new.phases ≡ old.phases → new.server.wire ≡ old.server.wire → new.server.tick ≤ new.tick
       → LedFrom spent wants becomes old.programs.items old.greatest old.phases old.server.wire new done s
   led-alike old new done s within programs same alike silent frame effects greatest phases wire served = record {
     alike = alike;
@@ -109,7 +110,7 @@ module _ {P G : Type 0} (spent : P → Bool) (wants : P → Want) (becomes : P �
   }
 
   pub led-still : (old new : Machine P G) (done : Done) (s : Stepped) → IsAtEvent spent wants old → new.programs ≡ old.programs → ((p : ℕ) → want_at new.procs p ≡ want_at old.procs p)
-      → s.node ≡ state_of new → done.frame ≡ s.frame → done.effects ≡ s.effects → new.greatest ≡ old.greatest → new.phases ≡ old.phases → new.server.wire ≡ old.server.wire → new.server.tick ≤ new.tick
+      → s.node ≡ state_of new → done.frame ≡ frame_of s → done.effects ≡ s.effects → new.greatest ≡ old.greatest → new.phases ≡ old.phases → new.server.wire ≡ old.server.wire → new.server.tick ≤ new.tick
       → LedFrom spent wants becomes old.programs.items old.greatest old.phases old.server.wire new done s
   led-still old new done s within programs same node frame effects greatest phases wire served =
       led-alike old new done s within programs same (subst (AreAlike (state_of new)) (sym node) (alike-itself (state_of new)))
@@ -126,7 +127,7 @@ module _ {P G : Type 0} (spent : P → Bool) (wants : P → Want) (becomes : P �
       (ap (λ (x : Machine P G). x.programs) same)
       (λ p. ap (λ (x : Machine P G). want_at x.procs p) same ∙ ap (λ ws. get_or ws (p - 1) Phase) kept)
       (sym (sent.state ∙ ap (λ x. (sending x frame None Note.Nothing).node) state ∙ ap (λ x. (sending n x None Note.Nothing).node) same_frame))
-      (sent.frame ∙ ap Some same_frame)
+      (sent.frame ∙ ap (λ x. frame_of (sending x frame None Note.Nothing)) state ∙ ap (λ x. frame_of (sending n x None Note.Nothing)) same_frame)
       (sent.effects ∙ ap (λ x. (dropping dropped (sending x frame None Note.Nothing)).effects) state ∙ ap (λ x. (dropping dropped (sending n x None Note.Nothing)).effects) same_frame)
       (ap (λ (x : Machine P G). x.greatest) same) (ap (λ (x : Machine P G). x.phases) same) (ap (λ (x : Machine P G). x.server.wire) same)
       (subst (λ (x : Machine P G). x.server.tick ≤ x.tick) (sym same) within.earlier)
@@ -172,7 +173,7 @@ module _ {P G : Type 0} (spent : P → Bool) (wants : P → Want) (becomes : P �
 
     pub led-told : program_in new.programs.items p ≡ option_map (λ x. becomes x last) (program_in old.programs.items p) → ((q : ℕ) → q ≢ p → program_in new.programs.items q ≡ program_in old.programs.items q)
         → AreTold spent wants new.programs.items new.procs → ((q : ℕ) → IsWant (want_at new.procs q)) → numbers_in new.programs.items ≡ numbers_in old.programs.items
-        → done.frame ≡ s.frame → done.effects ≡ s.effects → new.greatest ≡ old.greatest → new.phases ≡ old.phases → new.server.wire ≡ old.server.wire → new.server.tick ≤ new.tick
+        → done.frame ≡ frame_of s → done.effects ≡ s.effects → new.greatest ≡ old.greatest → new.phases ≡ old.phases → new.server.wire ≡ old.server.wire → new.server.tick ≤ new.tick
         → LedFrom spent wants becomes old.programs.items old.greatest old.phases old.server.wire new done s
     led-told here others told wanted numbers frame effects greatest phases wire served = record {
       alike = subst (AreAlike (state_of new)) (sym node) (subst (λ n. AreAlike n (with_proc (state_of old) p y)) (sym state) put-alike);

@@ -22,6 +22,7 @@ use Rattle.node_core.specs.declared.machine.Machine.{Machine}
 use Rattle.node_core.specs.declared.turns.Done.{Done}
 use Rattle.node_core.specs.Machines.{given_of, state_of, IsAtEvent}
 use Rattle.node_core.specs.Outcomes.{Sent, Led}
+use Rattle.node_core.specs.Receivings.{frame_of}
 use Rattle.node_core.proofs.Seen.{seen-silent}
 use Rattle.node_core.proofs.Untold.{led-untold}
 
@@ -49,7 +50,7 @@ module _ {P G : Type 0} (spent : P → Bool) (wants : P → Want) (becomes : P �
       (subst (λ x. x.server.tick ≤ x.tick) (sym sent.same) (let e : server.tick ≤ old.tick = omega (arith, tick) in e))
       (subst (λ x. AreAlike x (after node (reply_to m old.tick answer))) (sym (sent.state ∙ ap (λ n. after n reply) same-node ∙ ap (after node) is)) (alike-itself (after node (reply_to m old.tick answer))))
       (seen-silent old.procs)
-      (sent.frame ∙ ap (λ x. Some x) is)
+      (sent.frame ∙ ap (λ n. frame_of (sending n reply None Note.Nothing)) same-node ∙ ap (λ r. frame_of (sending node r None Note.Nothing)) is)
       (sent.effects ∙ ap (λ ds. (dropping ds (sending (state_of served) reply None Note.Nothing)).effects) none
       ∙ ap (λ n. (sending n reply None Note.Nothing).effects) same-node ∙ ap (λ r. (sending node r None Note.Nothing).effects) is)
 

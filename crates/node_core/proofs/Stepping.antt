@@ -131,7 +131,7 @@ module _ {P : Type 0} (spent : P → Bool) (wants : P → Want) (becomes : P →
 module _ {P G : Type 0} (spent : P → Bool) (wants : P → Want) (becomes : P → Option Reply → P) (m new : Machine P G) (log after : NodeLog) (what : What) (incoming : Incoming) (done : Done) (emitted : Emitted) (s : Stepped)
     (kept : IsKept spent wants (inner_of m)) (may : enabled (machine.given_of m) (machine.state_of m) what incoming ≡ true) (frame : IsIncoming incoming)
     (named : named_step (machine.given_of m) (machine.state_of m) what incoming ≡ Some s) (step : step_of (machine.given_of m) (machine.state_of m) what incoming s.effects.dropped ≡ Some s)
-    (led : Led spent wants becomes m new done s) (emits : emitted ≡ record { frame = indexed done.frame done.effects.sent; mark = mark_in what }) (place : Place) (at_place : place ≡ record { tick = new.tick; node = new.desk.node })
+    (led : Led spent wants becomes m new done s) (emits : emitted ≡ record { frame = done.frame; mark = mark_in what }) (place : Place) (at_place : place ≡ record { tick = new.tick; node = new.desk.node })
     (events : after.events ≡ log.events ++ record { place = place; what = what; effects = done.effects } ∷ []) (same_node : after.node ≡ log.node) (b : Bool)
     (made : ℕ → Option P) (g : Given) (n : NodeState) where
   abbrev before_it : Noted P
@@ -168,8 +168,8 @@ module _ {P G : Type 0} (spent : P → Bool) (wants : P → Want) (becomes : P �
 
     emits-is : (t : Stepped) → AreAlikeSteps (machine.state_of m) n s t → emitted ≡ emitted_by what t
     emits-is t steps =
-        let emit = λ (f : Option Message) (e : Effects). let x : Emitted = record { frame = indexed f e.sent; mark = mark_in what } in x in
-        emits ∙ ap (λ f. emit f done.effects) (led.frame ∙ steps.frame) ∙ ap (emit t.frame) (led.effects ∙ steps.effects)
+        let emit = λ (f : Option (ℕ × Message)). let x : Emitted = record { frame = f; mark = mark_in what } in x in
+        emits ∙ ap emit (led.frame ∙ ap (λ f. indexed f s.effects.sent) steps.frame ∙ ap (λ (e : Effects). indexed t.frame e.sent) steps.effects)
 
     pub happened : (t : Stepped) × Happened wants becomes made g what incoming before_it after_it emitted n t
     happened =

@@ -13,13 +13,14 @@ use Rattle.node_core.specs.Programs.{program_in, numbers_in}
 use Rattle.node_core.specs.Nodes.{AreTold}
 use Rattle.node_core.specs.Machines.{state_of, IsAtEvent}
 use Rattle.node_core.specs.Outcomes.{Led}
+use Rattle.node_core.specs.Receivings.{frame_of}
 use Rattle.node_core.proofs.Leading.{told-nothing}
 
 module _ {P G : Type 0} (spent : P → Bool) (wants : P → Want) (becomes : P → Option Reply → P) where
   -- it has the programs and processes of the old one, and no process of the definition hears anything
   pub led-untold : (old new : Machine P G) (done : Done) (s : Stepped) → IsAtEvent spent wants old
       → new.programs ≡ old.programs → new.procs ≡ old.procs → new.greatest ≡ old.greatest → new.phases ≡ old.phases → new.server.wire ≡ old.server.wire → new.server.tick ≤ new.tick
-      → AreAlike (state_of new) s.node → ((p : ℕ) → (proc_of s.node p).heard ≡ []) → done.frame ≡ s.frame → done.effects ≡ s.effects
+      → AreAlike (state_of new) s.node → ((p : ℕ) → (proc_of s.node p).heard ≡ []) → done.frame ≡ frame_of s → done.effects ≡ s.effects
       → Led spent wants becomes old new done s
   led-untold old new done s within programs procs greatest phases wire served alike heard frame effects = record {
     alike = alike;

@@ -27,6 +27,7 @@ use Rattle.node_core.specs.declared.turns.Done.{Done}
 use Rattle.node_core.specs.Processes.{want_at}
 use Rattle.node_core.specs.Programs.{program_in, numbers_in, told_all}
 use Rattle.node_core.specs.Nodes.{AreTold}
+use Rattle.node_core.specs.Receivings.{frame_of}
 use Rattle.node_core.specs.Machines.{given_of, state_of, IsKept}
 
 -- an event did nothing yet
@@ -36,7 +37,7 @@ IsFresh done = done ≡ record { frame = None; effects = record { dropped = []; 
 -- a frame was sent
 pub record Sent {P G : Type 0} (old new : Machine P G) (done : Done) (m : Message) (dropped : List (ObjectName × ℕ)) : Type 0 where
   pub state : state_of new ≡ (sending (state_of old) m None Note.Nothing).node
-  pub frame : done.frame ≡ Some m
+  pub frame : done.frame ≡ frame_of (sending (state_of old) m None Note.Nothing)
   pub effects : done.effects ≡ (dropping dropped (sending (state_of old) m None Note.Nothing)).effects
   pub same : new ≡ record old { emitted = new.emitted }
 
@@ -48,7 +49,7 @@ module _ {P G : Type 0} (spent : P → Bool) (wants : P → Want) (becomes : P �
     pub programs : (p : ℕ) → IsProcNumber p → program_in new.programs.items p ≡ option_map (λ x. told_all becomes x (proc_of s.node p).heard) (program_in before p)
     pub told : AreTold spent wants new.programs.items new.procs
     pub wanted : (p : ℕ) → IsWant (want_at new.procs p)
-    pub frame : done.frame ≡ s.frame
+    pub frame : done.frame ≡ frame_of s
     pub effects : done.effects ≡ s.effects
     pub numbers : numbers_in new.programs.items ≡ numbers_in before
     pub same_greatest : new.greatest ≡ greatest

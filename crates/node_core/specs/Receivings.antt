@@ -25,6 +25,10 @@ abbrev pub mark_in : What → Option ℕ
 mark_in (events.Ready phase) = Some phase
 mark_in _ = None
 
+-- the frame that an event sends
+abbrev pub frame_of : Stepped → Option (ℕ × Message)
+frame_of s = indexed s.frame s.effects.sent
+
 -- what an event emits: the frame that it sends, or the mark of its phase
 abbrev pub emitted_by : What → Stepped → Emitted
-emitted_by what s = record { frame = indexed s.frame s.effects.sent; mark = mark_in what }
+emitted_by what s = record { frame = frame_of s; mark = mark_in what }

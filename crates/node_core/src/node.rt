@@ -15,7 +15,7 @@ ghost use Rattle.node_runs.specs.Incomings.Incoming.{Nothing};
 ghost use Rattle.node_runs.specs.Incomings.{tick_of, enabled};
 ghost use Rattle.node_runs.specs.Outcomes.{Stepped};
 ghost use Rattle.node_core.specs.Programs.{program_in, numbers_in, AreRising};
-ghost use Rattle.node_core.specs.Receivings.{seen, indexed, mark_in};
+ghost use Rattle.node_core.specs.Receivings.{seen, mark_in};
 ghost use Rattle.node_core.specs.Starts.{starts_of};
 
 use crate::machine::Machine;
@@ -30,6 +30,9 @@ use uid_names::{NoMemory, Opening, Place};
 
 // A journal has one of these for each event.
 const _: () = prove!(size_of::<Event>() <= 112);
+
+/// A journal has room for so many events from its start, so that what is written first is not moved as it grows.
+const FIRST_EVENTS: usize = 4_096;
 
 /// The phase whose mark an event sends.
 fn mark_in(what: &What) -> Option<u32>
@@ -54,7 +57,7 @@ fn write(
 ) -> Result<Emitted, NoMemory>
     requires what { IsWhat what }
     requires effects { AreEffects done.effects }
-    ensures emits { IfOk result (λ emitted. emitted ≡ record { frame = indexed done.frame done.effects.sent; mark = mark_in what }) }
+    ensures emits { IfOk result (λ emitted. emitted ≡ record { frame = done.frame; mark = mark_in what }) }
     ensures events { OnOk result (log.new.events ≡ log.old.events ++ record { place = place; what = what; effects = done.effects } ∷ []) }
     ensures node { log.new.node ≡ log.old.node }
     ensures whole { OnOk result (spent.new ≡ false) }
@@ -62,20 +65,10 @@ fn write(
     ensures err_spent { OnErr result (spent.new ≡ spent.old) }
 {
     let Done { frame, effects } = done;
-    let (sent, mark) = (effects.sent, mark_in(&what));
+    let mark = mark_in(&what);
     log.events.push(Event::new(place, what, effects))?;
     *spent = false;
-    // Each answer is made where it is returned, so that the frame is moved once.
-    match frame {
-        Some(frame) => match sent {
-            Some(sent) => Ok(Emitted {
-                frame: Some((sent.index, frame)),
-                mark,
-            }),
-            None => Ok(Emitted { frame: None, mark }),
-        },
-        None => Ok(Emitted { frame: None, mark }),
-    }
+    Ok(Emitted { frame, mark })
 }
 
 /// The event of what was done, and what it emits, where no journal is written.
@@ -83,25 +76,11 @@ fn aside(place: Place, what: What, done: Done) -> (Event, Emitted)
     requires what { IsWhat what }
     requires effects { AreEffects done.effects }
     ensures event { result.0 ≡ record { place = place; what = what; effects = done.effects } }
-    ensures emits { result.1 ≡ record { frame = indexed done.frame done.effects.sent; mark = mark_in what } }
+    ensures emits { result.1 ≡ record { frame = done.frame; mark = mark_in what } }
 {
     let Done { frame, effects } = done;
-    let (sent, mark) = (effects.sent, mark_in(&what));
-    let event = Event::new(place, what, effects);
-    // Each answer is made where it is returned, as in `write`.
-    match frame {
-        Some(frame) => match sent {
-            Some(sent) => (
-                event,
-                Emitted {
-                    frame: Some((sent.index, frame)),
-                    mark,
-                },
-            ),
-            None => (event, Emitted { frame: None, mark }),
-        },
-        None => (event, Emitted { frame: None, mark }),
-    }
+    let mark = mark_in(&what);
+    (Event::new(place, what, effects), Emitted { frame, mark })
 }
 
 /// A node: its home side, its desk, its processes with their programs, and its journal.
@@ -172,7 +151,7 @@ impl<P: Program, G: Pages> Node<P, G> {
         let node = setup.node;
         let machine = Machine::new(alloc, setup, opening, pages, programs)?;
         let machine = machine.asked(alloc)?;
-        let events = EventList::new(alloc);
+        let events = EventList::from_vec(Vec::with_capacity(alloc, FIRST_EVENTS)?);
         let log = NodeLog { node, events };
         Ok(Node {
             machine,

@@ -1,5 +1,5 @@
 //! The programs of a node's processes.
-ghost use Rattle.std.specs.Prelude.{◌≡◌, ◌≢◌, ◌++◌, [], ◌∷◌, ℕ, ◌<◌, false, is_some, option_to_list, Option, Some, None, IsSome, IfSome, IfNone, IfOk, OnOk, OnErr, length, option_copied};
+ghost use Rattle.std.specs.Prelude.{◌≡◌, ◌≢◌, ◌++◌, [], ◌∷◌, ℕ, ◌<◌, true, false, is_some, option_to_list, Option, Some, None, IsSome, IfSome, IfNone, IfOk, OnOk, OnErr, length, option_copied};
 ghost use Rattle.std.specs.Option.{option_map};
 ghost use Rattle.dom_history.specs.Ranges.{IsWant};
 ghost use Rattle.dom_history.specs.Programs.{FitsWant};
@@ -38,7 +38,19 @@ fn place_of<P: Program>(programs: &[(u8, P)], proc: u8) -> Option<usize>
 pub(crate) fn has_program<P: Program>(programs: &[(u8, P)], proc: u8) -> bool
     ensures { result ≡ is_some (program_in programs.now proc) }
 {
-    program_of(programs, proc).is_some()
+    stands_by_number(programs, proc) || program_of(programs, proc).is_some()
+}
+
+/// Whether the program of a process stands at the place of its number, as it does where each process has one: so it is found
+/// with no search.
+fn stands_by_number<P: Program>(programs: &[(u8, P)], proc: u8) -> bool
+    ensures { result ≡ true → is_some (program_in programs.now proc) ≡ true }
+{
+    let number = usize::from(proc);
+    if number < 1 || programs.len() < number {
+        return false;
+    }
+    programs[number - 1].0 == proc
 }
 
 /// Tells a process's program a reply, or that a phase begins, and puts what it wants then in the place of what it wanted.

@@ -26,10 +26,10 @@ use ring_messages::Frame;
 use std::alloc::Global;
 use uid_names::{MAX_NODES, NoMemory, NodeId, Place, ProcId, Uid};
 
-/// What an event did: the frame that it sends, and its effects.
+/// What an event did: the frame that it sends, with its index on its link, and its effects.
 #[derive(Drop)]
 pub(crate) struct Done {
-    pub(crate) frame: Option<Frame>,
+    pub(crate) frame: Option<(u64, Frame)>,
     pub(crate) effects: Effects,
 }
 
@@ -173,7 +173,7 @@ impl<P: Program, G: Pages> Machine<P, G> {
             kind: frame.body().kind().number(),
             number: frame.number(),
         };
-        done.frame = Some(frame);
+        done.frame = Some((index, frame));
         done.effects.dropped = dropped;
         done.effects.sent = Some(sent);
     }
