@@ -1,48 +1,14 @@
--- Declared variables with their objects: by name, and in the order of their lines.
-use Rattle.std.proofs.Common.{◌≡◌, ℕ, Bool, true, false, Some, List, [], ◌∷◌, ◌++◌, refl, sym, ◌∙◌, ap, subst, cond, map}
-use Rattle.std.specs.Prelude.{◌||◌, if◌then◌else◌, is_some, bytes_eq}
-use Rattle.std.specs.Global.{Vec}
-use Rattle.std.specs.HashMap.{HashMap, Updates}
-use Rattle.std.specs.Map.{lookup, IsKeyTest, AreApart, KeepsOthers}
-use Rattle.std.specs.Cmp.Lexicographic.{nat_list_eq_equiv}
-use Rattle.std.proofs.lemmas.Bool.{false≢true}
+-- Declared variables with their objects: in lists by their names, and in the order of their lines.
+use Rattle.std.proofs.Common.{◌≡◌, ◌≢◌, ◌<◌, ◌+◌, ℕ, Bool, true, false, Option, Some, None, List, [], ◌∷◌, ◌++◌, drop, length, get_or, set, refl, sym, ◌∙◌, ap, eq-eqb}
+use Rattle.std.specs.Prelude.{◌==◌, ◌||◌, if◌then◌else◌, is_some, bytes_eq}
+use Rattle.std.proofs.lemmas.Bool.{eqb-true, false≢true}
+use Rattle.std.proofs.lemmas.Grind.{get_or-set_at}
+use Rattle.std.proofs.lemmas.List.{drop_more, get_or-set_other}
 use Rattle.uid_names.specs.Names.{ObjectName}
 use Rattle.script_reader.specs.Variables.{declared_object, is_declared}
-use Rattle.script_reader.specs.Walk.Index.{DeclaresAlso, HoldsDeclared}
+use Rattle.script_reader.specs.Walk.Index.{DeclaresAlso, HoldsDeclared, list_of, listed_object}
 use Rattle.script_reader.specs.declared.script.VarRow.{VarRow}
 use Rattle.script_reader.proofs.Decisions.{bytes_eq-refl, bytes_eq-true}
-
--- the rows of a map from names
-abbrev pub by_name : List (Vec ℕ × ObjectName) → List VarRow
-by_name es = map (λ e. record { var = e.0.items; uid = e.1 }) es
-
--- a look-up goes by the names' bytes
-pub lookup-by_name : (var : List ℕ) (es : List (Vec ℕ × ObjectName)) → lookup (λ k. bytes_eq var k.items) es ≡ declared_object (by_name es) var
-lookup-by_name var [] = refl
-lookup-by_name var (e ∷ es) =
-    ap (λ (b : Bool). cond b (Some e.1) (lookup (λ k. bytes_eq var k.items) es)) (nat_list_eq_equiv.symm var e.0.items)
-    ∙ ap (λ o. cond (bytes_eq e.0.items var) (Some e.1) o) (lookup-by_name var es)
-
--- a query for another key than the changed one finds what it found
-other_entries : {K X : Type 0} (eq : K → K → Bool) (test : K → Bool) (old new : List (K × X)) → KeepsOthers eq test old new → (other : K → Bool) → IsKeyTest eq other → AreApart test other → lookup other new ≡ lookup other old
-unfolding KeepsOthers
-other_entries eq test old new h = h
-
--- bytes that differ from others are not those that equal them
-apart : (bs cs ks : List ℕ) → bytes_eq bs cs ≡ false → bytes_eq bs ks ≡ true → bytes_eq cs ks ≡ false
-apart bs cs ks differ same = nat_list_eq_equiv.symm cs ks ∙ (sym (nat_list_eq_equiv.congr bs ks cs same) ∙ differ)
-
--- a map that has an object at a name, and elsewhere what it had
-pub DeclaresAlso-updated : {S : Type 0} (m n : HashMap (Vec ℕ) ObjectName S) (key : Vec ℕ) (uid : ObjectName) → Updates (λ x y. bytes_eq x.items y.items) m n key (Some uid) → DeclaresAlso (by_name m.entries) (by_name n.entries) key.items uid
-DeclaresAlso-updated {S} m n key uid h q = by_cases (bytes_eq key.items q) refl where
-  by_cases : (b : Bool) → bytes_eq key.items q ≡ b → declared_object (by_name n.entries) q ≡ cond b (Some uid) (declared_object (by_name m.entries) q)
-  by_cases true is = subst (λ (l : List ℕ). declared_object (by_name n.entries) l ≡ Some uid) (bytes_eq-true key.items q is) (sym (lookup-by_name key.items n.entries) ∙ h.1)
-  by_cases false is =
-      sym (lookup-by_name q n.entries)
-      ∙ (other_entries _ _ m.entries n.entries h.3 (λ k. bytes_eq q k.items)
-      (λ x y. nat_list_eq_equiv.congr q x.items y.items)
-      (λ k same. apart key.items q k.items is same)
-      ∙ lookup-by_name q m.entries)
 
 -- a variable is declared where it has an object
 pub is_some-declared : (objects : List VarRow) (var : List ℕ) → is_some (declared_object objects var) ≡ is_declared objects var
@@ -72,7 +38,42 @@ declared-push (x ∷ objects) row q new =
       by_first true is differs rest = rw (another differs is (bytes_eq row.var q) refl) refl
       by_first false is differs rest = rest
 
+-- the object of a variable among the rows from a place on
+pub declared_on : (rows : List VarRow) (i : ℕ) (var : List ℕ) (d : VarRow) → i < length rows → declared_object (drop i rows) var ≡ (if bytes_eq (get_or rows i d).var var then Some (get_or rows i d).uid else declared_object (drop (i + 1) rows) var)
+declared_on rows i var d within = ap (λ rest. declared_object rest var) (drop_more rows i d within)
+
+no_object : (o : Option ObjectName) → is_some o ≡ false → o ≡ None
+no_object None none = refl
+no_object (Some uid) none = absurd cc
+
+pub undeclared : (objects : List VarRow) (var : List ℕ) → is_declared objects var ≡ false → declared_object objects var ≡ None
+undeclared objects var new = no_object (declared_object objects var) (is_some-declared objects var ∙ new)
+
+-- a row more in the list of its variable
+pub listed-push : (lists : List (List VarRow)) (i : ℕ) (old : List VarRow) (row : VarRow) → i < length lists → i ≡ list_of row.var → get_or lists i [] ≡ old → listed_object lists row.var ≡ None → DeclaresAlso lists (set lists i (old ++ row ∷ [])) row.var row.uid
+listed-push lists i old row within same was none q = by_list (list_of q == i) refl where
+  own : old ≡ get_or lists (list_of row.var) []
+  own = sym was ∙ ap (λ k. get_or lists k []) same
+
+  fresh : is_declared old row.var ≡ false
+  fresh = sym (is_some-declared old row.var) ∙ (ap (λ rows. is_some (declared_object rows row.var)) own ∙ ap is_some none)
+
+  another : list_of q ≢ i → (t : Bool) → bytes_eq row.var q ≡ t → listed_object lists q ≡ (if t then Some row.uid else listed_object lists q)
+  another apart true is = absurd (apart (ap list_of (sym (bytes_eq-true row.var q is)) ∙ sym same))
+  another apart false is = refl
+
+  by_list : (t : Bool) → (list_of q == i) ≡ t → listed_object (set lists i (old ++ row ∷ [])) q ≡ (if bytes_eq row.var q then Some row.uid else listed_object lists q)
+  by_list true e =
+      let here : list_of q ≡ i = eqb-true (list_of q) i e in
+      ap (λ rows. declared_object rows q) (get_or-set_at lists i (list_of q) (old ++ row ∷ []) [] here within)
+      ∙ (declared-push old row q fresh
+      ∙ ap (λ rows. if bytes_eq row.var q then Some row.uid else declared_object rows q) (sym (ap (λ k. get_or lists k []) here ∙ was)))
+  by_list false e =
+      let apart : list_of q ≢ i = λ is. false≢true (sym e ∙ eq-eqb (list_of q) i is) in
+      ap (λ rows. declared_object rows q) (get_or-set_other lists i (list_of q) (old ++ row ∷ []) [] apart)
+      ∙ another apart (bytes_eq row.var q) refl
+
 -- a declared object more
-pub HoldsDeclared-push : (old new objects : List VarRow) (row : VarRow) → HoldsDeclared old objects → DeclaresAlso old new row.var row.uid → is_declared objects row.var ≡ false → HoldsDeclared new (objects ++ row ∷ [])
+pub HoldsDeclared-push : (old new : List (List VarRow)) (objects : List VarRow) (row : VarRow) → HoldsDeclared old objects → DeclaresAlso old new row.var row.uid → is_declared objects row.var ≡ false → HoldsDeclared new (objects ++ row ∷ [])
 HoldsDeclared-push old new objects row h also fresh q =
     also q ∙ (ap (λ o. if bytes_eq row.var q then Some row.uid else o) (h q) ∙ sym (declared-push objects row q fresh))

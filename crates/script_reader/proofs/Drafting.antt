@@ -97,7 +97,7 @@ held-subject d subjects row h e is new = record {
 }
 
 -- the fields with an object more
-abbrev pub with_object_fields : Inside → Vec Object → Vec VarRow → List VarRow → ℕ → ℕ → Inside
+abbrev pub with_object_fields : Inside → Vec Object → Vec VarRow → List (List VarRow) → ℕ → ℕ → Inside
 with_object_fields d starts objects declared at room = record d {
   starts = starts;
   objects = objects;
@@ -119,7 +119,7 @@ held-command d commands sets proc command h e named is node range spoken room = 
 }
 
 -- an object more
-pub held-object : (d : Inside) (starts : Vec Object) (objects : Vec VarRow) (declared : List VarRow) (var : List ℕ) (home room at : ℕ) (uid : ObjectName) → HoldsDraft d → uid ≡ next_uid d.starts.items home → IsName uid
+pub held-object : (d : Inside) (starts : Vec Object) (objects : Vec VarRow) (declared : List (List VarRow)) (var : List ℕ) (home room at : ℕ) (uid : ObjectName) → HoldsDraft d → uid ≡ next_uid d.starts.items home → IsName uid
     → starts.items ≡ d.starts.items ++ record { uid = uid; kind = File; room = room } ∷ [] → objects.items ≡ d.objects.items ++ record { var = var; uid = uid } ∷ [] → DeclaresAlso d.declared declared var uid
     → is_name var ≡ true → 1 ≤ home → home ≤ length d.nodes.items → at ≡ home - 1 → IsRoom room → room ≤ greatest_of d → is_declared d.objects.items var ≡ false → d.commands.items ≡ [] → pages_at home d.starts.items + room ≤ VOLUME_ROOM
     → HoldsDraft (with_object_fields d starts objects declared at room)

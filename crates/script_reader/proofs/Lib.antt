@@ -10,3 +10,4 @@ pub mod Ranges
 pub mod Begun
 pub mod Declaring
 pub mod Placing
+pub mod Commanding

@@ -6,14 +6,14 @@ use Rattle.std.proofs.lemmas.Bool.{false≢true, eqb-true, ne_eqb}
 use Rattle.std.proofs.lemmas.List.Elements.{All-head, All-tail}
 use Rattle.dom_text.specs.declared.token.Token.{Token}
 use Rattle.dom_text.specs.declared.token.Token.TheVariants.{Word as WordToken, Text as TextToken}
-use Rattle.dom_text.specs.Cuts.{Lacks}
+use Rattle.dom_text.specs.Cuts.{Lacks, cut_at}
 use Rattle.script_reader.specs.Grammar.{AreGood, IsFirstBad, before_lines, raw_lines, without_cr}
 use Rattle.script_reader.specs.Walk.Formed.{HasForm, IsFormed}
 use Rattle.script_reader.specs.Judging.{has_begun, judged, judged_process, judged_tokens}
 use Rattle.script_reader.specs.Sayings.{Saying, Wire, Node, Object, Fault, Phase, Access, Subject, Does}
 use Rattle.script_reader.specs.Scripts.{Content}
 use Rattle.script_reader.specs.Walk.Seen.{BeginsWithNoWord, seen, seen_line}
-use Rattle.script_reader.specs.Words.{ProcessWord, line_word_of, line_word_text, line_words, verb_of, verb_text, verbs}
+use Rattle.script_reader.specs.Words.{ProcessWord, line_word_of, line_word_text, line_words, process_word, verb_of, verb_text, verbs}
 use Rattle.script_reader.specs.declared.cause.Cause.{Cause}
 use Rattle.script_reader.specs.declared.cause.Cause.TheVariants.{Word}
 use Rattle.script_reader.specs.declared.line.Line.{Line}
@@ -89,6 +89,24 @@ line_word-again SubjectWord = refl
 
 pub no_line_word : (word : List ℕ) → ((w : LineWord) → word ≢ line_word_text w) → line_word_of word ≡ None
 no_line_word word h = sym (looked_up line_word_text line_words line_word-again None word h)
+
+-- no line word names a process
+no_process : (w : LineWord) → process_word (line_word_text w) ≡ None
+unfolding cut_at
+no_process WireWord = refl
+no_process NodeWord = refl
+no_process ObjectWord = refl
+no_process FaultWord = refl
+no_process PhaseWord = refl
+no_process AccessWord = refl
+no_process SubjectWord = refl
+
+none_is_some : (p : ProcessWord) → None ≢ Some p
+none_is_some p e = cc
+
+-- so what names a process is no line word
+pub begins_command : (word : List ℕ) (p : ProcessWord) → process_word word ≡ Some p → line_word_of word ≡ None
+begins_command word p h = no_line_word word (λ w is. none_is_some p (sym (ap process_word is ∙ no_process w) ∙ h))
 
 pub verb-again : (v : Verb) → verb_of (verb_text v) ≡ Some v
 verb-again NewVerb = refl

@@ -1,6 +1,6 @@
 //! The arguments of commands: tokens taken by their kinds, and the tests of them that ask for nothing else. Only what is copied, and
 //! the test of a path, takes memory.
-ghost use Rattle.std.specs.Prelude.{◌≡◌, ◌≤◌, Some, None, MatchOption, IfOk, IfSome, length};
+ghost use Rattle.std.specs.Prelude.{◌≡◌, ◌≤◌, Some, None, MatchOption, IfOk, OnSome, [], length};
 ghost use Rattle.std.specs.List.{list_all};
 ghost use Rattle.dom_text.specs.Lent.{owned};
 ghost use Rattle.script_reader.specs.Forms.{absent as absent_of, argument_form, arguments_form, text_argument as text_argument_of, word_argument as word_argument_of};
@@ -240,26 +240,27 @@ fn token_argument<'a>(kind: Kind, token: Option<&'a TokenRef<'_>>) -> Option<Arg
     }
 }
 
-/// Tokens as arguments of these kinds, with none left over; None where they have not that form.
+/// Makes an empty list hold the tokens as arguments of these kinds, with none left over; None where they have not that form.
 pub(crate) fn read_arguments<'a>(
     kinds: &[Kind],
     tokens: &'a [TokenRef<'_>],
-) -> Option<ArrayVec<Argument<'a>, MAX_ARGUMENTS>>
-    requires { length kinds.now ≤ 3 }
-    ensures form { MatchOption result (arguments_form kinds.now (owned tokens.now) ≡ None) (λ list. arguments_form kinds.now (owned tokens.now) ≡ Some (seen_arguments list.items)) }
-    ensures formed { IfSome result (λ list. AreFormed kinds.now (seen_arguments list.items)) }
+    found: &mut ArrayVec<Argument<'a>, MAX_ARGUMENTS>,
+) -> Option<()>
+    requires few { length kinds.now ≤ 3 }
+    requires empty { found.old.items ≡ [] }
+    ensures form { MatchOption result (arguments_form kinds.now (owned tokens.now) ≡ None) (λ _. arguments_form kinds.now (owned tokens.now) ≡ Some (seen_arguments found.new.items)) }
+    ensures formed { OnSome result (AreFormed kinds.now (seen_arguments found.new.items)) }
 {
     if tokens.len() > kinds.len() {
         return None;
     }
-    let mut found = ArrayVec::new();
     for (at, kind) in kinds.iter().enumerate() {
         let Some(argument) = token_argument(*kind, tokens.get(at)) else {
             return None;
         };
         found.push(argument);
     }
-    Some(found)
+    Some(())
 }
 
 /// Whether all numbers, addresses and lengths of texts are in their ranges in a script of this version.

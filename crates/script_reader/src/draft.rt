@@ -1,6 +1,7 @@
 //! What the lines of a script have declared and asked for so far.
-ghost use Rattle.std.specs.Prelude.{◌≡◌, ◌≢◌, ◌≤◌, ◌<◌, ◌+◌, ◌-◌, ◌==◌, not, [], true, false, nat_lt, is_some, unwrap_or, length, IfOk, OnOk, OnErr, IfSome, None, Some};
+ghost use Rattle.std.specs.Prelude.{◌≡◌, ◌≢◌, ◌≤◌, ◌<◌, ◌+◌, ◌-◌, ◌==◌, not, ◌&&◌, [], true, false, nat_lt, is_some, unwrap_or, length, IfOk, OnOk, OnErr, IfSome, None, Some};
 ghost use Rattle.std.specs.List.{list_all};
+ghost use Rattle.std.specs.Option.{ForSome};
 ghost use Rattle.uid_names.specs.Rooms.{IsRoom};
 ghost use Rattle.uid_names.specs.Wires.{wire_room};
 ghost use Rattle.uid_names.specs.declared.limits.TheConstants.{MAX_ROOM};
@@ -15,7 +16,7 @@ ghost use Rattle.script_reader.specs.Scripts.{Content, wire_of};
 ghost use Rattle.script_reader.specs.Commands.{IsCommand};
 ghost use Rattle.script_reader.specs.Fates.{IsGivenFate};
 ghost use Rattle.script_reader.specs.Variables.{IsSpoken, is_declared, knows};
-ghost use Rattle.script_reader.specs.Numbers.{is_no_number};
+ghost use Rattle.script_reader.specs.Numbers.{has_number, is_no_number};
 ghost use Rattle.script_reader.specs.NamesAsked.{is_no_name};
 ghost use Rattle.script_reader.specs.NodeNames.{is_node_name};
 ghost use Rattle.script_reader.specs.UnknownNames.{is_known, is_unknown};
@@ -23,14 +24,16 @@ ghost use Rattle.script_reader.specs.Repeats.{is_fresh, is_repeated};
 ghost use Rattle.script_reader.specs.Limits.{is_past_limit, pages_at};
 ghost use Rattle.script_reader.specs.SaidCommands.{command_said};
 ghost use Rattle.script_reader.specs.After.{after, declared_at, fate_said, with_access, with_command, with_declared, with_fate, with_node, with_wire, with_subject};
+ghost use Rattle.script_reader.specs.Sayings.{Does};
+ghost use Rattle.script_reader.specs.Shapes.{shape_of};
 ghost use Rattle.script_reader.specs.Subjects.{has_subject};
-ghost use Rattle.script_reader.specs.Walk.Formed.{IsFormed, IsProcessNumber};
+ghost use Rattle.script_reader.specs.Walk.Formed.{AreFormed, IsFormed, IsProcessNumber};
 ghost use Rattle.script_reader.specs.Walk.Found.{AreNodesOf, IsNodeOf};
 ghost use Rattle.script_reader.specs.Judging.{has_begun, judged_saying};
 ghost use Rattle.script_reader.specs.Walk.Seen.{seen, seen_argument, seen_arguments, seen_fate};
 ghost use Rattle.script_reader.specs.Words.{is_name};
 
-use crate::arguments::Argument;
+use crate::arguments::{Argument, have_names, have_numbers};
 use crate::cause::{Cause, LineFault};
 use crate::command::Command;
 use crate::index::{DeclaredVars, NamedVars, Places};
@@ -120,6 +123,7 @@ impl Draft {
         ensures { IfOk result (λ draft. draft ≡ nothing) }
     {
         let named = NamedVars::new(alloc)?;
+        let declared = DeclaredVars::new(alloc)?;
         Ok(Draft {
             said_wire: None,
             nodes: Vec::new(alloc),
@@ -130,7 +134,7 @@ impl Draft {
             subjects: Vec::new(alloc),
             phases: 1,
             commands: Vec::new(alloc),
-            declared: DeclaredVars::new(alloc),
+            declared,
             named,
             counts: [0; HOMES],
             pages: [ENTRY_ROOM; HOMES],
@@ -175,7 +179,7 @@ impl Draft {
         if line.is_no_number(self.wire()) {
             return Err(LineFault::Bad(Cause::Number));
         }
-        if line.is_no_name(alloc)? {
+        if line.is_no_name() {
             return Err(LineFault::Bad(Cause::Name));
         }
         let nodes = self.nodes_of(line);
@@ -192,6 +196,50 @@ impl Draft {
         Ok(())
     }
 
+    /// Takes a command of a process, of which this is known, or refuses it for the first cause that it meets.
+    pub(crate) fn take_command(
+        &mut self,
+        alloc: Global,
+        node: &[u8],
+        number: Option<u32>,
+        verb: Verb,
+        arguments: &[Argument<'_>],
+    ) -> Result<(), LineFault>
+        requires number { ForSome number IsProcessNumber }
+        requires formed { AreFormed (shape_of verb) (seen_arguments arguments.now) }
+        ensures { Gives (line_answer self.new result) (judged_saying self.old (Does (record { node = node.now; number = number }) verb (seen_arguments arguments.now))) }
+    {
+        if !self.has_numbers(number, arguments) {
+            return Err(LineFault::Bad(Cause::Number));
+        }
+        if !have_names(alloc, arguments)? {
+            return Err(LineFault::Bad(Cause::Name));
+        }
+        let Some(node) = self.node_named(node) else {
+            return Err(LineFault::Bad(Cause::Unknown));
+        };
+        let proc = proc_of(node, number);
+        if !self.are_known(proc, arguments) {
+            return Err(LineFault::Bad(Cause::Unknown));
+        }
+        if !self.are_fresh(arguments) {
+            return Err(LineFault::Bad(Cause::Repeat));
+        }
+        if self.commands.len() >= MAX_COMMANDS {
+            return Err(LineFault::Bad(Cause::Limit));
+        }
+        let command = self.command_of(alloc, verb, arguments)?;
+        self.add_command(alloc, proc, command)?;
+        Ok(())
+    }
+
+    /// Whether the number of a process is one, and so are those of a command's arguments.
+    fn has_numbers(&self, number: Option<u32>, arguments: &[Argument<'_>]) -> bool
+        ensures { result ≡ (is_some number && list_all (has_number (wire_of self.now)) (seen_arguments arguments.now)) }
+    {
+        number.is_some() && have_numbers(arguments, self.wire())
+    }
+
     /// The nodes that the line names.
     fn nodes_of(&self, line: Line<'_>) -> LineNodes
         ensures { AreNodesOf self.now.nodes (seen line.entry) result }
@@ -202,7 +250,6 @@ impl Draft {
             Line::Fault { from, to, .. } => (self.node_named(from), self.node_named(to)),
             Line::Wire { .. } | Line::Phase | Line::Access => (None, None),
             Line::Subject { node, .. } => (self.node_named(node), None),
-            Line::Does { node, .. } => (self.node_named(node), None),
         };
         LineNodes { first, second }
     }
@@ -219,14 +266,6 @@ impl Draft {
             Line::Object { .. } => nodes.first.is_none(),
             Line::Subject { .. } => nodes.first.is_none(),
             Line::Fault { .. } => nodes.first.is_none() || nodes.second.is_none(),
-            Line::Does {
-                number,
-                arguments,
-                ..
-            } => match nodes.first {
-                Some(node) => !self.are_known(proc_of(node, number), arguments),
-                None => true,
-            },
         }
     }
 
@@ -288,7 +327,6 @@ impl Draft {
                 let owner = proc_of(known(nodes.first), number);
                 self.has_subject(owner)
             }
-            Line::Does { arguments, .. } => !self.are_fresh(arguments),
         }
     }
 
@@ -331,7 +369,6 @@ impl Draft {
             }
             Line::Wire { .. } | Line::Fault { .. } | Line::Access | Line::Subject { .. } => false,
             Line::Phase => self.phases >= MAX_PHASES,
-            Line::Does { .. } => self.commands.len() >= MAX_COMMANDS,
         }
     }
 
@@ -376,16 +413,6 @@ impl Draft {
             } => {
                 let owner = proc_of(known(nodes.first), number);
                 self.add_subject(alloc, owner, person, project)
-            }
-            Line::Does {
-                number,
-                verb,
-                arguments,
-                ..
-            } => {
-                let proc = proc_of(known(nodes.first), number);
-                let command = self.command_of(alloc, verb, arguments)?;
-                self.add_command(alloc, proc, command)
             }
         }
     }
@@ -534,9 +561,7 @@ impl Draft {
             phase: self.phases,
             command,
         };
-        if self.commands.push(row).is_err() {
-            unreachable!();
-        }
+        self.commands.push_reserved(row);
         Ok(())
     }
 

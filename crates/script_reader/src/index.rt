@@ -1,58 +1,91 @@
 //! Which variables were declared and named, and where a process's commands stand: look-ups that go over no rows.
-ghost use Rattle.std.specs.Prelude.{◌≡◌, ◌≢◌, ◌<◌, ◌≤◌, slice_index_or, ◌↔◌, ℕ, List, [], ◌∷◌, ◌++◌, Contains, IsTrue, OnOk, OnErr, IfOk, length};
+ghost use Rattle.std.specs.Prelude.{◌≡◌, ◌≢◌, ◌<◌, ◌≤◌, slice_index_or, ◌↔◌, ℕ, List, [], ◌∷◌, ◌++◌, Contains, IsTrue, OnOk, OnErr, IfOk, None, length};
 ghost use Rattle.uid_names.specs.Names.{place_of_process};
 ghost use Rattle.script_reader.specs.Variables.{declared_object};
-ghost use Rattle.script_reader.specs.Walk.Index.{DeclaresAlso, HasAlso};
+ghost use Rattle.script_reader.specs.Walk.Index.{DeclaresAlso, HasAlso, list_of as list_of_var, listed_object};
 ghost use Rattle.script_reader.specs.Walk.Placed.{HoldsPlaces};
 ghost use Rattle.dom_history.specs.Ranges.{IsProcName};
 
-use crate::script::CommandRow;
+use crate::script::{CommandRow, VarRow};
 use std::alloc::Global;
-use std::collections::{BTreeSet, HashMap};
+use std::collections::BTreeSet;
 use std::marker::Model;
-use uid_names::{ItemList, NoMemory, PROCESSES, ProcId, Uid};
+use uid_names::{ByteList, ItemList, NoMemory, PROCESSES, ProcId, Uid};
 
-/// The variables of declared objects, each once, with their objects.
+/// How many lists the variables of declared objects stand in.
+const LISTS: usize = 64;
+
+/// The variables of declared objects, each once, with their objects: in lists by their last bytes, so that few are compared.
 #[derive(Drop)]
 pub(crate) struct DeclaredVars {
-    objects: HashMap<Vec<u8>, Uid>,
+    lists: Vec<ItemList<VarRow>>,
 }
 
 impl Model for DeclaredVars {
-    ghost use Rattle.std.specs.Prelude.{List, map};
+    ghost use Rattle.std.specs.Prelude.{◌≡◌, List, length};
     ghost use Rattle.script_reader.specs.declared.script.VarRow.{VarRow};
 
-    ghost Value = { List VarRow };
+    ghost Value = { List (List VarRow) };
 
-    ghost view = { λ v. map (λ e. record { var = e.0.items; uid = e.1 }) v.objects.entries };
+    ghost view = { λ v. v.lists.items };
+
+    ghost invariant = { λ v. length v.lists.items ≡ 64 };
 }
 
 impl DeclaredVars {
-    /// No variable. Takes no memory.
-    pub(crate) fn new(alloc: Global) -> DeclaredVars
-        ensures { result ≡ [] }
+    /// No variable.
+    pub(crate) fn new(alloc: Global) -> Result<DeclaredVars, NoMemory>
+        ensures { IfOk result (λ lists. (place : ℕ) → slice_index_or lists place [] ≡ []) }
     {
-        DeclaredVars {
-            objects: HashMap::new(alloc),
+        let mut lists = Vec::with_capacity(alloc, LISTS)?;
+        while lists.len() < LISTS {
+            lists.push(ItemList::new(alloc))?;
         }
+        Ok(DeclaredVars { lists })
     }
 
     /// The object of a declared variable. Takes no memory.
     pub(crate) fn object(&self, var: &[u8]) -> Option<Uid>
-        ensures { result ≡ declared_object self.now var.now }
+        ensures { result ≡ listed_object self.now var.now }
     {
-        self.objects.get(var).copied()
+        object_among(self.lists[list_of(var)].items(), var)
     }
 
     /// Puts a variable with its object there; without memory nothing changes.
     pub(crate) fn add(&mut self, alloc: Global, var: &[u8], uid: Uid) -> Result<(), NoMemory>
+        requires new { listed_object self.old var.now ≡ None }
         ensures ok { OnOk result (DeclaresAlso self.old self.new var.now uid) }
         ensures err { OnErr result (self.new ≡ self.old) }
     {
-        let name = Vec::from_slice(alloc, var)?;
-        self.objects.insert(name, uid)?;
-        Ok(())
+        let name = ByteList::from_slice(alloc, var)?;
+        let list = &mut self.lists[list_of(var)];
+        list.push(VarRow { var: name, uid })
     }
+}
+
+/// The list that a variable stands in, if it is declared.
+fn list_of(var: &[u8]) -> usize
+    ensures value { result ≡ list_of_var var.now }
+    ensures bound { result < LISTS }
+{
+    if var.is_empty() {
+        return 0;
+    }
+    let last = var[var.len() - 1] as usize;
+    let before = var[var.len().saturating_sub(2)] as usize;
+    (last + 10 * before) % LISTS
+}
+
+/// The object of a variable among these.
+fn object_among(rows: &[VarRow], var: &[u8]) -> Option<Uid>
+    ensures { result ≡ declared_object rows.now var.now }
+{
+    for row in rows {
+        if row.var.bytes() == var {
+            return Some(row.uid);
+        }
+    }
+    None
 }
 
 /// Variables, each once.

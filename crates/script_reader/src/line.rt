@@ -1,14 +1,11 @@
 //! What a line says that has its form, and the tests of it that ask for nothing else.
-ghost use Rattle.std.specs.Prelude.{◌≡◌, IfOk};
+ghost use Rattle.std.specs.Prelude.{◌≡◌};
 ghost use Rattle.script_reader.specs.Numbers.{is_fate as is_fate_said, is_no_number as is_no_number_in};
 ghost use Rattle.script_reader.specs.NamesAsked.{is_no_name as is_no_name_in};
 ghost use Rattle.script_reader.specs.Walk.Seen.{seen, seen_fate};
 
-use crate::arguments::{Argument, has_room, have_names, have_numbers};
-use crate::words::Verb;
+use crate::arguments::has_room;
 use dom_text::is_name;
-use std::alloc::Global;
-use uid_names::NoMemory;
 
 /// A fate, with its number where its word spells one.
 #[derive(Clone, Copy)]
@@ -18,7 +15,7 @@ pub(crate) enum LineFate {
     Late(Option<u32>),
 }
 
-/// A line: its names, and a number of the right range where a word spells one.
+/// A line that is no command: its names, and a number of the right range where a word spells one.
 #[derive(Clone, Copy)]
 pub(crate) enum Line<'a> {
     Wire {
@@ -47,12 +44,6 @@ pub(crate) enum Line<'a> {
         person: &'a [u8],
         project: &'a [u8],
     },
-    Does {
-        node: &'a [u8],
-        number: Option<u32>,
-        verb: Verb,
-        arguments: &'a [Argument<'a>],
-    },
 }
 
 impl LineFate {
@@ -79,19 +70,14 @@ impl Line<'_> {
             Line::Fault { index, fate, .. } => !(index.is_some() && fate.has_number()),
             Line::Phase | Line::Access => false,
             Line::Subject { number, .. } => number.is_none(),
-            Line::Does {
-                number,
-                arguments,
-                ..
-            } => !(number.is_some() && have_numbers(arguments, wire)),
         }
     }
 
     /// Whether a word is no name or no path where one is asked.
-    pub(crate) fn is_no_name(self, alloc: Global) -> Result<bool, NoMemory>
-        ensures { IfOk result (λ bad. bad ≡ is_no_name_in (seen self.entry)) }
+    pub(crate) fn is_no_name(self) -> bool
+        ensures { result ≡ is_no_name_in (seen self.entry) }
     {
-        Ok(match self {
+        match self {
             Line::Node { name, .. } => !is_name(name),
             Line::Object { var, home, .. } => !(is_name(var) && is_name(home)),
             Line::Fault { from, to, .. } => !(is_name(from) && is_name(to)),
@@ -102,7 +88,6 @@ impl Line<'_> {
                 project,
                 ..
             } => !(is_name(node) && (is_name(person) && is_name(project))),
-            Line::Does { arguments, .. } => !have_names(alloc, arguments)?,
-        })
+        }
     }
 }

@@ -1,16 +1,16 @@
 //! Reads a script line by line.
-ghost use Rattle.std.specs.Prelude.{◌≡◌, ◌<◌, ◌≤◌, ◌∷◌, length, IfOk, IfErr};
+ghost use Rattle.std.specs.Prelude.{◌≡◌, ◌<◌, ◌≤◌, ◌∷◌, length, IfOk, IfErr, Some, None};
 ghost use Rattle.std.specs.Option.{ForSome};
 ghost use Rattle.script_reader.specs.Grammar.{AreGood, IsScript, nothing, raw_lines, without_cr as without_cr_of};
-ghost use Rattle.script_reader.specs.Judging.{judged, judged_early, judged_form, judged_place, judged_process, judged_tokens};
+ghost use Rattle.script_reader.specs.Judging.{judged, judged_early, judged_first, judged_form, judged_place, judged_process, judged_tokens};
 ghost use Rattle.dom_text.specs.Answers.{Gives};
 ghost use Rattle.dom_text.specs.Lent.{owned};
 ghost use Rattle.script_reader.specs.Walk.Formed.{HasForm, IsProcessNumber};
 ghost use Rattle.script_reader.specs.Walk.Results.{RefusesLines, line_answer};
 ghost use Rattle.script_reader.specs.Faults.{IsRefusal};
-ghost use Rattle.script_reader.specs.Forms.{access_form as access_form_of, phase_form as phase_form_of, command_form as command_form_of};
+ghost use Rattle.script_reader.specs.Forms.{access_form as access_form_of, phase_form as phase_form_of};
 ghost use Rattle.script_reader.specs.Walk.Seen.{seen, seen_line};
-ghost use Rattle.script_reader.specs.Words.{process_word as process_word_of};
+ghost use Rattle.script_reader.specs.Words.{line_word_of, process_word as process_word_of};
 
 use crate::arguments::read_arguments;
 use crate::cause::{Cause, LineFault, ScriptFault};
@@ -18,7 +18,8 @@ use crate::draft::Draft;
 use crate::forms::{fault_form, first_word, node_form, object_form, subject_form, wire_form};
 use crate::line::Line;
 use crate::script::Script;
-use crate::words::{LineWord, Verb, process_word, read_line_word, read_verb};
+use crate::words::{LineWord, process_word, read_line_word, read_verb};
+use arrayvec::ArrayVec;
 use dom_text::{TextFault, TokenRef, cut, lend_tokens};
 use std::alloc::Global;
 use uid_names::SCRIPT_BYTES;
@@ -118,7 +119,8 @@ fn read_line<'a>(
     }
 }
 
-/// Reads the tokens of a line; a line without tokens is skipped.
+/// Reads the tokens of a line; a line without tokens is skipped. Most lines are commands, so it is asked first whether one begins
+/// with a process.
 fn read_tokens(draft: &mut Draft, alloc: Global, tokens: &[TokenRef<'_>]) -> Result<(), LineFault>
     ensures { Gives (line_answer draft.new result) (judged_tokens draft.old (owned tokens.now)) }
 {
@@ -128,6 +130,23 @@ fn read_tokens(draft: &mut Draft, alloc: Global, tokens: &[TokenRef<'_>]) -> Res
     let Some((word, rest)) = first_word(tokens) else {
         return Err(LineFault::Bad(Cause::Word));
     };
+    match process_word(word) {
+        Some((node, number)) => read_command(draft, alloc, node, number, rest),
+        None => read_other(draft, alloc, word, rest),
+    }
+}
+
+/// Reads a line that is no command, whose first token is this word.
+#[inline(never)]
+fn read_other(
+    draft: &mut Draft,
+    alloc: Global,
+    word: &[u8],
+    rest: &[TokenRef<'_>],
+) -> Result<(), LineFault>
+    requires { process_word_of word.now ≡ None }
+    ensures { Gives (line_answer draft.new result) (judged_first draft.old (line_word_of word.now) word.now (owned rest.now)) }
+{
     match read_line_word(word) {
         Some(LineWord::Wire) => read_wire(draft, alloc, wire_form(rest)),
         Some(LineWord::Node) => read_declaration(draft, alloc, node_form(rest)),
@@ -136,7 +155,7 @@ fn read_tokens(draft: &mut Draft, alloc: Global, tokens: &[TokenRef<'_>]) -> Res
         Some(LineWord::Phase) => read_phase(draft, alloc, rest),
         Some(LineWord::Access) => read_access(draft, alloc, rest),
         Some(LineWord::Subject) => read_declaration(draft, alloc, subject_form(rest)),
-        None => read_command(draft, alloc, word, rest),
+        None => Err(LineFault::Bad(Cause::Word)),
     }
 }
 
@@ -192,49 +211,26 @@ fn read_access(draft: &mut Draft, alloc: Global, rest: &[TokenRef<'_>]) -> Resul
     draft.take(alloc, Line::Access)
 }
 
-/// Reads a command, whose first token is this word.
+/// Reads a command of this process, whose other tokens these are.
 fn read_command(
     draft: &mut Draft,
     alloc: Global,
-    word: &[u8],
+    node: &[u8],
+    number: Option<u32>,
     rest: &[TokenRef<'_>],
 ) -> Result<(), LineFault>
-    ensures { Gives (line_answer draft.new result) (judged_process draft.old (process_word_of word.now) (owned rest.now)) }
+    requires { ForSome number IsProcessNumber }
+    ensures { Gives (line_answer draft.new result) (judged_process draft.old (Some (record { node = node.now; number = number })) (owned rest.now)) }
 {
-    let Some((node, number)) = process_word(word) else {
-        return Err(LineFault::Bad(Cause::Word));
-    };
     let Some((verb, rest)) = first_word(rest) else {
         return Err(LineFault::Bad(Cause::Word));
     };
     let Some(verb) = read_verb(verb) else {
         return Err(LineFault::Bad(Cause::Word));
     };
-    read_form(draft, alloc, node, number, verb, rest)
-}
-
-/// Reads the arguments of a command of this process, which these tokens are.
-fn read_form(
-    draft: &mut Draft,
-    alloc: Global,
-    node: &[u8],
-    number: Option<u32>,
-    verb: Verb,
-    rest: &[TokenRef<'_>],
-) -> Result<(), LineFault>
-    requires { ForSome number IsProcessNumber }
-    ensures { Gives (line_answer draft.new result) (judged_form draft.old (command_form_of (record { node = node.now; number = number }) verb (owned rest.now))) }
-{
-    let Some(arguments) = read_arguments(verb.shape(), rest) else {
+    let mut arguments = ArrayVec::new();
+    let Some(()) = read_arguments(verb.shape(), rest, &mut arguments) else {
         return Err(LineFault::Bad(Cause::Form));
     };
-    draft.take(
-        alloc,
-        Line::Does {
-            node,
-            number,
-            verb,
-            arguments: arguments.as_slice(),
-        },
-    )
+    draft.take_command(alloc, node, number, verb, arguments.as_slice())
 }

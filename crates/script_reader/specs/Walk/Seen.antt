@@ -6,13 +6,13 @@ use Rattle.dom_text.specs.declared.token.Token.{Token}
 use Rattle.dom_text.specs.declared.token.TokenRef.{TokenRef}
 use Rattle.dom_text.specs.declared.token.Token.TheVariants.{Word, Text as TextToken}
 use Rattle.script_reader.specs.Arguments.{Said, Var, NewVar, Room, Offset, Count, Address, Text, Message, Mode, Home, HomeNode, OptionalRoom, Path, OptionalPath}
-use Rattle.script_reader.specs.Sayings.{Saying, Wire, Node, Object, Fault, Phase, Access, Subject, Does, SaidFate, Lose, Twice, Late}
+use Rattle.script_reader.specs.Sayings.{Saying, Wire, Node, Object, Fault, Phase, Access, Subject, SaidFate, Lose, Twice, Late}
 use Rattle.script_reader.specs.declared.line.LineFate.{LineFate}
 use Rattle.script_reader.specs.declared.line.LineFate.TheVariants.{Lose as LoseOfLine, Twice as TwiceOfLine, Late as LateOfLine}
 use Rattle.script_reader.specs.declared.arguments.Argument.{Argument as ArgumentOfLine}
 use Rattle.script_reader.specs.declared.arguments.Argument.TheVariants as words
 use Rattle.script_reader.specs.declared.line.Line.{Line}
-use Rattle.script_reader.specs.declared.line.Line.TheVariants.{Wire as WireLine, Node as NodeLine, Object as ObjectLine, Fault as FaultLine, Phase as PhaseLine, Access as AccessLine, Subject as SubjectLine, Does as DoesLine}
+use Rattle.script_reader.specs.declared.line.Line.TheVariants.{Wire as WireLine, Node as NodeLine, Object as ObjectLine, Fault as FaultLine, Phase as PhaseLine, Access as AccessLine, Subject as SubjectLine}
 
 abbrev pub seen_option : Option (Bor (List ℕ)) → Option (List ℕ)
 seen_option None = None
@@ -59,7 +59,6 @@ seen (FaultLine from to index fate) = Fault from.now to.now index (seen_fate fat
 seen PhaseLine = Phase
 seen AccessLine = Access
 seen (SubjectLine node number person project) = Subject (record { node = node.now; number = number }) person.now project.now
-seen (DoesLine node number verb arguments) = Does (record { node = node.now; number = number }) verb (seen_arguments arguments.now)
 
 -- no word stands first
 abbrev pub BeginsWithNoWord : List Token → Type 0

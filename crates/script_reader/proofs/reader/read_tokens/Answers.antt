@@ -1,5 +1,7 @@
-use Rattle.script_reader.proofs.Reading.{no_line_word}
+use Rattle.script_reader.proofs.Reading.{begins_command}
 use Rattle.script_reader.proofs.reader.read_tokens.Goals as goal
 
-pub returns-in-None : goal.returns-in-None
-returns-in-None c = rw (c.in-Some.ensures, no_line_word c.in-Some.word.now c.in-None.ensures.word) c.read_command.ensures
+pub returns-in-Some-process_word : goal.returns-in-Some-process_word
+returns-in-Some-process_word c =
+    let process = c.in-Some-process_word.ensures.word in
+    rw (c.in-Some.ensures, begins_command c.in-Some.word.now _ process, process) c.read_command.ensures

@@ -1,20 +1,18 @@
-use Rattle.std.proofs.Common.{rules, ◌≡◌, ◌≤◌, ℕ, false, Option, Some, None, refl, length, sym, subst}
+use Rattle.std.proofs.Common.{rules, ◌≡◌, ◌≤◌, ℕ, false, Option, Some, None, refl, sym, subst}
 use Rattle.std.specs.Prelude.{◌&&◌, is_some}
-use Rattle.std.specs.List.{list_all}
 use Rattle.std.proofs.lemmas.Bool.{and_parts, not-false}
-use Rattle.script_reader.specs.Numbers.{has_room, has_number, is_fate, is_no_number}
+use Rattle.script_reader.specs.Numbers.{has_room, is_fate, is_no_number}
 use Rattle.uid_names.specs.Wires.{wire_room}
 use Rattle.script_reader.specs.Scripts.{wire_of}
-use Rattle.script_reader.specs.NamesAsked.{has_name, is_no_name}
+use Rattle.script_reader.specs.NamesAsked.{is_no_name}
 use Rattle.script_reader.specs.NodeNames.{is_node_name}
-use Rattle.script_reader.specs.Repeats.{is_fresh, is_repeated}
-use Rattle.script_reader.specs.UnknownNames.{is_known, is_unknown, proc_of}
+use Rattle.script_reader.specs.Repeats.{is_repeated}
+use Rattle.script_reader.specs.UnknownNames.{is_unknown, proc_of}
 use Rattle.script_reader.specs.Words.{ProcessWord, is_name}
 use Rattle.script_reader.specs.Walk.Formed.{IsFormed}
 use Rattle.script_reader.specs.Walk.Found.{AreNodesOf}
-use Rattle.script_reader.specs.Commands.{IsCommand}
-use Rattle.script_reader.specs.Walk.Seen.{seen, seen_arguments, seen_fate}
-use Rattle.script_reader.proofs.Arguing.{to_low, command_is, command_spoken, nodes_known}
+use Rattle.script_reader.specs.Walk.Seen.{seen, seen_fate}
+use Rattle.script_reader.proofs.Arguing.{to_low}
 use Rattle.script_reader.proofs.Ranges.{both_true, fate_is, node_is, nodes_apart}
 use Rattle.script_reader.proofs.draft.Draft.add.Goals as goal
 
@@ -35,28 +33,6 @@ add_fate-requires-clause-fate c =
     let formed = subst (λ l. IsFormed c.args.self.now (seen l)) c.in-Fault.is c.requires.formed in
     let good = both_true (is_some c.in-Fault.index) (is_fate (seen_fate c.in-Fault.fate)) (subst (λ l. is_no_number (wire_of c.args.self.now) (seen l) ≡ false) c.in-Fault.is c.requires.numbers) in
     rw c.fate_of.ensures (fate_is (seen_fate c.in-Fault.fate) formed.1.1 good.1)
-
-pub add_command-requires-clause-range : goal.add_command-requires-clause-range
-add_command-requires-clause-range c =
-    let s = c.args.self.now in
-    let arguments = seen_arguments c.in-Does.arguments.now in
-    let formed = subst (λ l. IsFormed s (seen l)) c.in-Does.is c.requires.formed in
-    let numbers = both_true (is_some c.in-Does.number) (list_all (has_number (wire_of s)) arguments) (subst (λ l. is_no_number (wire_of c.args.self.now) (seen l) ≡ false) c.in-Does.is c.requires.numbers) in
-    let names = not-false (list_all has_name arguments) (subst (λ l. is_no_name (seen l) ≡ false) c.in-Does.is c.requires.names) in
-    let process : ProcessWord = record { node = c.in-Does.node.now; number = c.in-Does.number } in
-    let known = both_true (is_node_name s.nodes process.node) (list_all (is_known s (proc_of s.nodes process)) arguments) (subst (λ l. is_unknown s (seen l) ≡ false) c.in-Does.is c.requires.known) in
-    subst (IsCommand (length s.nodes)) (sym c.in_ok-command-in-Does.ensures) (command_is (wire_of s) s.nodes c.in-Does.verb arguments formed.1 numbers.1 names (nodes_known s (proc_of s.nodes process) arguments known.1))
-
-pub add_command-requires-clause-spoken : goal.add_command-requires-clause-spoken
-add_command-requires-clause-spoken c =
-    let s = c.args.self.now in
-    let arguments = seen_arguments c.in-Does.arguments.now in
-    let process : ProcessWord = record { node = c.in-Does.node.now; number = c.in-Does.number } in
-    let formed = subst (λ l. IsFormed s (seen l)) c.in-Does.is c.requires.formed in
-    let known = both_true (is_node_name s.nodes process.node) (list_all (is_known s (proc_of s.nodes process)) arguments) (subst (λ l. is_unknown s (seen l) ≡ false) c.in-Does.is c.requires.known) in
-    let fresh = not-false (list_all (is_fresh s) arguments) (subst (λ l. is_repeated s (seen l) ≡ false) c.in-Does.is c.requires.new) in
-    let proc : c.proc_of-proc.result ≡ proc_of s.nodes process = search rules in
-    rw (proc, c.in_ok-command-in-Does.ensures) (command_spoken s (proc_of s.nodes process) c.in-Does.verb arguments formed.1.kinds_are known.1 fresh)
 
 -- the process of a subject
 pub add_subject-requires-clause-person : goal.add_subject-requires-clause-person

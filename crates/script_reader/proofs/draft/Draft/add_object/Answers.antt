@@ -8,6 +8,7 @@ use Rattle.script_reader.specs.Limits.{pages_at}
 use Rattle.script_reader.specs.After.{next_uid}
 use Rattle.script_reader.specs.Variables.{is_declared}
 use Rattle.script_reader.specs.Words.{is_name}
+use Rattle.script_reader.proofs.Declaring.{undeclared}
 use Rattle.script_reader.proofs.Drafting.{greatest_of, count_is, count_small, held-object}
 use Rattle.script_reader.proofs.draft.Draft.add_object.Goals as goal
 
@@ -35,3 +36,8 @@ invariant_of-self-2 c =
     let fits : pages_at home d.starts.items + c.args.room ≤ VOLUME_ROOM = subst (λ t. pages_at home t.opening.objects + c.args.room ≤ VOLUME_ROOM) (sym c.self.view_is) c.requires.fits in
     let low : c.args.room ≤ greatest_of d = subst (λ t. c.args.room ≤ wire_room (wire_of t)) (sym c.self.view_is) c.requires.low in
     held-object d c.push.new.self c.push-2.new.self c.add.new.self name home c.args.room at uid c.self.invariant u c.number-range.ensures.name es eo also named c.home_index-at.ensures.least most c.home_index-at.ensures.value c.requires.room low new none fits
+
+pub add-requires : goal.add-requires
+add-requires c =
+    let var = c.args.var.now in
+    record { new = c.self.invariant.declared var ∙ undeclared c.self.inside.objects.items var (ap (λ t. is_declared t.objects var) c.self.view_is ∙ c.requires.new) }
