@@ -7,10 +7,12 @@ use Rattle.naming_tree.specs.declared.step.Step.TheVariants.{Do, Over}
 use Rattle.command_talks.specs.declared.file_talk.FileTalk.{FileTalk}
 use Rattle.command_talks.specs.declared.file_talk.FileTurn.{FileTurn}
 use Rattle.command_talks.specs.declared.file_talk.FileTurn.TheVariants as files
+use Rattle.command_talks.specs.declared.come.Come.{Come}
 use Rattle.command_talks.specs.declared.outcome.Outcome.{Outcome}
 use Rattle.command_talks.specs.Dialogues.{TalkStep}
 use Rattle.command_talks.specs.declared.talk.Talk.{Talk}
 use Rattle.command_talks.specs.FileTalks.{file_asks, file_turn, MayHearFile}
+use Rattle.command_talks.specs.FileTurns.{led}
 
 -- a machine that stands there; None where it is over
 abbrev pub talk_in : Option FileTalk → Talk
@@ -41,6 +43,11 @@ of_file (Some turn) = Some (as_turn turn)
 abbrev pub turn_in : Option FileTalk → Option Reply → Option Turn
 turn_in None last = None
 turn_in (Some talk) last = of_file (file_turn talk last)
+
+-- what it drove has come to this
+abbrev pub led_in : Option FileTalk → Come → Option Turn
+led_in None come = None
+led_in (Some talk) come = of_file (led talk come)
 
 abbrev pub talk_turn : Talk → Option Reply → Option Turn
 talk_turn talk last = turn_in talk.at last

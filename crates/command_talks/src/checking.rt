@@ -62,7 +62,7 @@ fn on_verdict(alloc: Global, pending: Pending, verdict: Verdict) -> Result<FileT
 }
 
 /// The list was read.
-fn on_text(alloc: Global, pending: Pending, come: StreamResult) -> Result<FileTurn, NoMemory>
+pub fn on_text(alloc: Global, pending: Pending, come: StreamResult) -> Result<FileTurn, NoMemory>
     ensures turn { IfOk result (λ turn. Some turn ≡ text_turn pending come) }
     ensures asks { IfOk result Asks }
 {
@@ -128,7 +128,11 @@ fn on_slots(alloc: Global, pending: Pending, bytes: &[u8]) -> Result<FileTurn, N
 }
 
 /// The directory was read.
-fn on_directory(alloc: Global, pending: Pending, come: StreamResult) -> Result<FileTurn, NoMemory>
+pub fn on_directory(
+    alloc: Global,
+    pending: Pending,
+    come: StreamResult,
+) -> Result<FileTurn, NoMemory>
     ensures turn { IfOk result (λ turn. Some turn ≡ directory_turn pending come) }
     ensures asks { IfOk result Asks }
 {

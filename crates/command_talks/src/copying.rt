@@ -40,7 +40,7 @@ fn begin_copy(alloc: Global, source: Source, to: Uid) -> Result<FileTurn, NoMemo
 }
 
 /// The addition of the target of a copy has come to this.
-fn added(alloc: Global, source: Source, come: NameResult) -> Result<FileTurn, NoMemory>
+pub fn added(alloc: Global, source: Source, come: NameResult) -> Result<FileTurn, NoMemory>
     ensures turn { IfOk result (λ turn. Some turn ≡ added_turn source come) }
     ensures asks { IfOk result Asks }
 {

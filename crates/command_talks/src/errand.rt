@@ -4,8 +4,9 @@ ghost use Rattle.mapped_streams.specs.Works.{IsText};
 ghost use Rattle.dir_records.specs.Paths.{route_of};
 
 use crate::check::Subject;
+use crate::reach::Reach;
 use crate::source::Source;
-use naming_tree::{Addition, ChangeAt, Purpose, Site, ToParent, Within};
+use naming_tree::{Addition, ChangeAt, Purpose, Site, Within};
 use std::alloc::Global;
 use std::marker::Model;
 use uid_names::{ByteList, NoMemory, ObjKind, Uid};
@@ -117,12 +118,12 @@ impl Target {
     }
 
     /// The walk to the directory of its last name, and for whom it is made.
-    pub fn walk(self, alloc: Global) -> Result<(ToParent, Option<Subject>), NoMemory>
+    pub fn walk(self, alloc: Global) -> Result<(Reach, Option<Subject>), NoMemory>
         ensures walk { IfOk result (λ p. p.0 ≡ to_parent_of self.site (route_of self.path) self.dir Adds) }
         ensures guard { IfOk result (λ p. p.1 ≡ self.guard) }
     {
         let path = self.path;
-        let walk = ToParent::new(alloc, self.site, path.bytes(), self.dir, Purpose::Adds)?;
+        let walk = Reach::new(alloc, self.site, path.bytes(), self.dir, Purpose::Adds)?;
         Ok((walk, self.guard))
     }
 }

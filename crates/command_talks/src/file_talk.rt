@@ -2,11 +2,12 @@
 use crate::check::{Check, Subject};
 use crate::errand::{Errand, Target};
 use crate::outcome::Outcome;
+use crate::reach::Reach;
 use crate::source::Source;
 use dom_history::Op;
 use mail_box::Mail;
 use mapped_streams::Stream;
-use naming_tree::{ChangeAt, ListAt, NameResult, ToParent, Walk};
+use naming_tree::{ChangeAt, ListAt, NameResult, Walk};
 
 /// What is asked next of the source of a copy, while it is opened.
 #[derive(Clone, Copy)]
@@ -31,7 +32,7 @@ pub enum FileTalk {
     /// Its path is walked along to its end, for an errand; a process with a subject is checked behind that.
     Seeks(Walk, Errand, Option<Subject>),
     /// It is walked along to the directory of its last name.
-    Reaches(ToParent, Errand, Option<Subject>),
+    Reaches(Reach, Errand, Option<Subject>),
     /// The directory of a check is read.
     LooksUp(Stream, Pending),
     /// Its list is read.

@@ -14,9 +14,10 @@ ghost use Rattle.command_talks.specs.declared.errand.Errand.TheVariants.{Append 
 use crate::check::Subject;
 use crate::errand::{Errand, Letter, NewObject, Target, Text};
 use crate::file_talk::FileTalk;
+use crate::reach::Reach;
 use crate::talk::{Machine, Talk};
 use dom_history::NodeNames;
-use naming_tree::{Site, ToParent, Walk};
+use naming_tree::{Site, Walk};
 use script_reader::Command;
 use std::alloc::Global;
 use uid_names::{ByteList, NoMemory, ObjKind, Uid};
@@ -141,7 +142,7 @@ fn walk_for(
             Ok(FileTalk::Seeks(walk, errand, guard))
         }
         Some(purpose) => {
-            let walk = ToParent::new(alloc, site, path, dir, purpose)?;
+            let walk = Reach::new(alloc, site, path, dir, purpose)?;
             Ok(FileTalk::Reaches(walk, errand, guard))
         }
     }

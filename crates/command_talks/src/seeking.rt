@@ -1,32 +1,32 @@
 //! How commands walk along their paths, and what they do behind that.
-ghost use Rattle.std.specs.Prelude.{◌≡◌, Some, None, IfOk, IsSome};
+ghost use Rattle.std.specs.Prelude.{◌≡◌, Some, IfOk, IsSome};
 ghost use Rattle.std.specs.Option.{option_copied};
 ghost use Rattle.naming_tree.specs.Turns.{FitsStood};
 ghost use Rattle.naming_tree.specs.ByPaths.{by_path_asks};
 ghost use Rattle.naming_tree.specs.Changing.{changing_asks};
 ghost use Rattle.naming_tree.specs.ListsAt.{listing_asks};
-ghost use Rattle.naming_tree.specs.Walking.{walking_asks};
 ghost use Rattle.command_talks.specs.FileTalks.{add_turn, append_turn, copy_turn, count_turn, file_sought, file_turn, list_sought, mail_sought, place_sought, put_turn, read_turn, remove_turn, sought_turn, take_turn, MayHearFile};
-ghost use Rattle.command_talks.specs.FileTurns.{file_says, Asks};
-ghost use Rattle.command_talks.specs.declared.file_talk.FileTalk.TheVariants.{Changes, Lists, Mails, Reaches, Seeks};
+ghost use Rattle.command_talks.specs.FileTurns.{Asks, IsApart};
+ghost use Rattle.command_talks.specs.declared.file_talk.FileTalk.TheVariants.{Changes, Lists, Mails, Reaches};
 ghost use Rattle.mail_box.specs.Dialogues.{MayHear as MayHearMail};
 ghost use Rattle.mail_box.specs.States.{rest as mail_rest};
 
 use crate::arriving::{Arrival, directory_in, file_in, mail_in};
 use crate::check::Subject;
-use crate::checking::{guarded, look_up, read_through};
+use crate::checking::guarded;
 use crate::closing::closed;
-use crate::copying::{add, begin_open, fill, open};
+use crate::copying::{begin_open, fill, open};
 use crate::errand::{Errand, Letter, NewObject, Target, Text};
 use crate::file_talk::{FileTalk, FileTurn};
 use crate::mailed::mail_over;
 use crate::outcome::Outcome;
+use crate::reach::Reach;
 use crate::source::Source;
 use crate::streaming::turned;
 use dom_history::Reply;
 use mail_box::{Mail, MailStep};
 use mapped_streams::Stream;
-use naming_tree::{ChangeAt, ListAt, NameResult, NameStep, ToParent, Walk};
+use naming_tree::{ChangeAt, ListAt, NameResult, NameStep};
 use std::alloc::Global;
 use uid_names::{NoMemory, Uid};
 
@@ -237,29 +237,10 @@ pub fn sought(alloc: Global, errand: Errand, come: NameResult) -> Result<FileTur
     }
 }
 
-/// A path that is walked along to its end.
-fn seek(
-    alloc: Global,
-    mut walk: Walk,
-    errand: Errand,
-    guard: Option<Subject>,
-    last: Option<&Reply>,
-) -> Result<FileTurn, NoMemory>
-    requires still { IsSome walk }
-    requires fits { FitsStood walking_asks walk (option_copied last) }
-    ensures turn { IfOk result (λ turn. Some turn ≡ file_turn (Seeks walk errand guard) (option_copied last.entry)) }
-    ensures asks { IfOk result Asks }
-{
-    match walk.next(alloc, last)? {
-        NameStep::Do(op) => Ok(FileTurn::Goes(FileTalk::Seeks(walk, errand, guard), op)),
-        NameStep::Over(come) => guarded(alloc, guard, errand, come),
-    }
-}
-
 /// One that is walked along to the directory of its last name.
 pub fn reach(
     alloc: Global,
-    mut walk: ToParent,
+    mut walk: Reach,
     errand: Errand,
     guard: Option<Subject>,
     last: Option<&Reply>,
@@ -276,29 +257,17 @@ pub fn reach(
 }
 
 impl FileTalk {
-    /// Tells it the reply to its operation, where it is at no stream.
-    #[tactic(auto, using(crate::proofs::Streams::stream_said))]
+    /// Tells it the reply to its operation, where it drives nothing: a source is opened or closed.
     pub fn turn(self, alloc: Global, last: Option<&Reply>) -> Result<FileTurn, NoMemory>
         requires fits { MayHearFile self (option_copied last) }
-        requires apart { file_says self (option_copied last) ≡ None }
+        requires apart { IsApart self }
         ensures turn { IfOk result (λ turn. Some turn ≡ file_turn self (option_copied last.entry)) }
         ensures asks { IfOk result Asks }
     {
         match self {
-            FileTalk::Seeks(walk, errand, guard) => seek(alloc, walk, errand, guard, last),
-            FileTalk::Reaches(walk, errand, guard) => reach(alloc, walk, errand, guard, last),
-            FileTalk::LooksUp(stream, pending) => look_up(alloc, stream, pending, last),
-            FileTalk::ReadsList(stream, pending) => read_through(alloc, stream, pending, last),
-            FileTalk::Lists(machine) => list(alloc, machine, last),
-            FileTalk::Changes(machine) => change(alloc, machine, last),
-            FileTalk::Mails(machine) => mail_on(alloc, machine, last),
             FileTalk::Opens(source, stage, target) => open(alloc, source, stage, target, last),
-            FileTalk::Adds(source, machine) => add(alloc, source, machine, last),
             FileTalk::Closes(source, outcome) => closed(alloc, source, outcome, last),
-            FileTalk::Reads(_)
-            | FileTalk::Counts(_)
-            | FileTalk::Appends(_)
-            | FileTalk::Copies(..) => unreachable!(),
+            _ => unreachable!(),
         }
     }
 }

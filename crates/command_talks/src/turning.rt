@@ -1,14 +1,14 @@
 //! How the machines of commands go on.
-ghost use Rattle.std.specs.Prelude.{◌≡◌, Some, None, IfOk, OnErr, IfSome, IsSome, option_map};
+ghost use Rattle.std.specs.Prelude.{◌≡◌, Some, None, IfOk, OnErr, IfSome, IsSome};
 ghost use Rattle.std.specs.Option.{option_copied};
-ghost use Rattle.command_talks.specs.FileTalks.{over_turn};
-ghost use Rattle.command_talks.specs.FileTurns.{file_says, Asks as FileAsks};
-ghost use Rattle.command_talks.specs.Talks.{turn_by, as_turn, of_file, talk_in, talk_turn, turn_in, AsksThere, MayBeTold, MayTellIn};
+ghost use Rattle.command_talks.specs.FileTurns.{Asks as FileAsks, IsApart};
+ghost use Rattle.command_talks.specs.Talks.{turn_by, as_turn, led_in, talk_in, talk_turn, turn_in, AsksThere, MayBeTold, MayTellIn};
 
+use crate::come::Come;
 use crate::file_talk::{FileTalk, FileTurn};
 use crate::talk::{Machine, Talk, TalkStep};
+use crate::telling::ComeStep;
 use dom_history::Reply;
-use mapped_streams::{StreamResult, StreamStep};
 use std::alloc::Global;
 use uid_names::NoMemory;
 
@@ -27,19 +27,21 @@ fn stand(talk: &mut Option<FileTalk>, turn: FileTurn) -> TalkStep
     }
 }
 
-/// The stream of a machine has come to this.
+/// What a command drove has come to this, and leads it on: only then is it moved.
 #[inline(never)]
-fn end_stream(talk: &mut Option<FileTalk>, come: StreamResult) -> TalkStep
+fn lead_on(alloc: Global, talk: &mut Option<FileTalk>, come: Come) -> Result<TalkStep, NoMemory>
     requires { IsSome talk.old }
-    ensures turn { Some (turn_by result (talk_in talk.new)) ≡ of_file (option_map (λ m. over_turn m come) talk.old) }
-    ensures asks { AsksThere (turn_by result (talk_in talk.new)) }
+    ensures turn { IfOk result (λ step. Some (turn_by step (talk_in talk.new)) ≡ led_in talk.old come) }
+    ensures asks { IfOk result (λ step. AsksThere (turn_by step (talk_in talk.new))) }
 {
-    let Some(machine) = talk else { unreachable!() };
-    let turn = machine.over(come);
-    stand(talk, turn)
+    let Some(machine) = talk.take() else {
+        unreachable!()
+    };
+    let turn = machine.led(alloc, come)?;
+    Ok(stand(talk, turn))
 }
 
-/// A machine that is told this at no stream.
+/// A command that drives nothing is told this.
 #[inline(never)]
 fn move_on(
     alloc: Global,
@@ -47,7 +49,7 @@ fn move_on(
     last: Option<&Reply>,
 ) -> Result<TalkStep, NoMemory>
     requires fits { MayTellIn talk.old (option_copied last) }
-    requires apart { IfSome talk.old (λ m. file_says m (option_copied last) ≡ None) }
+    requires apart { IfSome talk.old IsApart }
     ensures turn { IfOk result (λ step. Some (turn_by step (talk_in talk.new)) ≡ turn_in talk.old (option_copied last.entry)) }
     ensures asks { IfOk result (λ step. AsksThere (turn_by step (talk_in talk.new))) }
 {
@@ -58,8 +60,7 @@ fn move_on(
     Ok(stand(talk, turn))
 }
 
-/// A machine that is told this. It is large, and a long file takes many operations: so a stream goes on where it
-/// stands, and only what ends one, or is at none, is moved.
+/// A machine that is told this goes on where it stands, until what it drives has come to something.
 fn file_step(
     alloc: Global,
     talk: &mut Option<FileTalk>,
@@ -70,9 +71,9 @@ fn file_step(
     ensures asks { IfOk result (λ step. AsksThere (turn_by step (talk_in talk.new))) }
 {
     let Some(machine) = talk else { unreachable!() };
-    match machine.stream(alloc, last)? {
-        Some(StreamStep::Do(op)) => Ok(TalkStep::Do(op)),
-        Some(StreamStep::Over(come)) => Ok(end_stream(talk, come)),
+    match machine.tell(alloc, last)? {
+        Some(ComeStep::Do(op)) => Ok(TalkStep::Do(op)),
+        Some(ComeStep::Over(come)) => lead_on(alloc, talk, come),
         None => move_on(alloc, talk, last),
     }
 }
@@ -99,9 +100,17 @@ impl Machine {
         match self.talk.next(alloc, last) {
             Ok(step) => Ok(step),
             Err(error) => {
-                *self.talk = Talk { at: None };
+                self.end();
                 Err(error)
             }
         }
+    }
+
+    /// It is over. It stands apart, so that what it drops costs nothing where nothing is dropped.
+    #[inline(never)]
+    fn end(&mut self)
+        ensures { self.new ≡ talk_in None }
+    {
+        *self.talk = Talk { at: None };
     }
 }
