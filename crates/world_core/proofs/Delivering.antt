@@ -1,4 +1,4 @@
--- A frame comes to a link: what it changes of the listed events.
+-- A frame or a mark comes to a link: what it changes of the listed events.
 use Rattle.std.proofs.Common.{◌≡◌, ℕ, zero, suc, ◌+◌, ◌<◌, ◌≤◌, Bool, true, false, cond, Some, List, [], ◌∷◌, ◌++◌, map, take, drop, length, refl, sym, ap, subst, ◌∙◌, arith}
 use Rattle.std.specs.Prelude.{filter, flat_map, slice_get, slice_set, All, is_some, nat_lt}
 use Rattle.std.proofs.lemmas.List.{append_assoc, take-append-drop, take-set, drop-set-lt}
@@ -11,6 +11,7 @@ use Rattle.dom_history.specs.declared.plan.Fate.{Fate}
 use Rattle.ring_messages.specs.Frames.{Message}
 use Rattle.fault_handler.specs.Desks.{procs}
 use Rattle.ring_links.specs.declared.entry.Entry.{Entry}
+use Rattle.ring_links.specs.Carried.{Carrying}
 use Rattle.node_core.specs.declared.setup.Incoming as code
 use Rattle.node_core.specs.Nodes.{Noted, state_of}
 use Rattle.world_core.specs.declared.coming.Coming.{Coming}
@@ -18,7 +19,7 @@ use Rattle.ring_links.specs.declared.notice.Notice.{Notice}
 use Rattle.world_core.specs.declared.station.LinkFrom.{LinkFrom}
 use Rattle.world_core.specs.declared.station.Station.{Station}
 use Rattle.world_core.specs.Stations.{Candidate, start, starts_of, notice_at, noticed, oldest_of, oldest, passes, comings, candidates}
-use Rattle.world_core.specs.Sending.{link_with, delivered_to, delivered}
+use Rattle.world_core.specs.Sending.{link_with, delivered_to, delivered, mark_with, marked_to, marked}
 use Rattle.world_core.specs.Listed.{IsListed}
 use Rattle.world_core.specs.Before.{is_before, count_if, count_before, before_link, behind_link}
 use Rattle.world_core.proofs.Comings.{comings_append}
@@ -190,12 +191,16 @@ module _ {P G : Type 0} (at : ℕ) (x : Station P G) where
       ∙ ap (comings node) (sym (regroup S N A (O ++ B) R))
       ∙ ap (λ (cs : List Candidate). comings node (S ++ (N ++ (cs ++ R)))) (sym (split x.ins.items at 0 at l (omega arith) there))
 
+-- what came to the link at a place
+pub marked-there : (at phase tick : ℕ) (ins : List LinkFrom) (l : LinkFrom) → slice_get ins at ≡ Some l → slice_set ins at (mark_with phase tick l) ≡ marked at phase tick ins
+marked-there at phase tick ins l there = sym (ap (marked_to at phase tick ins) there)
+
 pub delivered-there : (at : ℕ) (fate : Fate) (m : Message) (ins : List LinkFrom) (l : LinkFrom) → slice_get ins at ≡ Some l → slice_set ins at (link_with fate m l) ≡ delivered at fate m ins
 delivered-there at fate m ins l there = sym (ap (delivered_to at fate m ins) there)
 
--- a frame comes to the link at a place, of a node whose list is right
-module _ {P G : Type 0} (at : ℕ) (fate : Fate) (m : Message) (x y : Station P G) (l : LinkFrom) (there : slice_get x.ins.items at ≡ Some l)
-    (node : y.node ≡ x.node) (notices : y.notices ≡ x.notices) (enabled : y.enabled ≡ x.enabled) (ins : y.ins.items ≡ slice_set x.ins.items at (link_with fate m l)) (listed : IsListed x) where
+-- more comes to the link at a place, of a node whose list is right
+module _ {P G : Type 0} (at : ℕ) (changed : Carrying code.Incoming) (more : List (Entry code.Incoming)) (x y : Station P G) (l : LinkFrom) (there : slice_get x.ins.items at ≡ Some l) (behind : changed.queue ≡ l.link.queue ++ more)
+    (node : y.node ≡ x.node) (notices : y.notices ≡ x.notices) (enabled : y.enabled ≡ x.enabled) (ins : y.ins.items ≡ slice_set x.ins.items at (record l { link = changed })) (listed : IsListed x) where
   within : at < length x.ins.items
   within = slice_get_within x.ins.items at l there
 
@@ -212,8 +217,9 @@ module _ {P G : Type 0} (at : ℕ) (fate : Fate) (m : Message) (x y : Station P 
   pub still-listed : is_some (slice_get l.link.queue 0) ≡ true → IsListed y
   still-listed waits =
       let same : oldest 0 y.ins.items ≡ oldest 0 x.ins.items =
-      ap (oldest 0) ins ∙ split-set x.ins.items at (link_with fate m l) within
-      ∙ ap (λ (cs : List Candidate). A ++ (cs ++ B)) (head-same at l.from l.link.queue _ waits)
+      ap (oldest 0) ins ∙ split-set x.ins.items at (record l { link = changed }) within
+      ∙ ap (λ (q : List (Entry code.Incoming)). A ++ (oldest_of at l.from q ++ B)) behind
+      ∙ ap (λ (cs : List Candidate). A ++ (cs ++ B)) (head-same at l.from l.link.queue more waits)
       ∙ sym (split x.ins.items at 0 at l (omega arith) there) in
       ap (λ v. v.items) enabled ∙ listed
       ∙ ap (λ (k : Noted P). listing k x.notices.items (oldest 0 x.ins.items)) (sym node)
@@ -225,8 +231,8 @@ module _ {P G : Type 0} (at : ℕ) (fate : Fate) (m : Message) (x y : Station P 
   listed-without none =
       let both : oldest 0 x.ins.items ≡ A ++ B =
       split x.ins.items at 0 at l (omega arith) there ∙ ap (λ (cs : List Candidate). A ++ (cs ++ B)) (none-waits at l.from l.link.queue none) in
-      let front : take at y.ins.items ≡ take at x.ins.items = ap (take at) ins ∙ take-set x.ins.items at (link_with fate m l) in
-      let back : drop (suc at) y.ins.items ≡ drop (suc at) x.ins.items = ap (drop (suc at)) ins ∙ drop-set-lt (suc at) x.ins.items at (link_with fate m l) (omega arith) in
+      let front : take at y.ins.items ≡ take at x.ins.items = ap (take at) ins ∙ take-set x.ins.items at (record l { link = changed }) in
+      let back : drop (suc at) y.ins.items ≡ drop (suc at) x.ins.items = ap (drop (suc at)) ins ∙ drop-set-lt (suc at) x.ins.items at (record l { link = changed }) (omega arith) in
       let S = flat_map starts_of procs in
       let N = noticed 0 y.notices.items in
       let R = start (Ready (state_of y.node).phase) ∷ [] in

@@ -97,7 +97,12 @@ module _ {P G : Type 0} (at : ℕ) (old sent new : List (Station P G)) (after re
         let same : Some after ≡ Some reached = sym own-mid ∙ sym are.sender ∙ reached-at in
         own-renewed [] after.ins.items (subst (λ (z : Station P G). IsReached true [] after.ins.items after z) (let s = same in cc) (reached-not true after))
 
-    pub mark-other : (k : ℕ) (x y : Station P G) → k ≢ at → slice_get old k ≡ Some x → slice_get new k ≡ Some y → IsRenewed [] (marked at phase tick x.ins.items) x y
-    mark-other k x y away there stands =
-        let is = are.others k x y away (set-else old at k after away ∙ there) (sym (other-new k away) ∙ stands) in
-        record { node = is.node; ins_are = is.ins; notices = is.notices ∙ ap (open_ones x.node) (sym (append-nil x.notices.items)); listed = is.listed }
+    pub mark-other : (k : ℕ) (x y : Station P G) → k ≢ at → slice_get old k ≡ Some x → slice_get new k ≡ Some y → open_ones x.node x.notices.items ≡ x.notices.items → IsListed x
+        → IsRenewed [] (marked at phase tick x.ins.items) x y
+    mark-other k x y away there stands open_are was-listed =
+        let is = are.others k x y away (set-else old at k after away ∙ there) (sym (other-new k away) ∙ stands) in record {
+          node = is.node;
+          ins_are = is.ins;
+          notices = ap (λ v. v.items) is.notices ∙ sym open_are ∙ ap (open_ones x.node) (sym (append-nil x.notices.items));
+          listed = is.listed was-listed;
+        }

@@ -225,7 +225,8 @@ module _ {P G : Type 0} (wants : P → Want) (becomes : P → Option Reply → P
               (all-open wants becomes made s plan w (k + 1) x is) is.listed;
           by_own_mark = λ phase same are. absurd (away same);
           by_mark = λ phase _ are.
-              mark-other at old sent new t.after t.reached t.listed within t.many t.reached_at t.notices t.is_listed t.is_kept t.new_are phase st.node.tick are k x y away there stands;
+              mark-other at old sent new t.after t.reached t.listed within t.many t.reached_at t.notices t.is_listed t.is_kept t.new_are phase st.node.tick are k x y away there stands
+              (all-open wants becomes made s plan w (k + 1) x is) is.listed;
         }
 
     module _ (k : ℕ) (x mid y : Station P G) (p : IsPlace k x mid y) where

@@ -2,7 +2,6 @@
 use Rattle.std.specs.Prelude.{◌≡◌, ◌≢◌, ℕ, Some, List, slice_get, length}
 use Rattle.world_core.specs.declared.station.Station.{Station}
 use Rattle.world_core.specs.declared.world.World.{World}
-use Rattle.world_core.specs.Stations.{open_ones}
 use Rattle.world_core.specs.Sending.{marked}
 use Rattle.world_core.specs.Listed.{IsListed}
 
@@ -11,8 +10,8 @@ module _ {P G : Type 0} where
   pub record IsMarked (at phase tick : ℕ) (old new : Station P G) : Type 0 where
     pub node : new.node ≡ old.node
     pub ins : new.ins.items ≡ marked at phase tick old.ins.items
-    pub notices : new.notices.items ≡ open_ones old.node old.notices.items
-    pub listed : IsListed new
+    pub notices : new.notices ≡ old.notices
+    pub listed : IsListed old → IsListed new
 
   -- each node at another place got the mark; the sender is as it was
   pub record AreMarked (at phase tick : ℕ) (old new : List (Station P G)) : Type 0 where

@@ -43,7 +43,7 @@ impl<P: Program, G: Pages> World<P, G> {
     {
         let Emitted { mark, frame } = emitted;
         match mark {
-            Some(phase) => self.send_marks(alloc, at, phase),
+            Some(phase) => self.send_marks(at, phase),
             None => match frame {
                 Some((index, frame)) => self.send_frame(alloc, at, index, frame),
                 None => Ok(()),
@@ -138,7 +138,7 @@ impl<P: Program, G: Pages> World<P, G> {
     }
 
     /// The mark of the node at this place is sent to all others.
-    fn send_marks(&mut self, alloc: Global, at: usize, phase: u32) -> Result<(), NoMemory>
+    fn send_marks(&mut self, at: usize, phase: u32) -> Result<(), NoMemory>
         requires within { at < length self.old.stations.items }
         requires links { All (λ x. at < length x.ins.items) self.old.stations.items }
         ensures marked { OnOk result (IfSome (slice_get self.old.stations.items at)
@@ -148,7 +148,7 @@ impl<P: Program, G: Pages> World<P, G> {
         let tick = self.stations[at].node.tick();
         for i in 0..self.stations.len() {
             if i != at {
-                self.stations[i].take_in(alloc, at, phase, tick)?;
+                self.stations[i].take_in(at, phase, tick)?;
             }
         }
         Ok(())

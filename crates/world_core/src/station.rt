@@ -259,7 +259,7 @@ impl<P: Program, G: Pages> Station<P, G> {
     ghost use Rattle.node_runs.specs.Incomings.Incoming.{Nothing};
     ghost use Rattle.node_core.specs.Nodes.{is_enabled, Does};
     ghost use Rattle.ring_links.specs.Notices.{notice_what, notice_incoming};
-    ghost use Rattle.world_core.specs.Sending.{told, still, delivered, marked};
+    ghost use Rattle.world_core.specs.Sending.{told, delivered, marked};
     ghost use Rattle.world_core.specs.OldestEntries.{IfOldestAt, IsOldestAt};
     ghost use Rattle.world_core.specs.Listed.{IsListed, IsKept, event_at, IsDone, less_at};
 
@@ -361,22 +361,20 @@ impl<P: Program, G: Pages> Station<P, G> {
         self.list_oldest(at)
     }
 
-    /// A mark comes to the link from the node at a place. The events are listed anew.
-    pub(crate) fn take_in(
-        &mut self,
-        alloc: Global,
-        at: usize,
-        phase: u32,
-        tick: u64,
-    ) -> Result<(), NoMemory>
+    /// A mark comes to the link from the node at a place. What it changes of the list is changed.
+    pub(crate) fn take_in(&mut self, at: usize, phase: u32, tick: u64) -> Result<(), NoMemory>
         requires within { at < length self.old.ins.items }
         ensures node { OnOk result (self.new.node ≡ self.old.node) }
         ensures ins { OnOk result (self.new.ins.items ≡ marked at phase tick self.old.ins.items) }
-        ensures notices { OnOk result (self.new.notices.items ≡ still false self.old.node self.old.notices.items) }
-        ensures listed { OnOk result (IsListed self.new) }
+        ensures notices { OnOk result (self.new.notices ≡ self.old.notices) }
+        ensures listed { OnOk result (IsListed self.old → IsListed self.new) }
     {
+        let waits = self.waits(at);
         self.ins[at].link.mark(phase, Incoming::Mark { tick })?;
-        self.relist(alloc)
+        if waits {
+            return Ok(());
+        }
+        self.list_oldest(at)
     }
 
     /// Does the enabled event at a place. Without memory the node is spent.

@@ -5,6 +5,8 @@ use Rattle.std.proofs.lemmas.Bool.{false≢true}
 use Rattle.std.proofs.lemmas.Option.{slice_get-get_or}
 use Rattle.std.proofs.lemmas.Result.{on_ok_weaker}
 use Rattle.uid_names.proofs.Somes.{take-some}
+use Rattle.ring_links.specs.Carried.{frame_sent}
+use Rattle.node_core.specs.declared.setup.Incoming.TheVariants as received
 use Rattle.world_core.specs.declared.station.LinkFrom.{LinkFrom}
 use Rattle.world_core.specs.declared.station.Station.{Station}
 use Rattle.world_core.proofs.Delivering.{delivered-there, still-listed, listed-without}
@@ -22,7 +24,7 @@ returns-then-own-clause-listed g c =
     let ins = ap (λ k. slice_set x.ins.items at (record l { link = k })) c.in_ok-send.ensures.sent in
     λ other listed. elim c.then-own.branch [
       | then-own-via-then-own w ↦ absurd (false≢true (sym other ∙ w.if-own.true))
-      | then-own-via-else-own+then-waits w ↦ still-listed at c.args.fate c.args.frame x y l there refl refl refl ins listed (sym waits ∙ w.if-waits.true)
+      | then-own-via-else-own+then-waits w ↦ still-listed at (frame_sent c.args.fate (received.Frame c.args.frame) l.link) _ x y l there refl refl refl refl ins listed (sym waits ∙ w.if-waits.true)
     ]
 
 pub returns-clause-listed : goal.returns-clause-listed
@@ -35,7 +37,7 @@ returns-clause-listed g c =
     let y : Station g.row.P.Denot g.row.G.Denot = record { node = x.node; notices = x.notices; ins = with_item x.ins at (record l { link = c.send.new.self }); enabled = x.enabled } in
     let ins = ap (λ k. slice_set x.ins.items at (record l { link = k })) c.in_ok-send.ensures.sent in
     on_ok_weaker c.list_oldest.result
-    (λ listed other was. listed (listed-without at c.args.fate c.args.frame x y l there refl refl refl ins was (sym waits ∙ c.if-waits.false)))
+    (λ listed other was. listed (listed-without at (frame_sent c.args.fate (received.Frame c.args.frame) l.link) _ x y l there refl refl refl refl ins was (sym waits ∙ c.if-waits.false)))
     c.list_oldest.ensures.listed
 
 pub returns-clause-ins : goal.returns-clause-ins
