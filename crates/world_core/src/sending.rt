@@ -10,13 +10,24 @@ ghost use Rattle.world_core.specs.SentMarks.{AreMarked, SameBeside};
 ghost use Rattle.world_core.specs.Reached.{notice_if, ins_if, came_of, framed_ins, AreReached, AreSent};
 
 use crate::world::World;
-use dom_history::{Fate, Program};
+use dom_history::{Fate, FaultPlan, Program};
 use node_core::Emitted;
 use page_store::Pages;
 use ring_links::{Notice, is_gone};
 use ring_messages::Frame;
 use std::alloc::Global;
 use uid_names::{NoMemory, NodeId};
+
+/// The fate of a frame by a plan. A plan that sets none is not looked into: all frames pass.
+#[inline(always)]
+fn fate_by(plan: &FaultPlan, from: NodeId, to: NodeId, index: u64) -> Fate
+    ensures { result ≡ fate_of plan.now from to index }
+{
+    if plan.rows().is_empty() {
+        return Fate::Pass;
+    }
+    plan.fate(from, to, index)
+}
 
 /// Where a node stands among all.
 fn place_of(node: NodeId) -> usize
@@ -67,7 +78,7 @@ impl<P: Program, G: Pages> World<P, G> {
             self.old.stations.items self.new.stations.items) }
         ensures others { SameBeside self.old self.new }
     {
-        let fate = self.plan.fate(frame.from(), frame.to(), index);
+        let fate = fate_by(&self.plan, frame.from(), frame.to(), index);
         if is_gone(fate) {
             return self.send_gone(alloc, at, index, fate, frame);
         }

@@ -39,6 +39,19 @@ fn taking(from: NodeId, waiting: Waiting) -> What
     }
 }
 
+/// Puts an item last. There is mostly room for it, and then the list has not to be asked to grow.
+#[inline(always)]
+fn push<T: Drop>(list: &mut Vec<T>, item: T) -> Result<(), NoMemory>
+    ensures { OnOk result (list.new.items ≡ list.old.items ++ item ∷ []) }
+{
+    if list.len() < list.capacity() {
+        list.push_reserved(item);
+        return Ok(());
+    }
+    list.push(item)?;
+    Ok(())
+}
+
 /// Puts an event last, if it is enabled.
 #[inline(always)]
 fn put_enabled<P: Program, G: Pages>(
@@ -49,10 +62,10 @@ fn put_enabled<P: Program, G: Pages>(
 ) -> Result<(), NoMemory>
     ensures { OnOk result (list.new.items ≡ list.old.items ++ comings node.now (record { coming = coming; incoming = seen incoming.now } ∷ [])) }
 {
-    if node.enabled(&coming.what, incoming) {
-        list.push(coming)?;
+    if !node.enabled(&coming.what, incoming) {
+        return Ok(());
     }
-    Ok(())
+    push(list, coming)
 }
 
 /// The event of a process that receives nothing, if one is enabled.
@@ -68,8 +81,7 @@ fn put_process<P: Program, G: Pages>(
     match node.start(p) {
         Some(what) => {
             let source = Source::Nothing;
-            list.push(Coming { what, source })?;
-            Ok(())
+            push(list, Coming { what, source })
         }
         None => Ok(()),
     }
@@ -99,7 +111,7 @@ fn put_ready<P: Program, G: Pages>(
 {
     if node.ready() {
         let (what, source) = (What::Ready(node.phase()), Source::Nothing);
-        list.push(Coming { what, source })?;
+        return push(list, Coming { what, source });
     }
     Ok(())
 }
