@@ -10,4 +10,5 @@ pub mod Nodes
 pub mod EndedShells
 pub mod Checked
 pub mod Parted
+pub mod PutProcesses
 pub mod Checking

@@ -1,10 +1,11 @@
 //! The processes of a script.
-ghost use Rattle.std.specs.Prelude.{◌≡◌, ◌≤◌, ◌∷◌, ◌++◌, length, take, drop, MatchOption, Some, IsTrue, IfOk, IfSome, OnOk};
+ghost use Rattle.std.specs.Prelude.{◌≡◌, ◌≤◌, ◌<◌, ◌∷◌, ◌++◌, length, take, drop, MatchOption, Some, IsTrue, IfOk, OnOk};
 ghost use Rattle.script_runs.specs.Processes.{procs_with, processes_of};
+ghost use Rattle.script_runner.specs.PutProcesses.{AreThere};
 
 use script_reader::CommandRow;
 use std::alloc::Global;
-use uid_names::{NoMemory, ProcId};
+use uid_names::{NODE_PROCESSES, NoMemory, PROCESSES, ProcId};
 
 /// The place of a process among others in order; None where it is one of them.
 fn place_of(procs: &[ProcId], proc: ProcId) -> Option<usize>
@@ -33,27 +34,41 @@ fn add(procs: &mut Vec<ProcId>, proc: ProcId) -> Result<(), NoMemory>
     Ok(())
 }
 
-/// Whether the last process is this one.
-fn is_last(last: Option<ProcId>, proc: ProcId) -> bool
-    ensures { IsTrue result → last ≡ Some proc }
+/// Where a table of processes that were put names this one, if any.
+fn entry_of(proc: ProcId) -> usize
+    ensures { result < PROCESSES }
 {
-    match last {
-        Some(last) => last.is(proc),
+    (usize::from(proc.node().number()) * NODE_PROCESSES + usize::from(proc.number())) % PROCESSES
+}
+
+/// Whether an entry of the table names this process.
+fn names(entry: Option<ProcId>, proc: ProcId) -> bool
+    ensures { IsTrue result → entry ≡ Some proc }
+{
+    match entry {
+        Some(named) => named.is(proc),
         None => false,
     }
 }
 
-/// Puts a process in its place, unless it is there, as the one that was put there last is.
-#[tactic(auto, using(crate::proofs::Again::added_again, crate::proofs::Again::there_again))]
-fn add_behind(procs: &mut Vec<ProcId>, last: Option<ProcId>, proc: ProcId) -> Result<(), NoMemory>
-    requires { IfSome last (λ p. procs_with p procs.old.items ≡ procs.old.items) }
+/// Puts a process in its place, unless it is there, as those are that the table names.
+#[tactic(auto, using(crate::proofs::Again::added_again, crate::proofs::Again::there_again, crate::proofs::Again::put_there))]
+fn add_named(
+    procs: &mut Vec<ProcId>,
+    table: &mut [Option<ProcId>; PROCESSES],
+    proc: ProcId,
+) -> Result<(), NoMemory>
+    requires { AreThere procs.old.items table.old }
     ensures added { OnOk result (procs.new.items ≡ procs_with proc procs.old.items) }
-    ensures again { OnOk result (procs_with proc procs.new.items ≡ procs.new.items) }
+    ensures there { OnOk result (AreThere procs.new.items table.new) }
 {
-    if is_last(last, proc) {
+    let at = entry_of(proc);
+    if names(table[at], proc) {
         return Ok(());
     }
-    add(procs, proc)
+    add(procs, proc)?;
+    table[at] = Some(proc);
+    Ok(())
 }
 
 /// The processes that have a command, each once, in order of node and number.
@@ -61,11 +76,10 @@ pub fn processes_in(alloc: Global, rows: &[CommandRow]) -> Result<Vec<ProcId>, N
     ensures { IfOk result (λ procs. procs.items ≡ processes_of rows.now) }
 {
     let mut procs = Vec::new(alloc);
-    let mut last = None;
+    // Most commands are of a process that has some before.
+    let mut table = [None; PROCESSES];
     for row in rows {
-        // A command mostly stands behind another one of its process.
-        add_behind(&mut procs, last, row.proc)?;
-        last = Some(row.proc);
+        add_named(&mut procs, &mut table, row.proc)?;
     }
     Ok(procs)
 }

@@ -24,11 +24,11 @@ fn put_line(to: &mut ByteList, process: &[u8], index: u64, answer: &[u8]) -> Res
     ensures { OnOk result (to.new ≡ to.old ++ report_line process.now index answer.now) }
 {
     to.extend(process)?;
-    to.extend(b" ")?;
+    to.push(b' ')?;
     put_decimal(to, index)?;
-    to.extend(b" ")?;
+    to.push(b' ')?;
     to.extend(answer)?;
-    to.extend(b"\n")
+    to.push(b'\n')
 }
 
 /// A line for each answer of a process, counted from 1.
